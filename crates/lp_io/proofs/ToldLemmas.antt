@@ -1,0 +1,26 @@
+-- What is told after several calls, one after another.
+use Rattle.std.proofs.Common.{◌≡◌, ap, sym, refl, ℕ, ◌+◌, List, ◌++◌, take, drop, false, Option, Some, None, Ok, append_assoc}
+use Rattle.std.specs.Prelude.{◌==◌}
+use Rattle.std.proofs.lemmas.Bool.{ne_eqb}
+use Rattle.std.proofs.Math.Seq.{take-add}
+use Rattle.lp_io.specs.Counts.{Counts}
+use Rattle.lp_io.specs.Told.{after_adding, before_giving, took_none}
+
+-- bytes added twice are added at once
+pub after_adding-added : (told : Option (List ℕ)) (xs ys : List ℕ) → after_adding (after_adding told xs) ys ≡ after_adding told (xs ++ ys)
+after_adding-added None xs ys = refl
+after_adding-added (Some ts) xs ys = ap Some (append_assoc ts xs ys)
+
+-- bytes given twice are given at once
+pub before_giving-given : (xs ys : List ℕ) (told : Option (List ℕ)) → before_giving xs (before_giving ys told) ≡ before_giving (xs ++ ys) told
+before_giving-given xs ys None = refl
+before_giving-given xs ys (Some ts) = ap Some (sym (append_assoc xs ys ts))
+
+-- a front of a piece was added, and then a front of the rest
+pub after_adding-more : (before mid now : Option (List ℕ)) (piece rest : List ℕ) (done taken : ℕ) → mid ≡ after_adding before (take done piece) → rest ≡ drop done piece → now ≡ after_adding mid (take taken rest) → now ≡ after_adding before (take (done + taken) piece)
+after_adding-more before mid now piece rest done taken first is_rest then =
+    rw (take-add done taken piece, ← is_rest, ← after_adding-added before (take done piece) (take taken rest), ← first) then
+
+-- a write that took something leaves the count of those that took nothing
+pub zeros-taken : (piece : List ℕ) (n before now : ℕ) → Counts (took_none piece (Ok n)) before now → (n ≡ 0 → ⊥) → now ≡ before
+zeros-taken piece n before now counted some = let e : (n == 0) ≡ false = ne_eqb n 0 some in rw e at counted
