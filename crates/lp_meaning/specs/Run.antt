@@ -38,7 +38,7 @@ pub record Starts (files : List (List ℕ × List ℕ)) (w : World) : Type 0 whe
 pub data MakesNone (files : List (List ℕ × List ℕ)) : Fault → Type 0 where
   missing : file_at files master_path ≡ None → MakesNone files (record { file = master_path; line = 0; kind = faults.NoFile })
   unexpected : (source : List ℕ) (at : ℕ) → file_at files master_path ≡ Some source → IsUnexpected (kinds_of (tokens_of source)) at
-    → MakesNone files (record { file = master_path; line = line_at (tokens_of source) at; kind = faults.Unexpected })
+      → MakesNone files (record { file = master_path; line = line_at (tokens_of source) at; kind = faults.Unexpected })
 
 -- at most this many connections are open
 abbrev pub most_connections : ℕ
@@ -66,8 +66,9 @@ abbrev pub connected : World → ℕ → Turned
 connected w k =
     let r : Ran = applied w (record { self = master; player = None }) names.Connect in
     elim (free_object w r.answer) [
-      Some o ↦ logged_on (with_connection w k o) k o r.outputs
-    | None ↦ record { world = w; outputs = r.outputs ++ outs.Close k ∷ [] } ]
+      | Some o ↦ logged_on (with_connection w k o) k o r.outputs
+      | None ↦ record { world = w; outputs = r.outputs ++ outs.Close k ∷ [] }
+    ]
 
 -- the answer to a line that is no command
 abbrev pub what : List ℕ

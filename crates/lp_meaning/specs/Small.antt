@@ -80,6 +80,7 @@ mark_kind c =
 -- the longest front whose bytes pass, and the rest
 abbrev pub front_of : (ℕ → Bool) → List ℕ → List ℕ
 front_of p bs = take (prefix_len p bs) bs
+
 abbrev pub past : (ℕ → Bool) → List ℕ → List ℕ
 past p bs = drop (prefix_len p bs) bs
 

@@ -22,8 +22,10 @@ pub record World : Type 0 where
 -- the master's path, its name and its serial
 abbrev pub master_path : List ℕ
 master_path = codes "/secure/master.c"
+
 abbrev pub master_name : List ℕ
 master_name = codes "/secure/master"
+
 abbrev pub master : ObjId
 master = record { 0 = 0 }
 
