@@ -29,6 +29,10 @@ is_letter c = (nat_le 97 c && nat_le c 122) || (nat_le 65 c && nat_le c 90) || (
 abbrev pub is_word_byte : ℕ → Bool
 is_word_byte c = is_letter c || is_digit c
 
+-- type = int / string / object / mixed / void
+abbrev pub is_type_word : List ℕ → Bool
+is_type_word w = pointwise nat_eq w (codes "int") || pointwise nat_eq w (codes "string") || pointwise nat_eq w (codes "object") || pointwise nat_eq w (codes "mixed") || pointwise nat_eq w (codes "void")
+
 -- what a word is
 abbrev pub word_kind : List ℕ → Kind
 word_kind w =
@@ -37,7 +41,7 @@ word_kind w =
     else (if pointwise nat_eq w (codes "write") then kinds.Write
     else (if pointwise nat_eq w (codes "return") then kinds.Return
     else (if pointwise nat_eq w (codes "this_object") then kinds.ThisObject
-    else (if pointwise nat_eq w (codes "int") || pointwise nat_eq w (codes "string") || pointwise nat_eq w (codes "object") || pointwise nat_eq w (codes "mixed") || pointwise nat_eq w (codes "void") then kinds.Type
+    else (if is_type_word w then kinds.Type
     else kinds.Wrong)))))
 
 -- an integer of decimal digits, which is at most 9223372036854775807

@@ -1,0 +1,5 @@
+//! The small language that the driver runs until the whole one is there: its tokens, its parser,
+//! and the turns of a master in it.
+#![tactic(auto)]
+
+pub mod lexer;
