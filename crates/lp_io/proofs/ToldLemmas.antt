@@ -1,7 +1,9 @@
 -- What is told after several calls, one after another.
-use Rattle.std.proofs.Common.{◌≡◌, ap, sym, refl, ℕ, ◌+◌, List, ◌++◌, take, drop, false, Option, Some, None, Ok, append_assoc}
+use Rattle.std.proofs.Common.{◌≡◌, ap, sym, refl, ℕ, ◌+◌, List, ◌++◌, take, drop, false, Option, Some, None, Ok, append_assoc, ◌≤◌, length, min, arith}
 use Rattle.std.specs.Prelude.{◌==◌}
 use Rattle.std.proofs.lemmas.Bool.{ne_eqb}
+use Rattle.std.proofs.lemmas.Grind.{common_steps}
+use Rattle.std.proofs.lemmas.List.{take-append-drop}
 use Rattle.std.proofs.Math.Seq.{take-add}
 use Rattle.lp_io.specs.Counts.{Counts}
 use Rattle.lp_io.specs.Told.{after_adding, before_giving, took_none}
@@ -24,3 +26,11 @@ after_adding-more before mid now piece rest done taken first is_rest then =
 -- a write that took something leaves the count of those that took nothing
 pub zeros-taken : (piece : List ℕ) (n before now : ℕ) → Counts (took_none piece (Ok n)) before now → (n ≡ 0 → ⊥) → now ≡ before
 zeros-taken piece n before now counted some = let e : (n == 0) ≡ false = ne_eqb n 0 some in rw e at counted
+
+-- the front of what is left was copied into a buffer
+pub before_giving-copied : (all into now : List ℕ) (at n : ℕ) → at ≤ length all → n ≡ min (length into) (length (drop at all)) → now ≡ take n (drop at all) ++ drop n into → Some (drop at all) ≡ before_giving (take n now) (Some (drop (at + n) all))
+before_giving-copied all into now at n within count copied =
+    let fits : n ≤ length (drop at all) = omega arith in
+    let front : take n now ≡ take n (drop at all) = rw copied (grind (arith, common_steps)) in
+    let rest : drop (at + n) all ≡ drop n (drop at all) = grind (arith, common_steps) in
+    rw (front, rest) (ap Some (sym (take-append-drop n (drop at all))))
