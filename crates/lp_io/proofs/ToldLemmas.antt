@@ -3,10 +3,10 @@ use Rattle.std.proofs.Common.{◌≡◌, ap, sym, refl, ℕ, ◌+◌, List, ◌+
 use Rattle.std.specs.Prelude.{◌==◌}
 use Rattle.std.proofs.lemmas.Bool.{ne_eqb}
 use Rattle.std.proofs.lemmas.Grind.{common_steps}
-use Rattle.std.proofs.lemmas.List.{take-append-drop}
-use Rattle.std.proofs.Math.Seq.{take-add}
+use Rattle.std.proofs.lemmas.List.{length-append, take-append-drop, take-append-le}
+use Rattle.std.proofs.Math.Seq.{take-add, take-append-add}
 use Rattle.lp_io.specs.Counts.{Counts}
-use Rattle.lp_io.specs.Told.{after_adding, before_giving, took_none}
+use Rattle.lp_io.specs.Told.{after_adding, before_giving, took_none, IsCut}
 
 -- bytes added twice are added at once
 pub after_adding-added : (told : Option (List ℕ)) (xs ys : List ℕ) → after_adding (after_adding told xs) ys ≡ after_adding told (xs ++ ys)
@@ -34,3 +34,14 @@ before_giving-copied all into now at n within count copied =
     let front : take n now ≡ take n (drop at all) = rw copied (grind (arith, common_steps)) in
     let rest : drop (at + n) all ≡ drop n (drop at all) = grind (arith, common_steps) in
     rw (front, rest) (ap Some (sym (take-append-drop n (drop at all))))
+
+-- a piece that was cut, as a front of a longer one
+pub IsCut-longer : (before now : Option (List ℕ)) (piece more : List ℕ) → IsCut before now piece → IsCut before now (piece ++ more)
+IsCut-longer before now piece more (n, within, added) =
+    let fits : n ≤ length piece = omega arith in
+    (n, omega (arith, length-append piece more), rw (take-append-le n piece more) added)
+
+-- a piece that was cut, behind one that was added whole
+pub IsCut-after : (before mid now : Option (List ℕ)) (front piece : List ℕ) → mid ≡ after_adding before front → IsCut mid now piece → IsCut before now (front ++ piece)
+IsCut-after before mid now front piece first (n, within, added) =
+    (length front + n, omega (arith, length-append front piece), rw (take-append-add front piece n, ← after_adding-added before front (take n piece), ← first) added)
