@@ -1,7 +1,7 @@
 //! The calls of a form in memory, and which of them fail.
-ghost use Rattle.std.specs.Prelude.{◌≡◌, ◌≤◌, ◌^◌, ◌<◌, ◌-◌, if◌then◌else◌};
+ghost use Rattle.std.specs.Prelude.{◌≡◌, ◌≤◌, if◌then◌else◌};
 ghost use Rattle.lp_io.specs.Counts.{one_more};
-ghost use Rattle.lp_io.specs.Memory.{Calls, after_call, after_failure, next_is_listed};
+ghost use Rattle.lp_io.specs.Memory.{after_call, after_failure, next_is_listed};
 
 use std::marker::Model;
 

@@ -1,7 +1,7 @@
 //! A source and a sink in memory, whose calls fail as they are told.
-ghost use Rattle.std.specs.Prelude.{◌≡◌, ℕ, ◌<◌, ◌≤◌, ◌++◌, [], length, take, drop, min, Some, IfOk, OnErr, OnOk, MatchResult, IsTrue, IsErr, if◌then◌else◌, nat_lt};
+ghost use Rattle.std.specs.Prelude.{◌≡◌, ℕ, ◌<◌, ◌≤◌, ◌++◌, [], length, take, drop, min, Some, IfOk, OnErr, IsTrue, IsErr, if◌then◌else◌};
 ghost use Rattle.std.specs.Result.{is_err};
-ghost use Rattle.lp_io.specs.Counts.{Counts, one_more};
+ghost use Rattle.lp_io.specs.Counts.{Counts};
 ghost use Rattle.lp_io.specs.Memory.{after_call, after_failure, next_is_listed};
 ghost use Rattle.lp_io.specs.Told.{after_adding, before_giving, took_none, IsAtEnd};
 
@@ -20,9 +20,8 @@ pub struct MemSource {
 }
 
 impl Model for MemSource {
-    ghost use Rattle.std.specs.Prelude.{drop};
+    ghost use Rattle.std.specs.Prelude.{◌≤◌, drop, length};
     ghost use Rattle.lp_io.specs.Memory.{Reading};
-    ghost use Rattle.std.specs.Prelude.{◌≤◌, length};
 
     ghost Value = { Reading };
 

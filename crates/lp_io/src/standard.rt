@@ -1,9 +1,10 @@
-//! Sources and sinks over std's readers and writers. They tell no content.
-ghost use Rattle.std.specs.Prelude.{◌≡◌, ℕ, ◌<◌, ◌≤◌, List, Option, length, take, None, IfOk, OnErr};
+//! Sources and sinks over std's readers and writers. They tell no content; a clause of their own
+//! passes on what std says of the bytes of such a reader or writer.
+ghost use Rattle.std.specs.Prelude.{◌≡◌, ◌≤◌, length, None, IfOk};
 ghost use Rattle.std.specs.Result.{is_err};
 ghost use Rattle.std.specs.Io.KnownBytes.{Keeps, ReadConsumes, WriteAppends};
 ghost use Rattle.lp_io.specs.Counts.{Counts};
-ghost use Rattle.lp_io.specs.Told.{after_adding, before_giving, took_none, IsAtEnd};
+ghost use Rattle.lp_io.specs.Told.{took_none};
 
 use crate::outside::{Failed, Sink, Source};
 use std::io::{Read, Write};
