@@ -26,19 +26,27 @@ abbrev pub file_at : List (List ℕ × List ℕ) → List ℕ → Option (List �
 file_at [] path = None
 file_at (f ∷ fs) path = if pointwise nat_eq f.0 path then Some f.1 else file_at fs path
 
--- The start makes this world: the master's file spells a unit, of which the master is made.
-pub record Starts (files : List (List ℕ × List ℕ)) (w : World) : Type 0 where
-  pub source : List ℕ
-  pub there : file_at files master_path ≡ Some source
+-- Of this source of the master, if there is one, this world is made: the source spells a unit, of which the master is made.
+pub record StartsFrom (source : Option (List ℕ)) (w : World) : Type 0 where
+  pub bytes : List ℕ
+  pub there : source ≡ Some bytes
   pub functions : List Function
-  pub spelled : IsUnit functions (kinds_of (tokens_of source))
+  pub spelled : IsUnit functions (kinds_of (tokens_of bytes))
   pub made : w ≡ world_of_master functions
 
--- The start makes no master, with this fault: there is no file, or a token with which no unit goes on.
-pub data MakesNone (files : List (List ℕ × List ℕ)) : Fault → Type 0 where
-  missing : file_at files master_path ≡ None → MakesNone files (record { file = master_path; line = 0; kind = faults.NoFile })
-  unexpected : (source : List ℕ) (at : ℕ) → file_at files master_path ≡ Some source → IsUnexpected (kinds_of (tokens_of source)) at
-      → MakesNone files (record { file = master_path; line = line_at (tokens_of source) at; kind = faults.Unexpected })
+-- Of this source no master is made, with this fault: there is no file, or a token with which no unit goes on.
+pub data MakesNoneFrom (source : Option (List ℕ)) : Fault → Type 0 where
+  missing : source ≡ None → MakesNoneFrom source (record { file = master_path; line = 0; kind = faults.NoFile })
+  unexpected : (bytes : List ℕ) (at : ℕ) → source ≡ Some bytes → IsUnexpected (kinds_of (tokens_of bytes)) at
+      → MakesNoneFrom source (record { file = master_path; line = line_at (tokens_of bytes) at; kind = faults.Unexpected })
+
+-- the start makes this world of the files
+abbrev pub Starts : List (List ℕ × List ℕ) → World → Type 0
+Starts files w = StartsFrom (file_at files master_path) w
+
+-- the start makes no master of the files, with this fault
+abbrev pub MakesNone : List (List ℕ × List ℕ) → Fault → Type 0
+MakesNone files fault = MakesNoneFrom (file_at files master_path) fault
 
 -- at most this many connections are open
 abbrev pub most_connections : ℕ

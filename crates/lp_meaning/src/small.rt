@@ -1,8 +1,9 @@
 //! Trees of the small language that the driver runs until the whole one is there:
 //! a master with `connect` and `logon`, whose statements are `write` and `return`.
-ghost use Rattle.std.specs.Prelude.{◌≡◌};
+ghost use Rattle.std.specs.Prelude.{◌≡◌, ◌++◌, ◌∷◌, [], OnOk};
 
 use lp_values::text::Text;
+use std::alloc::{AllocError, Global};
 use std::marker::Model;
 
 /// What a token of the small language is.
@@ -81,11 +82,21 @@ impl Model for Body {
 }
 
 impl Body {
-    /// The body of these statements. Takes no memory.
-    pub fn from_vec(statements: Vec<Statement>) -> Body
-        ensures { result ≡ statements.items }
+    /// No statements. Takes no memory.
+    pub fn new(alloc: Global) -> Body
+        ensures { result ≡ [] }
     {
-        Body { statements }
+        Body {
+            statements: Vec::new(alloc),
+        }
+    }
+
+    /// One more statement, the last.
+    pub fn push(&mut self, statement: Statement) -> Result<(), AllocError>
+        ensures { OnOk result (self.new ≡ self.old ++ statement ∷ []) }
+    {
+        self.statements.push(statement)?;
+        Ok(())
     }
 
     /// The statements, in order.
@@ -130,11 +141,21 @@ impl Model for Unit {
 }
 
 impl Unit {
-    /// The file of these functions. Takes no memory.
-    pub fn from_vec(functions: Vec<Function>) -> Unit
-        ensures { result ≡ functions.items }
+    /// No functions. Takes no memory.
+    pub fn new(alloc: Global) -> Unit
+        ensures { result ≡ [] }
     {
-        Unit { functions }
+        Unit {
+            functions: Vec::new(alloc),
+        }
+    }
+
+    /// One more function, the last.
+    pub fn push(&mut self, function: Function) -> Result<(), AllocError>
+        ensures { OnOk result (self.new ≡ self.old ++ function ∷ []) }
+    {
+        self.functions.push(function)?;
+        Ok(())
     }
 
     /// The functions, in order.

@@ -79,10 +79,11 @@ rest_of_text : (e : Bool) (bs : List ℕ) → AtMost (length bs) (text_at e bs)
 rest_of_text e [] = tt
 rest_of_text e (c ∷ bs) = let l : length bs ≤ length (c ∷ bs) = omega arith in rw (text_at-scan e c bs) (
     elim (scan_of e c) as (λ s. AtMost (length (c ∷ bs)) (read_on s bs)) [
-      Adds d ↦ at_most-with_byte d (text_at false bs) _ _ (rest_of_text false bs) l
-    | Escapes ↦ at_most-more (text_at true bs) _ _ (rest_of_text true bs) l
-    | Ends ↦ l
-    | Breaks ↦ tt ])
+      | Adds d ↦ at_most-with_byte d (text_at false bs) _ _ (rest_of_text false bs) l
+      | Escapes ↦ at_most-more (text_at true bs) _ _ (rest_of_text true bs) l
+      | Ends ↦ l
+      | Breaks ↦ tt
+    ])
 
 -- a front that has the first byte leaves less
 past-shorter : (p : ℕ → Bool) (c : ℕ) (bs : List ℕ) → p c ≡ true → length (past p (c ∷ bs)) ≤ length bs

@@ -1,1 +1,4 @@
 pub mod Lexing
+pub mod Parsing
+pub mod Turning
+pub mod Lines

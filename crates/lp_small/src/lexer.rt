@@ -100,9 +100,7 @@ fn with_digit(value: Option<u64>, digit: u8) -> Option<u64>
     requires { IsTrue (digit_byte digit) }
     ensures { MatchOption value (result ≡ None) (λ v. MatchOption result (2 ^ 64 ≤ v * 10 + digit_value digit) (λ w. w ≡ v * 10 + digit_value digit)) }
 {
-    value?
-        .checked_mul(10)?
-        .checked_add(u64::from(digit - b'0'))
+    value?.checked_mul(10)?.checked_add(u64::from(digit - b'0'))
 }
 
 // The number that digits spell, where it is below 2 ^ 64.

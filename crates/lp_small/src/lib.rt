@@ -3,3 +3,5 @@
 #![tactic(auto)]
 
 pub mod lexer;
+pub mod live;
+pub mod parser;
