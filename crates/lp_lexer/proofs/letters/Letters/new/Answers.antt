@@ -1,0 +1,13 @@
+use Rattle.std.proofs.Common.{◌≡◌, ◌∙◌, sym, ap, length, [], rules}
+use Rattle.std.proofs.lemmas.Str.{utf8_valid_len-IsUtf8}
+use Rattle.lp_lexer.proofs.Characters.{letters-utf8, letters-split}
+use Rattle.lp_lexer.proofs.letters.Letters.new.Goals as goal
+
+pub returns-in-Ok-clause-all : goal.returns-in-Ok-clause-all
+returns-in-Ok-clause-all c = rw c.in-Ok.ensures.cases.0 (letters-utf8 _ c.in-Ok.ensures.cases.1)
+
+pub returns-in-Ok-clause-valid : goal.returns-in-Ok-clause-valid
+returns-in-Ok-clause-valid c = sym (utf8_valid_len-IsUtf8 _ c.in-Ok.ensures.cases.1)
+
+pub returns-in-Err-clause-all : goal.returns-in-Err-clause-all
+returns-in-Err-clause-all c = letters-split _ _ _ _ (c.valid_up_to.ensures ∙ c.in-Err.ensures.valid_len) (c.from_utf8_unchecked-text.ensures ∙ c.split_at.ensures.front) c.split_at.ensures.back

@@ -1,0 +1,100 @@
+//! A place in a source.
+ghost use Rattle.std.specs.Prelude.{◌≡◌, ◌+◌, ◌≤◌, ◌++◌, ◌∷◌, [], false, MatchBool, option_to_list};
+ghost use Rattle.lp_lexer.specs.Source.{letters, signs, width, passed, rest, first_of, begins_join, most_bytes, EndsBy, IsLast, IsWithin};
+
+use crate::letters::Letters;
+use crate::sign::Sign;
+use std::marker::Model;
+
+/// A place in a source: the signs that are left, and where the sign before them ends.
+#[derive(Drop)]
+pub(crate) struct Cursor<'a> {
+    first: Option<Sign>,
+    letters: Letters<'a>,
+    at: u32,
+    line: u32,
+    behind: u32,
+}
+
+impl<'a> Model for Cursor<'a> {
+    ghost use Rattle.std.specs.Prelude.{◌++◌, option_to_list};
+    ghost use Rattle.lp_lexer.specs.Source.{Rest, rest, signs, EndsBy, IsLast, IsWithin};
+
+    ghost Value = { Rest };
+
+    ghost view = { λ c. rest c.behind (option_to_list c.first ++ signs c.at c.line c.letters) };
+
+    ghost invariant = { λ c. IsWithin c.letters c.at c.line × EndsBy c.at c.first × IsLast c.first c.letters };
+}
+
+/// Whether the characters begin with a join, which is taken then.
+fn take_join(letters: &mut Letters) -> bool
+    ensures { MatchBool result
+        (letters.old ≡ 92 ∷ 10 ∷ letters.new)
+        ((letters.new ≡ letters.old) × (begins_join letters.old ≡ false)) }
+{
+    let mut behind = letters.copy();
+    if behind.next() == Some('\\') && behind.next() == Some('\n') {
+        *letters = behind;
+        return true;
+    }
+    false
+}
+
+/// The next sign, taken off the characters, of which the first stands at a place on a line.
+fn next_sign(letters: &mut Letters, at: &mut u32, line: &mut u32) -> Option<Sign>
+    requires { IsWithin letters.old at.old line.old }
+    ensures same { signs at.old line.old letters.old
+        ≡ option_to_list result ++ signs at.new line.new letters.new }
+    ensures ends { EndsBy at.new result }
+    ensures last { IsLast result letters.new }
+    ensures within { IsWithin letters.new at.new line.new }
+{
+    'joined: while take_join(letters) {
+        *at += 2;
+        *line += 1;
+    }
+    let code = letters.next()?;
+    let sign = Sign {
+        code,
+        at: *at,
+        line: *line,
+    };
+    *at += code.len_utf8() as u32;
+    if code == '\n' {
+        *line += 1;
+    }
+    Some(sign)
+}
+
+impl<'a> Cursor<'a> {
+    /// The first sign that is left.
+    pub(crate) fn peek(&self) -> Option<Sign>
+        ensures { result ≡ first_of self.now.left }
+    {
+        self.first
+    }
+
+    /// Reads a sign, if one is left.
+    pub(crate) fn pass(&mut self)
+        ensures { self.new ≡ passed self.old.behind self.old.left }
+    {
+        if let Some(sign) = self.first {
+            self.behind = sign.at + sign.code.len_utf8() as u32;
+            self.first = next_sign(&mut self.letters, &mut self.at, &mut self.line);
+        }
+    }
+
+    /// The same place once more.
+    pub(crate) fn copy(&self) -> Cursor<'a>
+        ensures { result ≡ self.now }
+    {
+        Cursor {
+            first: self.first,
+            letters: self.letters.copy(),
+            at: self.at,
+            line: self.line,
+            behind: self.behind,
+        }
+    }
+}

@@ -1,0 +1,6 @@
+//! The tokens of a file.
+#![tactic(auto)]
+
+mod cursor;
+mod letters;
+pub mod sign;
