@@ -86,3 +86,19 @@ IsLast (Some s) cs = Unit {0}
 pub record IsWithin (cs : List ℕ) (at line : ℕ) : Type 0 where
   pub place : at + width cs ≤ most_bytes
   pub lines : line ≤ at + 1
+
+-- the code of the n-th sign that is left, or 0 where there are not so many: 0 begins and ends nothing
+abbrev pub code_at : ℕ → List Sign → ℕ
+code_at n [] = 0
+code_at zero (s ∷ ss) = s.code
+code_at (suc n) (s ∷ ss) = code_at n ss
+
+-- the codes of the signs at the front that pass a test: the longest such front
+abbrev pub front : (ℕ → Bool) → List Sign → List ℕ
+front p [] = []
+front p (s ∷ ss) = if p s.code then (s.code ∷ front p ss) else []
+
+-- what is left behind that front
+abbrev pub past : (ℕ → Bool) → ℕ → List Sign → Rest
+past p behind [] = rest behind []
+past p behind (s ∷ ss) = if p s.code then past p (end_of s) ss else rest behind (s ∷ ss)

@@ -3,4 +3,5 @@
 
 mod cursor;
 mod letters;
+mod marks;
 pub mod sign;
