@@ -1,8 +1,8 @@
 -- Signs of characters.
-use Rattle.std.proofs.Common.{◌≡◌, ℕ, ◌+◌, ◌<◌, ◌≤◌, Bool, true, false, cond, eqb, List, [], ◌∷◌, ◌++◌, length, refl, sym, ap, ◌∙◌, arith, ne_eqb, eq-eqb}
+use Rattle.std.proofs.Common.{◌≡◌, ℕ, zero, suc, ◌+◌, ◌<◌, ◌≤◌, Bool, true, false, cond, eqb, List, [], ◌∷◌, ◌++◌, length, refl, sym, ap, ◌∙◌, arith, ne_eqb, eq-eqb}
 use Rattle.std.specs.Char.{len_utf8}
 use Rattle.lp_lexer.specs.declared.sign.Sign.{Sign}
-use Rattle.lp_lexer.specs.Source.{signs, joins, line_after, begins_join}
+use Rattle.lp_lexer.specs.Source.{signs, joins, line_after, begins_join, Rest, passed, skipped, code_at}
 
 -- what no join begins has a sign
 signs-plain : (at line c : ℕ) (ds : List ℕ) → begins_join (c ∷ ds) ≡ false → signs at line (c ∷ ds) ≡ record { code = c; at = at; line = line } ∷ signs (at + len_utf8 c) (line_after line c) ds
@@ -22,3 +22,18 @@ line_after-newline line c e = sym (ap (λ b. cond b (line + 1) line) (eq-eqb c 1
 
 pub line_after-other : (line c : ℕ) → (c ≡ 10 → ⊥) → line ≡ line_after line c
 line_after-other line c e = sym (ap (λ b. cond b (line + 1) line) (ne_eqb c 10 e))
+
+-- one sign, and then the rest
+pub code_at-passed : (n behind : ℕ) (ss : List Sign) → code_at n (passed behind ss).left ≡ code_at (suc n) ss
+code_at-passed zero behind [] = refl
+code_at-passed zero behind (s ∷ ss) = refl
+code_at-passed (suc n) behind [] = refl
+code_at-passed (suc n) behind (s ∷ ss) = refl
+
+pub skipped-passed : (n behind : ℕ) (ss : List Sign) → skipped n (passed behind ss).behind (passed behind ss).left ≡ skipped (suc n) behind ss
+skipped-passed zero behind [] = refl
+skipped-passed (suc n) behind [] = refl
+skipped-passed n behind (s ∷ ss) = refl
+
+pub skipped-passed_by : (n behind : ℕ) (ss : List Sign) (r : Rest) → r ≡ passed behind ss → skipped n r.behind r.left ≡ skipped (suc n) behind ss
+skipped-passed_by n behind ss r e = ap (λ q. skipped n q.behind q.left) e ∙ skipped-passed n behind ss

@@ -4,6 +4,7 @@ use Rattle.std.specs.Char.{digit_value}
 use Rattle.lp_tree.specs.declared.token.TokenKind.{TokenKind}
 use Rattle.lp_tree.specs.declared.token.TokenKind.TheVariants.{Name, Text, Int, Mark, Bad}
 use Rattle.lp_tree.specs.declared.token.LexKind.TheVariants.{BadChar, OpenString, NumberTooLarge}
+use Rattle.lp_lexer.specs.declared.sign.Letter.{Letter}
 use Rattle.lp_lexer.specs.declared.sign.Sign.{Sign}
 use Rattle.lp_lexer.specs.Source.{Rest, rest, passed, skipped, code_at, front, past, end_of}
 use Rattle.lp_lexer.specs.Marks.{Fit, longest}
@@ -51,11 +52,6 @@ number r =
     let base = base_at r.left in
     let digits = if base == 10 then r else skipped 2 r.behind r.left in
     record { kind = integer (number_after base 0 (front (is_digit base) digits.left)); after = past (is_digit base) digits.behind digits.left }
-
--- what stands for one character in a text or a character literal, and how many signs it has
-pub record Letter : Type 0 where
-  pub code : ℕ
-  pub size : ℕ
 
 -- `\n \t \r \a \b \e`; a backslash before another character gives that character
 abbrev pub escaped : ℕ → ℕ

@@ -1,3 +1,4 @@
 pub mod Forms
 pub mod Marks
 pub mod Source
+pub mod Steps

@@ -1,6 +1,6 @@
 //! A place in a source.
 ghost use Rattle.std.specs.Prelude.{◌≡◌, ◌+◌, ◌≤◌, ◌++◌, ◌∷◌, [], false, MatchBool, option_to_list};
-ghost use Rattle.lp_lexer.specs.Source.{letters, signs, width, passed, rest, first_of, begins_join, most_bytes, EndsBy, IsLast, IsWithin};
+ghost use Rattle.lp_lexer.specs.Source.{letters, signs, width, passed, rest, first_of, begins_join, most_bytes, code_at, skipped, EndsBy, IsLast, IsWithin};
 
 use crate::letters::Letters;
 use crate::sign::Sign;
@@ -68,6 +68,63 @@ fn next_sign(letters: &mut Letters, at: &mut u32, line: &mut u32) -> Option<Sign
 }
 
 impl<'a> Cursor<'a> {
+    /// The begin of a source, of at most 16777216 bytes.
+    pub(crate) fn start(mut letters: Letters<'a>) -> Cursor<'a>
+        requires { width letters ≤ most_bytes }
+        ensures { result ≡ rest 0 (signs 0 1 letters.entry) }
+    {
+        let mut at = 0;
+        let mut line = 1;
+        let first = next_sign(&mut letters, &mut at, &mut line);
+        Cursor {
+            first,
+            letters,
+            at,
+            line,
+            behind: 0,
+        }
+    }
+
+    /// The place behind the sign that was read last.
+    pub(crate) fn behind(&self) -> u32
+        ensures { result ≡ self.now.behind }
+    {
+        self.behind
+    }
+
+    /// The code of the first sign that is left, or else 0.
+    pub(crate) fn code(&self) -> char
+        ensures { result ≡ code_at 0 self.now.left }
+    {
+        match self.first {
+            Some(sign) => sign.code,
+            None => '\0',
+        }
+    }
+
+    /// The codes of the first three signs that are left, each 0 where there is none.
+    pub(crate) fn codes(&self) -> (char, char, char)
+        ensures first { result.0 ≡ code_at 0 self.now.left }
+        ensures second { result.1 ≡ code_at 1 self.now.left }
+        ensures third { result.2 ≡ code_at 2 self.now.left }
+    {
+        let mut ahead = self.copy();
+        let first = ahead.code();
+        ahead.pass();
+        let second = ahead.code();
+        ahead.pass();
+        (first, second, ahead.code())
+    }
+
+    /// Reads some signs, as far as there are so many.
+    pub(crate) fn skip(&mut self, count: u32)
+        ensures { self.new ≡ skipped count self.old.behind self.old.left }
+    {
+        for _ in 0..count {
+            self.pass();
+        }
+    }
+
     /// The first sign that is left.
     pub(crate) fn peek(&self) -> Option<Sign>
         ensures { result ≡ first_of self.now.left }

@@ -2,6 +2,7 @@
 #![tactic(auto)]
 
 mod cursor;
+mod forms;
 mod letters;
 mod marks;
 pub mod sign;

@@ -10,3 +10,12 @@ pub struct Sign {
     /// Its line, from 1.
     pub line: u32,
 }
+
+/// What stands for one character in a text or a character literal.
+#[derive(Clone, Copy, Debug, PartialEq, Eq)]
+pub struct Letter {
+    /// The character.
+    pub code: char,
+    /// How many signs it has: 1, or with a backslash 2 or 4.
+    pub size: u32,
+}
