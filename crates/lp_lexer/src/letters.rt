@@ -1,8 +1,8 @@
 //! Characters of a source.
-ghost use Rattle.std.specs.Prelude.{◌≡◌, [], ◌∷◌, map, MatchOption};
-ghost use Rattle.std.specs.Str.{chars};
+ghost use Rattle.std.specs.Prelude.{◌≡◌, ◌≤◌, [], ◌∷◌, length, map, MatchOption};
+ghost use Rattle.std.specs.Str.{chars, IsUtf8};
 ghost use Rattle.std.specs.Str.Lossy.{utf8_valid_len};
-ghost use Rattle.lp_lexer.specs.Source.{letters, stray};
+ghost use Rattle.lp_lexer.specs.Source.{letters, stray, width};
 
 use std::marker::Model;
 use std::str;
@@ -60,6 +60,9 @@ impl<'a> Letters<'a> {
     pub(crate) fn new(bytes: &'a [u8]) -> (Letters<'a>, usize)
         ensures all { result.0 ≡ letters bytes.now }
         ensures valid { result.1 ≡ utf8_valid_len bytes.now }
+        ensures within { result.1 ≤ length bytes.now }
+        ensures utf8 { result.1 ≡ length bytes.now → IsUtf8 bytes.now }
+        ensures size { width result.0 ≡ length bytes.now }
     {
         match str::from_utf8(bytes) {
             Ok(text) => (Letters { text, strays: &[] }, bytes.len()),
