@@ -1,4 +1,4 @@
-pub mod Characters
+pub mod Decoding
 pub mod Signs
 pub mod Reading
 pub mod Advances

@@ -3,7 +3,7 @@ use Rattle.std.proofs.Common.{◌≡◌, ℕ, zero, suc, ◌+◌, ◌<◌, ◌�
 use Rattle.std.proofs.lemmas.Str.{len_utf8_bounds}
 use Rattle.std.specs.Char.{len_utf8}
 use Rattle.lp_lexer.specs.declared.sign.Sign.{Sign}
-use Rattle.lp_lexer.specs.Source.{Rest, rest, skipped, signs, joins, line_after, width, letters, end_of}
+use Rattle.lp_lexer.specs.Source.{Rest, rest, skipped, signs, joins, line_after, width, characters, end_of}
 use Rattle.lp_lexer.specs.Lexis.{Place, begin, begin_of, next, Reaches, here, more, ReachesOpenComment}
 use Rattle.lp_lexer.proofs.Advances.{Advances, then_on, stays, weaker, next-advances}
 

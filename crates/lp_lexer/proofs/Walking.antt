@@ -14,7 +14,7 @@ use Rattle.lp_lexer.specs.declared.sign.Sign.{Sign}
 use Rattle.lp_lexer.specs.declared.lexer.Lexer.{Lexer}
 use Rattle.lp_lexer.specs.declared.lexer.Step.{Step}
 use Rattle.lp_lexer.specs.declared.lexer.Step.TheVariants as step
-use Rattle.lp_lexer.specs.Source.{Rest, rest, first_of, code_at, letters, width}
+use Rattle.lp_lexer.specs.Source.{Rest, rest, first_of, code_at, characters, width}
 use Rattle.lp_lexer.specs.Lexis.{Place, begin, begin_of, is_blank, opens_line, opens_block, past_blank, past_line_comment, past_comment, past_token, comment_at, next_by, next, Reaches, here, more, ReachesEnd, ReachesOpenComment, IsWhole, IsOpenComment, IsLexed, IsFault}
 use Rattle.lp_lexer.specs.Walks.{IsStep}
 use Rattle.lp_lexer.specs.Answer.{IsLexFault, AreTokensUnlessMemory, IsFaultUnlessMemory}
@@ -122,5 +122,5 @@ only_fault bs (Err (At place what)) a b at kind f = same_fault bs at place kind 
 pub not_utf8_whole : (bs : List ℕ) (v : ℕ) (ts : List Token) → v ≡ utf8_valid_len bs → v ≤ length bs → (v ≡ length bs → ⊥) → IsWhole bs ts → IsFault bs v NotUtf8
 not_utf8_whole bs v ts e h n w = (e, omega (arith, h, n), λ at o. absurd (not_both (begin bs) ts at w o))
 
-pub not_utf8_open : (bs : List ℕ) (v at : ℕ) → v ≡ utf8_valid_len bs → v ≤ at → width (letters bs) ≡ length bs → IsOpenComment bs at → IsFault bs v NotUtf8
-not_utf8_open bs v at e h z o = (e, (let k = open_within (letters bs) at o in omega (arith, k, z, h)), λ q p. (let k = same_open (begin bs) q at p o in omega (arith, k, h)))
+pub not_utf8_open : (bs : List ℕ) (v at : ℕ) → v ≡ utf8_valid_len bs → v ≤ at → width (characters bs) ≡ length bs → IsOpenComment bs at → IsFault bs v NotUtf8
+not_utf8_open bs v at e h z o = (e, (let k = open_within (characters bs) at o in omega (arith, k, z, h)), λ q p. (let k = same_open (begin bs) q at p o in omega (arith, k, h)))

@@ -7,7 +7,7 @@ use Rattle.lp_tree.specs.declared.token.Token.{Token}
 use Rattle.lp_tree.specs.declared.token.LexKind.{LexKind}
 use Rattle.lp_tree.specs.declared.token.LexKind.TheVariants.{NotUtf8, OpenComment, BadChar, OpenString, NumberTooLarge}
 use Rattle.lp_lexer.specs.declared.sign.Sign.{Sign}
-use Rattle.lp_lexer.specs.Source.{Rest, rest, letters, signs, passed, skipped, code_at, past, end_of}
+use Rattle.lp_lexer.specs.Source.{Rest, rest, characters, signs, passed, skipped, code_at, past, end_of}
 use Rattle.lp_lexer.specs.Forms.{Read, read}
 
 -- A place in a source: what is left, whether no token of this line was read yet, and the tokens before.
@@ -21,7 +21,7 @@ abbrev pub begin_of : List ℕ → Place
 begin_of cs = record { rest = rest 0 (signs 0 1 cs); fresh = true; tokens = [] }
 
 abbrev pub begin : List ℕ → Place
-begin bs = begin_of (letters bs)
+begin bs = begin_of (characters bs)
 
 -- a space, a tab or a newline
 abbrev pub is_blank : ℕ → Bool

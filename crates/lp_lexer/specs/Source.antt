@@ -10,8 +10,8 @@ abbrev pub stray : ℕ → ℕ
 stray b = if nat_lt b 128 then b else 127
 
 -- The characters of a source: of the longest front that is UTF-8, and then byte by byte.
-unfoldable pub letters : List ℕ → List ℕ
-letters bs = chars (take (utf8_valid_len bs) bs) ++ map stray (drop (utf8_valid_len bs) bs)
+unfoldable pub characters : List ℕ → List ℕ
+characters bs = chars (take (utf8_valid_len bs) bs) ++ map stray (drop (utf8_valid_len bs) bs)
 
 -- how many bytes characters take
 abbrev pub width : List ℕ → ℕ

@@ -1,8 +1,8 @@
 //! A place in a source.
 ghost use Rattle.std.specs.Prelude.{◌≡◌, ◌+◌, ◌≤◌, ◌++◌, ◌∷◌, [], false, MatchBool, option_to_list};
-ghost use Rattle.lp_lexer.specs.Source.{letters, signs, width, passed, rest, first_of, begins_join, most_bytes, code_at, skipped, EndsBy, IsLast, IsWithin};
+ghost use Rattle.lp_lexer.specs.Source.{characters, signs, width, passed, rest, first_of, begins_join, most_bytes, code_at, skipped, EndsBy, IsLast, IsWithin};
 
-use crate::letters::Letters;
+use crate::characters::Characters;
 use crate::sign::Sign;
 use std::marker::Model;
 
@@ -10,7 +10,7 @@ use std::marker::Model;
 #[derive(Drop)]
 pub(crate) struct Cursor<'a> {
     first: Option<Sign>,
-    letters: Letters<'a>,
+    characters: Characters<'a>,
     at: u32,
     line: u32,
     behind: u32,
@@ -22,39 +22,39 @@ impl<'a> Model for Cursor<'a> {
 
     ghost Value = { Rest };
 
-    ghost view = { λ c. rest c.behind (option_to_list c.first ++ signs c.at c.line c.letters) };
+    ghost view = { λ c. rest c.behind (option_to_list c.first ++ signs c.at c.line c.characters) };
 
-    ghost invariant = { λ c. IsWithin c.letters c.at c.line × EndsBy c.at c.first × IsLast c.first c.letters };
+    ghost invariant = { λ c. IsWithin c.characters c.at c.line × EndsBy c.at c.first × IsLast c.first c.characters };
 }
 
 /// Whether the characters begin with a join, which is taken then.
-fn take_join(letters: &mut Letters) -> bool
+fn take_join(characters: &mut Characters) -> bool
     ensures { MatchBool result
-        (letters.old ≡ 92 ∷ 10 ∷ letters.new)
-        ((letters.new ≡ letters.old) × (begins_join letters.old ≡ false)) }
+        (characters.old ≡ 92 ∷ 10 ∷ characters.new)
+        ((characters.new ≡ characters.old) × (begins_join characters.old ≡ false)) }
 {
-    let mut behind = letters.copy();
+    let mut behind = characters.copy();
     if behind.next() == Some('\\') && behind.next() == Some('\n') {
-        *letters = behind;
+        *characters = behind;
         return true;
     }
     false
 }
 
 /// The next sign, taken off the characters, of which the first stands at a place on a line.
-fn next_sign(letters: &mut Letters, at: &mut u32, line: &mut u32) -> Option<Sign>
-    requires { IsWithin letters.old at.old line.old }
-    ensures same { signs at.old line.old letters.old
-        ≡ option_to_list result ++ signs at.new line.new letters.new }
+fn next_sign(characters: &mut Characters, at: &mut u32, line: &mut u32) -> Option<Sign>
+    requires { IsWithin characters.old at.old line.old }
+    ensures same { signs at.old line.old characters.old
+        ≡ option_to_list result ++ signs at.new line.new characters.new }
     ensures ends { EndsBy at.new result }
-    ensures last { IsLast result letters.new }
-    ensures within { IsWithin letters.new at.new line.new }
+    ensures last { IsLast result characters.new }
+    ensures within { IsWithin characters.new at.new line.new }
 {
-    'joined: while take_join(letters) {
+    'joined: while take_join(characters) {
         *at += 2;
         *line += 1;
     }
-    let code = letters.next()?;
+    let code = characters.next()?;
     let sign = Sign {
         code,
         at: *at,
@@ -69,16 +69,16 @@ fn next_sign(letters: &mut Letters, at: &mut u32, line: &mut u32) -> Option<Sign
 
 impl<'a> Cursor<'a> {
     /// The begin of a source, of at most 16777216 bytes.
-    pub(crate) fn start(mut letters: Letters<'a>) -> Cursor<'a>
-        requires { width letters ≤ most_bytes }
-        ensures { result ≡ rest 0 (signs 0 1 letters.entry) }
+    pub(crate) fn start(mut characters: Characters<'a>) -> Cursor<'a>
+        requires { width characters ≤ most_bytes }
+        ensures { result ≡ rest 0 (signs 0 1 characters.entry) }
     {
         let mut at = 0;
         let mut line = 1;
-        let first = next_sign(&mut letters, &mut at, &mut line);
+        let first = next_sign(&mut characters, &mut at, &mut line);
         Cursor {
             first,
-            letters,
+            characters,
             at,
             line,
             behind: 0,
@@ -138,7 +138,7 @@ impl<'a> Cursor<'a> {
     {
         if let Some(sign) = self.first {
             self.behind = sign.at + sign.code.len_utf8() as u32;
-            self.first = next_sign(&mut self.letters, &mut self.at, &mut self.line);
+            self.first = next_sign(&mut self.characters, &mut self.at, &mut self.line);
         }
     }
 
@@ -148,7 +148,7 @@ impl<'a> Cursor<'a> {
     {
         Cursor {
             first: self.first,
-            letters: self.letters.copy(),
+            characters: self.characters.copy(),
             at: self.at,
             line: self.line,
             behind: self.behind,

@@ -6,7 +6,7 @@ ghost use Rattle.lp_lexer.specs.Walks.{place_of, IsStep, IsWalk, IsCommentOf};
 
 use crate::cursor::Cursor;
 use crate::forms::read_token;
-use crate::letters::Letters;
+use crate::characters::Characters;
 use crate::sign::Sign;
 use lp_tree::token::Token;
 use std::alloc::{AllocError, Global};
@@ -123,12 +123,12 @@ pub(crate) enum Walk {
 }
 
 /// Walks over the characters of a source.
-pub(crate) fn walk_over(alloc: Global, letters: Letters) -> Result<Walk, AllocError>
-    requires { width letters ≤ most_bytes }
-    ensures { IfOk result (IsWalk (begin_of letters.entry)) }
+pub(crate) fn walk_over(alloc: Global, characters: Characters) -> Result<Walk, AllocError>
+    requires { width characters ≤ most_bytes }
+    ensures { IfOk result (IsWalk (begin_of characters.entry)) }
 {
     let mut lexer = Lexer {
-        cursor: Cursor::start(letters),
+        cursor: Cursor::start(characters),
         fresh: true,
         tokens: Vec::new(alloc),
     };

@@ -14,12 +14,12 @@ ghost use Rattle.lp_lexer.specs.Answer.{IsLexFault, AreTokensUnlessMemory, IsFau
 
 mod cursor;
 mod forms;
-mod letters;
+mod characters;
 mod lexer;
 mod marks;
 pub mod sign;
 
-use crate::letters::Letters;
+use crate::characters::Characters;
 use crate::lexer::{Walk, walk_over};
 use lp_tree::token::{LexKind, Token};
 use std::alloc::{AllocError, AllocFailed, Global};
@@ -84,8 +84,8 @@ fn answer(alloc: Global, bytes: &[u8]) -> Result<Vec<Token>, LexFault>
     ensures found { IfOk result (λ ts. IsLexed bytes.now ts.items) }
     ensures fault { IfErr result (IsLexFault bytes.now) }
 {
-    let (letters, valid) = Letters::new(bytes);
-    match walk_over(alloc, letters)? {
+    let (characters, valid) = Characters::new(bytes);
+    match walk_over(alloc, characters)? {
         Walk::Open(at) => {
             if (at as usize) < valid {
                 return Err(LexFault::At {

@@ -6,20 +6,20 @@ use Rattle.std.proofs.lemmas.Bool.Decides.{nat_tests}
 use Rattle.std.specs.Str.{chars, IsUtf8, encode_utf8_all}
 use Rattle.std.specs.Char.{len_utf8, encode_utf8}
 use Rattle.std.specs.Str.Lossy.{utf8_valid_len}
-use Rattle.lp_lexer.specs.Source.{letters, stray, width}
+use Rattle.lp_lexer.specs.Source.{characters, stray, width}
 
 pub chars_empty : (bs : List ℕ) → length bs ≡ 0 → chars bs ≡ []
 chars_empty bs e = ap chars (nil_from_length bs e) ∙ chars-nil
 
-pub letters-utf8 : (bs : List ℕ) → IsUtf8 bs → chars bs ++ [] ≡ letters bs
-unfolding letters
-letters-utf8 bs u =
+pub characters-utf8 : (bs : List ℕ) → IsUtf8 bs → chars bs ++ [] ≡ characters bs
+unfolding characters
+characters-utf8 bs u =
     let n = utf8_valid_len-IsUtf8 bs u in
     sym (ap (λ k. chars (take k bs) ++ map stray (drop k bs)) n ∙ ap (λ xs. chars xs ++ map stray (drop (length bs) bs)) (take_all (length bs) bs (omega arith)) ∙ ap (λ xs. chars bs ++ map stray xs) (drop_all (length bs) bs (omega arith)))
 
-pub letters-split : (bs front strays : List ℕ) (n : ℕ) → n ≡ utf8_valid_len bs → front ≡ take n bs → strays ≡ drop n bs → chars front ++ map stray strays ≡ letters bs
-unfolding letters
-letters-split bs front strays n e f g = ap (λ xs. chars xs ++ map stray strays) f ∙ ap (λ xs. chars (take n bs) ++ map stray xs) g ∙ ap (λ k. chars (take k bs) ++ map stray (drop k bs)) e
+pub characters-split : (bs front strays : List ℕ) (n : ℕ) → n ≡ utf8_valid_len bs → front ≡ take n bs → strays ≡ drop n bs → chars front ++ map stray strays ≡ characters bs
+unfolding characters
+characters-split bs front strays n e f g = ap (λ xs. chars xs ++ map stray strays) f ∙ ap (λ xs. chars (take n bs) ++ map stray xs) g ∙ ap (λ k. chars (take k bs) ++ map stray (drop k bs)) e
 
 -- how many bytes characters take
 width-append : (cs ds : List ℕ) → width (cs ++ ds) ≡ width cs + width ds

@@ -2,19 +2,19 @@
 ghost use Rattle.std.specs.Prelude.{◌≡◌, ◌≤◌, [], ◌∷◌, length, map, MatchOption};
 ghost use Rattle.std.specs.Str.{chars, IsUtf8};
 ghost use Rattle.std.specs.Str.Lossy.{utf8_valid_len};
-ghost use Rattle.lp_lexer.specs.Source.{letters, stray, width};
+ghost use Rattle.lp_lexer.specs.Source.{characters, stray, width};
 
 use std::marker::Model;
 use std::str;
 
 /// The characters that are left of a source.
 #[derive(Drop)]
-pub(crate) struct Letters<'a> {
+pub(crate) struct Characters<'a> {
     text: &'a str,
     strays: &'a [u8],
 }
 
-impl<'a> Model for Letters<'a> {
+impl<'a> Model for Characters<'a> {
     ghost use Rattle.std.specs.Prelude.{List, ℕ, ◌++◌, map};
     ghost use Rattle.std.specs.Str.{chars, IsUtf8};
     ghost use Rattle.lp_lexer.specs.Source.{stray};
@@ -34,7 +34,7 @@ fn stray_of(byte: u8) -> char
 }
 
 /// The first character of a text, and what comes behind it.
-#[tactic(auto, using(std::proofs::lemmas::Str::chars_past_char, crate::proofs::Characters::chars_empty))]
+#[tactic(auto, using(std::proofs::lemmas::Str::chars_past_char, crate::proofs::Decoding::chars_empty))]
 fn first_char<'a>(text: &'a str) -> Option<(char, &'a str)>
     ensures { MatchOption result (chars text.now ≡ []) (λ p. chars text.now ≡ p.0 ∷ chars p.1.now) }
 {
@@ -55,21 +55,21 @@ fn first_stray<'a>(strays: &'a [u8]) -> Option<(char, &'a [u8])>
     }
 }
 
-impl<'a> Letters<'a> {
+impl<'a> Characters<'a> {
     /// The characters of a source, and how many of its bytes are UTF-8.
-    pub(crate) fn new(bytes: &'a [u8]) -> (Letters<'a>, usize)
-        ensures all { result.0 ≡ letters bytes.now }
+    pub(crate) fn new(bytes: &'a [u8]) -> (Characters<'a>, usize)
+        ensures all { result.0 ≡ characters bytes.now }
         ensures valid { result.1 ≡ utf8_valid_len bytes.now }
         ensures within { result.1 ≤ length bytes.now }
         ensures utf8 { result.1 ≡ length bytes.now → IsUtf8 bytes.now }
         ensures size { width result.0 ≡ length bytes.now }
     {
         match str::from_utf8(bytes) {
-            Ok(text) => (Letters { text, strays: &[] }, bytes.len()),
+            Ok(text) => (Characters { text, strays: &[] }, bytes.len()),
             Err(fault) => {
                 let (front, strays) = bytes.split_at(fault.valid_up_to());
                 let text = unsafe { str::from_utf8_unchecked(front) };
-                (Letters { text, strays }, fault.valid_up_to())
+                (Characters { text, strays }, fault.valid_up_to())
             }
         }
     }
@@ -90,10 +90,10 @@ impl<'a> Letters<'a> {
     }
 
     /// The same characters once more.
-    pub(crate) fn copy(&self) -> Letters<'a>
+    pub(crate) fn copy(&self) -> Characters<'a>
         ensures { result ≡ self.now }
     {
-        Letters {
+        Characters {
             text: self.text,
             strays: self.strays,
         }
