@@ -4,3 +4,4 @@ pub mod Reading
 pub mod Advances
 pub mod Walking
 pub mod Order
+pub mod Cover

@@ -4,4 +4,5 @@ pub mod Source
 pub mod Steps
 pub mod Walks
 pub mod Answer
+pub mod Laws
 pub mod Lexis

@@ -105,3 +105,6 @@ fn answer(alloc: Global, bytes: &[u8]) -> Result<Vec<Token>, LexFault>
         kind: LexKind::NotUtf8,
     })
 }
+
+#[cfg(test)]
+mod tests;
