@@ -5,11 +5,12 @@
 //! lines before all else, also inside a token.
 #![tactic(auto)]
 
-ghost use Rattle.std.specs.Prelude.{◌≡◌, ℕ, ◌≤◌, List, length, IfOk, IfErr};
+ghost use Rattle.std.specs.Prelude.{◌≡◌, ℕ, ◌≤◌, ◌<◌, List, length, IfOk, IfErr};
 ghost use Rattle.lp_tree.specs.declared.token.Token.{Token as Tok};
 ghost use Rattle.lp_tree.specs.declared.token.LexKind.{LexKind as Kind};
 ghost use Rattle.lp_lexer.specs.Source.{most_bytes};
 ghost use Rattle.lp_lexer.specs.Lexis.{IsLexed, IsFault};
+ghost use Rattle.lp_lexer.specs.Laws.{AreApart, IsAccounted};
 ghost use Rattle.lp_lexer.specs.Answer.{IsLexFault, AreTokensUnlessMemory, IsFaultUnlessMemory};
 
 mod cursor;
@@ -76,6 +77,19 @@ pub fn lex(alloc: Global, bytes: &[u8]) -> Result<Vec<Token>, LexFault>
         → IsFault bytes.now at kind → IsFaultUnlessMemory at kind result }
 {
     answer(alloc, bytes)
+}
+
+/// Law: tokens have bytes, and each begins no earlier than the one before it ends.
+pub fn law_apart()
+    ensures { (bs : List ℕ) (ts : List Tok) → IsLexed bs ts → AreApart 0 ts (length bs) }
+{
+}
+
+/// Law: each byte of a file with tokens is of a token, a blank, a comment or a join.
+pub fn law_accounted()
+    ensures { (bs : List ℕ) (ts : List Tok)
+        → IsLexed bs ts → (k : ℕ) → k < length bs → IsAccounted bs ts k }
+{
 }
 
 /// The tokens of a file, or its first fault.
