@@ -1,19 +1,17 @@
 -- Each form goes on by some signs.
-use Rattle.std.proofs.Common.{◌≡◌, ℕ, zero, suc, ◌+◌, ◌-◌, ◌*◌, ◌<◌, ◌≤◌, Bool, true, false, cond, eqb, List, [], ◌∷◌, ◌++◌, length, refl, sym, ap, subst, ◌∙◌, arith, ne_eqb, eq-eqb, add-zero, zero-add}
-use Rattle.std.specs.Prelude.{Option, Some, None, option_map, ◌==◌, ◌&&◌, ◌||◌, not, if◌then◌else◌, pos}
+use Rattle.std.proofs.Common.{◌≡◌, ℕ, zero, suc, ◌+◌, ◌-◌, ◌<◌, ◌≤◌, Bool, true, false, cond, List, [], ◌∷◌, length, refl, sym, ap, subst, ◌∙◌, arith, zero-add}
+use Rattle.std.specs.Prelude.{Option, Some, None, option_map, ◌==◌, ◌&&◌, ◌||◌, not, pos}
 use Rattle.lp_tree.specs.declared.token.Mark.{Mark as MarkKind}
 use Rattle.std.proofs.lemmas.Bool.Decides.{nat_tests}
 use Rattle.std.proofs.lemmas.Bool.{eqb-true}
-use Rattle.lp_tree.specs.declared.token.TokenKind.TheVariants.{Name, Text, Int, Mark, Bad}
+use Rattle.lp_tree.specs.declared.token.TokenKind.TheVariants.{Int, Bad}
 use Rattle.lp_tree.specs.declared.token.LexKind.TheVariants.{BadChar}
 use Rattle.lp_lexer.specs.declared.sign.Sign.{Sign}
-use Rattle.lp_lexer.specs.declared.sign.Letter.{Letter}
-use Rattle.lp_lexer.specs.Source.{Rest, rest, passed, skipped, first_of, code_at, front, past, end_of}
+use Rattle.lp_lexer.specs.Source.{Rest, rest, passed, skipped, code_at, past, end_of}
 use Rattle.lp_lexer.specs.Marks.{Fit, longest, or_shorter, one, two, three}
 use Rattle.lp_lexer.specs.Forms.{Read, Letters, letters_of, with_letter, letter_at, is_letter, is_digit, is_word, base_at, name, number, text, literal, mark, marked, read}
-use Rattle.lp_lexer.specs.Lexis.{Place, Comment, comment, comment_at, is_blank, stays_on_line, opens_line, opens_block, past_blank, past_line_comment, past_comment, past_token, next_by, next, Reaches}
-use Rattle.lp_lexer.proofs.Signs.{skipped-passed}
-use Rattle.lp_lexer.proofs.Reading.{letter-size, length-skipped}
+use Rattle.lp_lexer.specs.Lexis.{Place, Comment, comment, comment_at, is_blank, stays_on_line, opens_line, opens_block, past_blank, past_line_comment, past_comment, past_token, next_by, next}
+use Rattle.lp_lexer.proofs.Reading.{length-skipped}
 
 -- what is left is what is left behind some signs
 pub record Advances (least behind : ℕ) (ss : List Sign) (r : Rest) : Type 0 where
@@ -58,7 +56,8 @@ pub then_on : {least more behind : ℕ} {ss : List Sign} {r q : Rest} → Advanc
 then_on {behind = behind} {ss = ss} a c = record {
   signs = a.signs + c.signs;
   enough = omega (arith, a.enough, c.enough);
-  is = c.is ∙ ap (λ (x : Rest). skipped c.signs x.behind x.left) a.is ∙ skipped-skipped a.signs c.signs behind ss }
+  is = c.is ∙ ap (λ (x : Rest). skipped c.signs x.behind x.left) a.is ∙ skipped-skipped a.signs c.signs behind ss;
+}
 
 passed-is : (behind : ℕ) (ss : List Sign) → passed behind ss ≡ skipped 1 behind ss
 passed-is behind [] = refl
@@ -151,7 +150,7 @@ comment-advances crosses behind [] c e = cc
 comment-advances crosses behind (s ∷ ss) c e =
     comment_choice ((s.code == 42) && (code_at 0 ss == 47)) (Some (record { crosses = crosses; after = passed (end_of s) ss })) (comment (crosses || (s.code == 10)) ss) c
     (λ w. let v : record { crosses = crosses; after = passed (end_of s) ss } ≡ c = cc in
-        weaker (subst (Advances 2 behind (s ∷ ss)) (ap (λ (x : Comment). x.after) v) (sign_more (passes (end_of s) ss))) (omega arith))
+    weaker (subst (Advances 2 behind (s ∷ ss)) (ap (λ (x : Comment). x.after) v) (sign_more (passes (end_of s) ss))) (omega arith))
     (λ w. weaker (sign_more (comment-advances (crosses || (s.code == 10)) (end_of s) ss c w)) (omega arith)) e
 
 block-advances : (p : Place) (q : Place) (o : Option Comment) → option_map (past_comment p) o ≡ Some q → (c : Comment) × (o ≡ Some c) × (q ≡ past_comment p c)
@@ -182,11 +181,11 @@ next_by-advances p q behind s ss f e =
     (λ _ w. some_advances p q s ss (past_blank p) w (subst (λ xs. Advances 1 p.rest.behind xs (past_blank p).rest) l (passes p.rest.behind p.rest.left)))
     (λ _. place_choice p q s ss (opens_line (s ∷ ss)) (Some (past_line_comment p)) _
     (λ h w. some_advances p q s ss (past_line_comment p) w
-        (subst (λ xs. Advances 1 p.rest.behind (s ∷ ss) (past stays_on_line p.rest.behind xs)) (sym l) (past-some stays_on_line p.rest.behind s ss (line_stays s.code (code_at 0 ss == 47) h))))
+    (subst (λ xs. Advances 1 p.rest.behind (s ∷ ss) (past stays_on_line p.rest.behind xs)) (sym l) (past-some stays_on_line p.rest.behind s ss (line_stays s.code (code_at 0 ss == 47) h))))
     (λ _. place_choice p q s ss (opens_block (s ∷ ss)) (option_map (past_comment p) (comment_at p.rest)) (Some (past_token p s))
     (λ _ w. subst (λ xs. Advances 1 p.rest.behind xs q.rest) l (block-next p q w))
     (λ _ w. some_advances p q s ss (past_token p s) w
-        (subst (λ xs. Advances 1 p.rest.behind (s ∷ ss) (read (rest p.rest.behind xs)).after) (sym l) (read-advances p.rest.behind s ss))))) e
+    (subst (λ xs. Advances 1 p.rest.behind (s ∷ ss) (read (rest p.rest.behind xs)).after) (sym l) (read-advances p.rest.behind s ss))))) e
 
 by_left : (p q : Place) (ss : List Sign) → p.rest.left ≡ ss → next_by p ss ≡ Some q → Advances 1 p.rest.behind ss q.rest
 by_left p q [] f e = cc

@@ -1,5 +1,5 @@
 -- Tokens are apart, and each byte is accounted for.
-use Rattle.std.proofs.Common.{◌≡◌, ℕ, zero, suc, ◌+◌, ◌-◌, ◌<◌, ◌≤◌, Bool, true, false, cond, List, [], ◌∷◌, ◌++◌, length, drop, get_or, refl, sym, ap, subst, ◌∙◌, arith, inl, inr, lit<}
+use Rattle.std.proofs.Common.{◌≡◌, ℕ, zero, suc, ◌+◌, ◌<◌, ◌≤◌, Bool, true, false, cond, List, [], ◌∷◌, ◌++◌, length, drop, get_or, refl, sym, ap, subst, ◌∙◌, arith, inl, inr, lit<}
 use Rattle.std.specs.Prelude.{Option, Some, None, option_map, ◌==◌, ◌&&◌, slice_index, ◌⊎◌}
 use Rattle.std.proofs.Math.Logic.{⊎_elim}
 use Rattle.std.proofs.lemmas.Str.{len_utf8_bounds, length-encode, encode_ascii, drop_past_char, encodes-chars}
@@ -10,11 +10,11 @@ use Rattle.std.specs.Str.{chars, IsUtf8, encode_utf8_all}
 use Rattle.std.specs.Char.{len_utf8, encode_utf8}
 use Rattle.lp_tree.specs.declared.token.Token.{Token}
 use Rattle.lp_lexer.specs.declared.sign.Sign.{Sign}
-use Rattle.lp_lexer.specs.Source.{Rest, rest, skipped, signs, joins, line_after, width, characters, end_of}
+use Rattle.lp_lexer.specs.Source.{Rest, skipped, signs, joins, line_after, width, characters, end_of}
 use Rattle.lp_lexer.specs.Forms.{read}
-use Rattle.lp_lexer.specs.Lexis.{Place, Comment, begin, begin_of, is_blank, opens_line, opens_block, past_blank, past_line_comment, past_comment, comment_at, past_token, token_from, next_by, next, Reaches, here, more, ReachesEnd, IsLexed}
-use Rattle.lp_lexer.specs.Laws.{AreApart, IsOfToken, IsOfJoin, IsOfGap, IsAccounted}
-use Rattle.lp_lexer.proofs.Advances.{Advances, read-advances, next-advances}
+use Rattle.lp_lexer.specs.Lexis.{Place, Comment, begin, begin_of, is_blank, opens_line, opens_block, past_blank, past_line_comment, past_comment, comment_at, past_token, token_from, next_by, next, Reaches, here, more, IsLexed}
+use Rattle.lp_lexer.specs.Laws.{AreApart, IsOfToken, IsOfJoin, IsAccounted}
+use Rattle.lp_lexer.proofs.Advances.{Advances, next-advances}
 use Rattle.lp_lexer.proofs.Order.{IsOrdered, reached-ordered, begin-ordered, ordered_within, reaches-advances}
 use Rattle.lp_lexer.proofs.Decoding.{characters-utf8, width-utf8}
 
@@ -50,6 +50,7 @@ step_end limit behind s ss r o a = from_signs a.signs a.enough a.is where
   skipped_end zero b xs h = omega arith
   skipped_end (suc n) b [] h = omega arith
   skipped_end (suc n) b (x ∷ xs) h = let k = skipped_end n (end_of x) xs h.1 in omega (arith, k, h.0)
+
   from_signs : (n : ℕ) → 1 ≤ n → r ≡ skipped n behind (s ∷ ss) → end_of s ≤ r.behind
   from_signs zero h e = absurd (omega (arith, h))
   from_signs (suc n) h e = let k = skipped_end n (end_of s) ss o.1 in omega (arith, k, ap (λ (x : Rest). x.behind) e)
@@ -69,13 +70,13 @@ apart_step limit p q (s ∷ ss) o e a h =
     let k = step_end limit p.rest.behind s ss q.rest o a in
     let b = len_utf8_bounds s.code in
     ⊎_elim
-      (λ (g : StepsBy p q s ss). subst (λ ts. AreApart 0 ts q.rest.behind) (sym g.gap.1) (apart-later 0 p.rest.behind q.rest.behind p.tokens h (omega (arith, o.0, k))))
-      (λ (w : q ≡ past_token p s).
-        let t = token_from p.fresh s (read p.rest) in
-        let e2 : q.rest.behind ≡ (read p.rest).after.behind = ap (λ (x : Place). x.rest.behind) w in
-        subst (λ ts. AreApart 0 ts q.rest.behind) (ap (λ (x : Place). x.tokens) (sym w))
-        (apart-later 0 (t.at + t.len) q.rest.behind (p.tokens ++ t ∷ []) (apart-more 0 p.rest.behind p.tokens t h (omega (arith, o.0)) (omega (arith, k, b.0, e2))) (omega (arith, k, b.0, e2))))
-      (steps p q s ss e)
+    (λ (g : StepsBy p q s ss). subst (λ ts. AreApart 0 ts q.rest.behind) (sym g.gap.1) (apart-later 0 p.rest.behind q.rest.behind p.tokens h (omega (arith, o.0, k))))
+    (λ (w : q ≡ past_token p s).
+    let t = token_from p.fresh s (read p.rest) in
+    let e2 : q.rest.behind ≡ (read p.rest).after.behind = ap (λ (x : Place). x.rest.behind) w in
+    subst (λ ts. AreApart 0 ts q.rest.behind) (ap (λ (x : Place). x.tokens) (sym w))
+    (apart-later 0 (t.at + t.len) q.rest.behind (p.tokens ++ t ∷ []) (apart-more 0 p.rest.behind p.tokens t h (omega (arith, o.0)) (omega (arith, k, b.0, e2))) (omega (arith, k, b.0, e2))))
+    (steps p q s ss e)
 
 apart_reached : (cs : List ℕ) (p : Place) → Reaches (begin_of cs) p → AreApart 0 p.tokens p.rest.behind
 apart_reached cs p here = omega arith
@@ -115,10 +116,11 @@ are_joined c d e = let h = and_true (c == 92) (d == 10) e in (eqb-true c 92 h.0,
 -- a join in the bytes
 join_here : (bs xs : List ℕ) (at c d : ℕ) → drop at bs ≡ encode_utf8 c ++ (encode_utf8 d ++ xs) → c ≡ 92 → d ≡ 10 → (drop (at + 2) bs ≡ xs) × (slice_index bs at ≡ 92) × (slice_index bs (at + 1) ≡ 10)
 join_here bs xs at c d e f g =
-    let h : drop at bs ≡ 92 ∷ 10 ∷ xs = e ∙ ap (λ k. k ++ (encode_utf8 d ++ xs)) (ap encode_utf8 f ∙ encode_ascii 92 (lit< tt)) ∙ ap (λ k. 92 ∷ (k ++ xs)) (ap encode_utf8 g ∙ encode_ascii 10 (lit< tt)) in
-    (sym (drop-drop 2 at bs) ∙ ap (drop 2) h,
-     ap (λ k. get_or bs k 0) (let z : at ≡ at + 0 = omega arith in z) ∙ sym (get_or-drop at bs 0 0) ∙ ap (λ ys. get_or ys 0 0) h,
-     sym (get_or-drop at bs 1 0) ∙ ap (λ ys. get_or ys 1 0) h)
+    let h : drop at bs ≡ 92 ∷ 10 ∷ xs = e ∙ ap (λ k. k ++ (encode_utf8 d ++ xs)) (ap encode_utf8 f ∙ encode_ascii 92 (lit< tt)) ∙ ap (λ k. 92 ∷ (k ++ xs)) (ap encode_utf8 g ∙ encode_ascii 10 (lit< tt)) in (
+      sym (drop-drop 2 at bs) ∙ ap (drop 2) h,
+      ap (λ k. get_or bs k 0) (let z : at ≡ at + 0 = omega arith in z) ∙ sym (get_or-drop at bs 0 0) ∙ ap (λ ys. get_or ys 0 0) h,
+      sym (get_or-drop at bs 1 0) ∙ ap (λ ys. get_or ys 1 0) h,
+    )
 
 length_past : (bs xs : List ℕ) (at : ℕ) → drop at bs ≡ xs → length bs ≤ at + length xs
 length_past bs xs at e = omega (arith, ap length e, length-drop at bs)
@@ -130,9 +132,9 @@ signs-joins bs behind at line (c ∷ []) e h =
 signs-joins bs behind at line (c ∷ d ∷ cs) e h =
     joins_if bs behind (joins c d) (signs (at + 2) (line + 1) cs) _
     (λ j.
-      let cd = are_joined c d j in
-      let g = join_here bs (encode_utf8_all cs) at c d e cd.0 cd.1 in
-      signs-joins bs behind (at + 2) (line + 1) cs g.0 (λ k a b. ⊎_elim (λ (l : k < at). h k a l) (λ (l : at ≤ k). (at, g.1, g.2, l, omega (arith, b))) (below_or k at)))
+    let cd = are_joined c d j in
+    let g = join_here bs (encode_utf8_all cs) at c d e cd.0 cd.1 in
+    signs-joins bs behind (at + 2) (line + 1) cs g.0 (λ k a b. ⊎_elim (λ (l : k < at). h k a l) (λ (l : at ≤ k). (at, g.1, g.2, l, omega (arith, b))) (below_or k at)))
     (λ _. (h, signs-joins bs (at + len_utf8 c) (at + len_utf8 c) (line_after line c) (d ∷ cs) (drop_past_char bs (encode_utf8_all (d ∷ cs)) at c e) (λ k a b. absurd (omega (arith, a, b)))))
 
 begin-joins : (bs : List ℕ) → IsUtf8 bs → JoinsBetween bs 0 (signs 0 1 (characters bs))
@@ -155,17 +157,17 @@ accounted_step bs p q (s ∷ ss) r l o j e n a h k m =
     let z = step_end (width (characters bs)) p.rest.behind s ss q.rest o a in
     let b = len_utf8_bounds s.code in
     ⊎_elim
-      (λ (g : StepsBy p q s ss). subst (λ ts. IsAccounted bs ts k) (sym g.gap.1)
-        (⊎_elim (λ (x : k < p.rest.behind). h k x) (λ (x : p.rest.behind ≤ k).
-        ⊎_elim (λ (y : k < s.at). inr (inr (j.0 k x y))) (λ (y : s.at ≤ k).
-          inr (inl (record { before = p; after = q; sign = s; others = ss; reached = r; left = l; gap = g.gap.0; goes = n; on = y; within = m }))) (below_or k s.at)) (below_or k p.rest.behind)))
-      (λ (w : q ≡ past_token p s).
-        let t = token_from p.fresh s (read p.rest) in
-        let e2 : q.rest.behind ≡ (read p.rest).after.behind = ap (λ (x : Place). x.rest.behind) w in
-        subst (λ ts. IsAccounted bs ts k) (ap (λ (x : Place). x.tokens) (sym w))
-        (⊎_elim (λ (x : k < p.rest.behind). accounted-more bs p.tokens t k (h k x)) (λ (x : p.rest.behind ≤ k).
-        ⊎_elim (λ (y : k < s.at). inr (inr (j.0 k x y))) (λ (y : s.at ≤ k). inl (of_token-last p.tokens t k y (omega (arith, z, b.0, e2, m)))) (below_or k s.at)) (below_or k p.rest.behind)))
-      (steps p q s ss e)
+    (λ (g : StepsBy p q s ss). subst (λ ts. IsAccounted bs ts k) (sym g.gap.1)
+    (⊎_elim (λ (x : k < p.rest.behind). h k x) (λ (x : p.rest.behind ≤ k).
+    ⊎_elim (λ (y : k < s.at). inr (inr (j.0 k x y))) (λ (y : s.at ≤ k).
+    inr (inl (record { before = p; after = q; sign = s; others = ss; reached = r; left = l; gap = g.gap.0; goes = n; on = y; within = m }))) (below_or k s.at)) (below_or k p.rest.behind)))
+    (λ (w : q ≡ past_token p s).
+    let t = token_from p.fresh s (read p.rest) in
+    let e2 : q.rest.behind ≡ (read p.rest).after.behind = ap (λ (x : Place). x.rest.behind) w in
+    subst (λ ts. IsAccounted bs ts k) (ap (λ (x : Place). x.tokens) (sym w))
+    (⊎_elim (λ (x : k < p.rest.behind). accounted-more bs p.tokens t k (h k x)) (λ (x : p.rest.behind ≤ k).
+    ⊎_elim (λ (y : k < s.at). inr (inr (j.0 k x y))) (λ (y : s.at ≤ k). inl (of_token-last p.tokens t k y (omega (arith, z, b.0, e2, m)))) (below_or k s.at)) (below_or k p.rest.behind)))
+    (steps p q s ss e)
 
 accounted_reached : (bs : List ℕ) (p : Place) → IsUtf8 bs → Reaches (begin bs) p → (k : ℕ) → k < p.rest.behind → IsAccounted bs p.tokens k
 accounted_reached bs p u here = λ k m. absurd (omega (arith, m))

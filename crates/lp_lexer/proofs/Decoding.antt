@@ -1,7 +1,7 @@
 -- The characters of a source.
-use Rattle.std.proofs.Common.{◌≡◌, ℕ, ◌+◌, ◌-◌, ◌<◌, ◌≤◌, Bool, true, false, cond, ltb, List, [], ◌∷◌, ◌++◌, length, take, drop, map, refl, sym, ap, subst, ◌∙◌, arith, length-append, length-take, length-drop}
-use Rattle.std.proofs.lemmas.List.{append-nil, take_all, drop_all, nil_from_length, length-map}
-use Rattle.std.proofs.lemmas.Str.{chars_past_char, utf8_valid_len-IsUtf8, utf8_valid_len_le, chars-nil, encodes-chars, length-encode}
+use Rattle.std.proofs.Common.{◌≡◌, ℕ, ◌+◌, ◌≤◌, List, [], ◌∷◌, ◌++◌, length, take, drop, map, refl, sym, ap, subst, ◌∙◌, arith, length-append, length-take, length-drop}
+use Rattle.std.proofs.lemmas.List.{append-nil, take_all, drop_all, nil_from_length}
+use Rattle.std.proofs.lemmas.Str.{utf8_valid_len-IsUtf8, chars-nil, encodes-chars, length-encode}
 use Rattle.std.proofs.lemmas.Bool.Decides.{nat_tests}
 use Rattle.std.specs.Str.{chars, IsUtf8, encode_utf8_all}
 use Rattle.std.specs.Char.{len_utf8, encode_utf8}

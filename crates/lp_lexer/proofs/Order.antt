@@ -1,10 +1,10 @@
 -- Signs stand in order, each behind the one before.
-use Rattle.std.proofs.Common.{◌≡◌, ℕ, zero, suc, ◌+◌, ◌<◌, ◌≤◌, Bool, true, false, cond, List, [], ◌∷◌, length, refl, sym, ap, subst, ◌∙◌, arith}
+use Rattle.std.proofs.Common.{ℕ, zero, suc, ◌+◌, ◌<◌, ◌≤◌, Bool, true, false, cond, List, [], ◌∷◌, sym, subst, arith}
 use Rattle.std.proofs.lemmas.Str.{len_utf8_bounds}
 use Rattle.std.specs.Char.{len_utf8}
 use Rattle.lp_lexer.specs.declared.sign.Sign.{Sign}
-use Rattle.lp_lexer.specs.Source.{Rest, rest, skipped, signs, joins, line_after, width, characters, end_of}
-use Rattle.lp_lexer.specs.Lexis.{Place, begin, begin_of, next, Reaches, here, more, ReachesOpenComment}
+use Rattle.lp_lexer.specs.Source.{Rest, skipped, signs, joins, line_after, width, end_of}
+use Rattle.lp_lexer.specs.Lexis.{Place, begin_of, Reaches, here, more, ReachesOpenComment}
 use Rattle.lp_lexer.proofs.Advances.{Advances, then_on, stays, weaker, next-advances}
 
 -- the signs begin behind a place, in order, and end by a limit

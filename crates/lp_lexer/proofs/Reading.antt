@@ -1,11 +1,11 @@
 -- Steps of the forms of tokens.
-use Rattle.std.proofs.Common.{◌≡◌, ℕ, zero, suc, ◌+◌, ◌-◌, ◌*◌, ◌<◌, ◌≤◌, Bool, true, false, cond, eqb, List, [], ◌∷◌, ◌++◌, length, min, refl, sym, ap, subst, ◌∙◌, arith, ne_eqb, eq-eqb}
+use Rattle.std.proofs.Common.{◌≡◌, ℕ, zero, suc, ◌+◌, ◌-◌, ◌*◌, ◌<◌, ◌≤◌, Bool, true, false, cond, List, [], ◌∷◌, ◌++◌, length, min, refl, sym, ap, ◌∙◌, arith, ne_eqb, eq-eqb}
 use Rattle.std.proofs.Math.Nat.{mul-le-mul_left}
 use Rattle.std.proofs.Math.Logic.{⊎_elim}
 use Rattle.std.proofs.lemmas.Bool.Decides.{leb_tells}
 use Rattle.std.proofs.lemmas.Bool.{lt-leb}
 use Rattle.std.proofs.lemmas.List.{append-nil}
-use Rattle.std.specs.Prelude.{Option, Some, None, ◌==◌, ◌&&◌, if◌then◌else◌, nat_le, ◌⊎◌, pos}
+use Rattle.std.specs.Prelude.{Some, ◌==◌, ◌&&◌, if◌then◌else◌, nat_le, pos}
 use Rattle.std.specs.Char.{digit_value}
 use Rattle.lp_tree.specs.declared.token.TokenKind.{TokenKind}
 use Rattle.lp_tree.specs.declared.token.TokenKind.TheVariants.{Int, Bad}
@@ -13,9 +13,8 @@ use Rattle.lp_tree.specs.declared.token.LexKind.TheVariants.{NumberTooLarge}
 use Rattle.lp_lexer.specs.declared.sign.Sign.{Sign}
 use Rattle.lp_lexer.specs.declared.sign.Letter.{Letter}
 use Rattle.lp_lexer.specs.Source.{Rest, rest, passed, skipped, first_of, code_at, front, past, end_of}
-use Rattle.lp_lexer.specs.Forms.{Letters, letters_of, with_letter, letter_at, escape, escaped, is_digit, number_after, integer}
+use Rattle.lp_lexer.specs.Forms.{letters_of, with_letter, letter_at, escape, escaped, is_digit, number_after, integer}
 use Rattle.lp_lexer.specs.Steps.{too_large}
-use Rattle.lp_lexer.proofs.Signs.{code_at-passed}
 
 -- the front of the signs that pass a test, one sign on and at its end
 pub front-more : (p : ℕ → Bool) (behind c : ℕ) (ss : List Sign) (r : Rest) → c ≡ code_at 0 ss → r ≡ passed behind ss → p 0 ≡ false → p c ≡ true → front p ss ≡ c ∷ front p r.left
@@ -76,12 +75,13 @@ letter-step : (behind m : ℕ) (s : Sign) (ss : List Sign) (new : Rest) → (s.c
     → (letters_of 0 behind (s ∷ ss) ≡ with_letter (letter_at (s ∷ ss)).code (letters_of 0 new.behind new.left)) × (length new.left < length (s ∷ ss))
 letter-step behind m s ss new q n z e =
     let t = letter_at (s ∷ ss) in
-    let k : t.size - 1 ≡ m = omega (arith, z) in
-    (ap (λ b. cond b (record { letters = []; closed = true; after = rest (end_of s) ss }) (if s.code == 10 then record { letters = []; closed = false; after = rest behind (s ∷ ss) } else with_letter t.code (letters_of (t.size - 1) (end_of s) ss))) (ne_eqb s.code 34 q)
-    ∙ ap (λ b. cond b (record { letters = []; closed = false; after = rest behind (s ∷ ss) }) (with_letter t.code (letters_of (t.size - 1) (end_of s) ss))) (ne_eqb s.code 10 n)
-    ∙ ap (λ i. with_letter t.code (letters_of i (end_of s) ss)) k
-    ∙ ap (with_letter t.code) (letters_of-skipped m (end_of s) ss ∙ ap (λ (r : Rest). letters_of 0 r.behind r.left) (sym e)),
-    (let h = length-skipped m (end_of s) ss in let g : length new.left ≡ length (skipped m (end_of s) ss).left = ap (λ (r : Rest). length r.left) e in omega (arith, h, g)))
+    let k : t.size - 1 ≡ m = omega (arith, z) in (
+      ap (λ b. cond b (record { letters = []; closed = true; after = rest (end_of s) ss }) (if s.code == 10 then record { letters = []; closed = false; after = rest behind (s ∷ ss) } else with_letter t.code (letters_of (t.size - 1) (end_of s) ss))) (ne_eqb s.code 34 q)
+          ∙ ap (λ b. cond b (record { letters = []; closed = false; after = rest behind (s ∷ ss) }) (with_letter t.code (letters_of (t.size - 1) (end_of s) ss))) (ne_eqb s.code 10 n)
+          ∙ ap (λ i. with_letter t.code (letters_of i (end_of s) ss)) k
+          ∙ ap (with_letter t.code) (letters_of-skipped m (end_of s) ss ∙ ap (λ (r : Rest). letters_of 0 r.behind r.left) (sym e)),
+      (let h = length-skipped m (end_of s) ss in let g : length new.left ≡ length (skipped m (end_of s) ss).left = ap (λ (r : Rest). length r.left) e in omega (arith, h, g)),
+    )
 
 pub text_letter : (behind : ℕ) (s : Sign) (ss : List Sign) (l : Letter) (new : Rest) → Some s ≡ first_of ss → (s.code ≡ 34 → ⊥) → (s.code ≡ 10 → ⊥) → l ≡ letter_at ss → new ≡ skipped l.size behind ss
     → (letters_of 0 behind ss ≡ with_letter l.code (letters_of 0 new.behind new.left)) × (length new.left < length ss)

@@ -1,8 +1,8 @@
 -- Signs of characters.
-use Rattle.std.proofs.Common.{◌≡◌, ℕ, zero, suc, ◌+◌, ◌<◌, ◌≤◌, Bool, true, false, cond, eqb, List, [], ◌∷◌, ◌++◌, length, refl, sym, ap, ◌∙◌, arith, ne_eqb, eq-eqb}
+use Rattle.std.proofs.Common.{◌≡◌, ℕ, zero, suc, ◌+◌, false, cond, List, [], ◌∷◌, refl, sym, ap, ◌∙◌, ne_eqb, eq-eqb}
 use Rattle.std.specs.Char.{len_utf8}
 use Rattle.lp_lexer.specs.declared.sign.Sign.{Sign}
-use Rattle.lp_lexer.specs.Source.{signs, joins, line_after, begins_join, Rest, passed, skipped, code_at}
+use Rattle.lp_lexer.specs.Source.{signs, line_after, begins_join, Rest, passed, skipped, code_at}
 
 -- what no join begins has a sign
 signs-plain : (at line c : ℕ) (ds : List ℕ) → begins_join (c ∷ ds) ≡ false → signs at line (c ∷ ds) ≡ record { code = c; at = at; line = line } ∷ signs (at + len_utf8 c) (line_after line c) ds

@@ -1,8 +1,7 @@
 -- The walk over a source.
-use Rattle.std.proofs.Common.{◌≡◌, ℕ, ◌+◌, ◌<◌, ◌≤◌, Bool, true, false, cond, List, [], ◌∷◌, ◌++◌, length, refl, sym, ap, subst, ◌∙◌, arith, ne_eqb, eq-eqb, inl, inr}
-use Rattle.std.specs.Prelude.{Option, Some, None, option_map, ◌==◌, ◌&&◌, ◌||◌, not, if◌then◌else◌, ◌⊎◌, Result, Ok, Err, Vec, IfOk, IfErr}
+use Rattle.std.proofs.Common.{◌≡◌, ℕ, ◌≤◌, Bool, true, false, cond, List, [], ◌∷◌, length, refl, sym, ap, ◌∙◌, arith, ne_eqb, inl, inr}
+use Rattle.std.specs.Prelude.{Some, None, option_map, ◌==◌, ◌&&◌, ◌⊎◌, Result, Ok, Err, Vec, IfOk, IfErr}
 use Rattle.std.specs.declared.alloc.Global.{Global}
-use Rattle.std.specs.Str.{IsUtf8}
 use Rattle.std.specs.Str.Lossy.{utf8_valid_len}
 use Rattle.std.proofs.lemmas.Str.{utf8_valid_len-IsUtf8}
 use Rattle.lp_tree.specs.declared.token.Token.{Token}
@@ -11,12 +10,8 @@ use Rattle.lp_tree.specs.declared.token.LexKind.TheVariants.{NotUtf8, OpenCommen
 use Rattle.lp_lexer.specs.declared.LexFault.{LexFault}
 use Rattle.lp_lexer.specs.declared.LexFault.TheVariants.{NoMemory, At}
 use Rattle.lp_lexer.specs.declared.sign.Sign.{Sign}
-use Rattle.lp_lexer.specs.declared.lexer.Lexer.{Lexer}
-use Rattle.lp_lexer.specs.declared.lexer.Step.{Step}
-use Rattle.lp_lexer.specs.declared.lexer.Step.TheVariants as step
-use Rattle.lp_lexer.specs.Source.{Rest, rest, first_of, code_at, characters, width}
-use Rattle.lp_lexer.specs.Lexis.{Place, begin, begin_of, is_blank, opens_line, opens_block, past_blank, past_line_comment, past_comment, past_token, comment_at, next_by, next, Reaches, here, more, ReachesEnd, ReachesOpenComment, IsWhole, IsOpenComment, IsLexed, IsFault}
-use Rattle.lp_lexer.specs.Walks.{IsStep}
+use Rattle.lp_lexer.specs.Source.{first_of, code_at, characters, width}
+use Rattle.lp_lexer.specs.Lexis.{Place, begin, is_blank, opens_line, opens_block, past_blank, past_line_comment, past_comment, past_token, comment_at, next_by, next, Reaches, here, more, ReachesEnd, ReachesOpenComment, IsWhole, IsOpenComment, IsLexed, IsFault}
 use Rattle.lp_lexer.specs.Answer.{IsLexFault, AreTokensUnlessMemory, IsFaultUnlessMemory}
 use Rattle.lp_lexer.proofs.Order.{open_within}
 
@@ -42,11 +37,12 @@ pub token_next : (p : Place) (s : Sign) → Some s ≡ first_of p.rest.left → 
 token_next p s f b o =
     let c = first_code s p.rest.left f in
     elim o [
-      inl w ↦
-        let e : (code_at 0 p.rest.left == 47) ≡ false = ne_eqb _ 47 (λ x. w (sym c ∙ x)) in
-        token_by p s s p.rest.left f b (ap (λ x. x && (code_at 1 p.rest.left == 47)) e) (ap (λ x. x && (code_at 1 p.rest.left == 42)) e)
-    | inr w ↦
-        token_by p s s p.rest.left f b (and_false (code_at 0 p.rest.left == 47) _ (ne_eqb _ 47 w.0)) (and_false (code_at 0 p.rest.left == 47) _ (ne_eqb _ 42 w.1)) ]
+      | inl w ↦
+          let e : (code_at 0 p.rest.left == 47) ≡ false = ne_eqb _ 47 (λ x. w (sym c ∙ x)) in
+          token_by p s s p.rest.left f b (ap (λ x. x && (code_at 1 p.rest.left == 47)) e) (ap (λ x. x && (code_at 1 p.rest.left == 42)) e)
+      | inr w ↦
+          token_by p s s p.rest.left f b (and_false (code_at 0 p.rest.left == 47) _ (ne_eqb _ 47 w.0)) (and_false (code_at 0 p.rest.left == 47) _ (ne_eqb _ 42 w.1))
+    ]
 
 -- the same walk from its begin on
 data From : Place → Place → Type 0 where

@@ -1,7 +1,6 @@
 -- Laws of the tokens of a source.
-use Rattle.std.specs.Prelude.{◌≡◌, ℕ, ◌+◌, ◌-◌, ◌<◌, ◌≤◌, List, [], ◌∷◌, Bool, true, false, Some, length, slice_index, ◌⊎◌}
+use Rattle.std.specs.Prelude.{◌≡◌, ℕ, ◌+◌, ◌<◌, ◌≤◌, List, [], ◌∷◌, true, Some, slice_index, ◌⊎◌}
 use Rattle.lp_tree.specs.declared.token.Token.{Token}
-use Rattle.lp_tree.specs.declared.token.LexKind.{LexKind}
 use Rattle.lp_lexer.specs.declared.sign.Sign.{Sign}
 use Rattle.lp_lexer.specs.Lexis.{Place, begin, next, Reaches, is_blank, opens_line, opens_block}
 

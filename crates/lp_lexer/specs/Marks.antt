@@ -1,5 +1,5 @@
 -- The marks and how they are spelled.
-use Rattle.std.specs.Prelude.{◌≡◌, ℕ, Option, Some, None, Bool, ◌==◌, ◌&&◌, if◌then◌else◌}
+use Rattle.std.specs.Prelude.{ℕ, Option, Some, None, ◌==◌, ◌&&◌, if◌then◌else◌}
 use Rattle.lp_tree.specs.declared.token.Mark.{Mark}
 use Rattle.lp_tree.specs.declared.token.Mark.TheVariants.{OpenParen, CloseParen, OpenBrace, CloseBrace, OpenBracket, CloseBracket, Comma, Semicolon, Colon, ColonColon, Dot, DotDot, Arrow, Question, Hash, Not, Flip, AndThen, OrElse, Binary, Step, Assign}
 use Rattle.lp_tree.specs.declared.operator.BinOp.TheVariants as ops

@@ -1,9 +1,9 @@
 -- What the lexer's functions do.
-use Rattle.std.specs.Prelude.{◌≡◌, ℕ, ◌<◌, List, [], ◌∷◌, Bool, true, false, length}
+use Rattle.std.specs.Prelude.{◌≡◌, ℕ, ◌<◌, [], true, false, length}
 use Rattle.lp_tree.specs.declared.token.TokenKind.{TokenKind}
 use Rattle.lp_lexer.specs.declared.forms.TextStep.{TextStep}
 use Rattle.lp_lexer.specs.declared.forms.TextStep.TheVariants as step
-use Rattle.lp_lexer.specs.Source.{Rest, rest}
+use Rattle.lp_lexer.specs.Source.{Rest}
 use Rattle.lp_lexer.specs.Forms.{Read, letters_of, with_letter}
 
 -- the least integer that is too large

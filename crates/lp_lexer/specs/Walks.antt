@@ -1,5 +1,5 @@
 -- What the walk over a source does.
-use Rattle.std.specs.Prelude.{◌≡◌, ℕ, List, [], ◌∷◌, Bool, Option, Some, None, ◌<◌, length}
+use Rattle.std.specs.Prelude.{◌≡◌, List, [], ◌∷◌, Bool, Option, Some, None}
 use Rattle.lp_lexer.specs.declared.sign.Sign.{Sign}
 use Rattle.lp_lexer.specs.declared.lexer.Lexer.{Lexer}
 use Rattle.lp_lexer.specs.declared.lexer.Step.{Step}

@@ -30,7 +30,11 @@ impl<'a> Model for Characters<'a> {
 fn stray_of(byte: u8) -> char
     ensures { result ≡ stray byte }
 {
-    if byte < 128 { char::from(byte) } else { '\u{7f}' }
+    if byte < 128 {
+        char::from(byte)
+    } else {
+        '\u{7f}'
+    }
 }
 
 /// The first character of a text, and what comes behind it.

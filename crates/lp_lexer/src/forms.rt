@@ -158,7 +158,10 @@ fn escape_of(c: char, h: char, k: char) -> Letter
     ensures { result ≡ escape c h k }
 {
     if c == '\n' {
-        Letter { code: '\\', size: 1 }
+        Letter {
+            code: '\\',
+            size: 1,
+        }
     } else if c == 'x' && is_digit(16, h) && is_digit(16, k) {
         let value = digit_of(h) * 16 + digit_of(k);
         Letter {

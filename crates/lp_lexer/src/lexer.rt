@@ -4,9 +4,9 @@ ghost use Rattle.lp_lexer.specs.Source.{most_bytes, past, width};
 ghost use Rattle.lp_lexer.specs.Lexis.{begin_of, is_blank as blank, comment, stays_on_line, past_token};
 ghost use Rattle.lp_lexer.specs.Walks.{place_of, IsStep, IsWalk, IsCommentOf};
 
+use crate::characters::Characters;
 use crate::cursor::Cursor;
 use crate::forms::read_token;
-use crate::characters::Characters;
 use crate::sign::Sign;
 use lp_tree::token::Token;
 use std::alloc::{AllocError, Global};

@@ -13,9 +13,9 @@ ghost use Rattle.lp_lexer.specs.Lexis.{IsLexed, IsFault};
 ghost use Rattle.lp_lexer.specs.Laws.{AreApart, IsAccounted};
 ghost use Rattle.lp_lexer.specs.Answer.{IsLexFault, AreTokensUnlessMemory, IsFaultUnlessMemory};
 
+mod characters;
 mod cursor;
 mod forms;
-mod characters;
 mod lexer;
 mod marks;
 pub mod sign;
@@ -44,6 +44,7 @@ pub enum LexFault {
 
 impl From<AllocError> for LexFault {
     ghost use Rattle.lp_lexer.specs.declared.LexFault.TheVariants.{NoMemory};
+
     ghost from_gives = { λ _ e. e ≡ NoMemory };
 
     fn from(_: AllocError) -> Self {
@@ -53,6 +54,7 @@ impl From<AllocError> for LexFault {
 
 impl<T: Drop> From<AllocFailed<T>> for LexFault {
     ghost use Rattle.lp_lexer.specs.declared.LexFault.TheVariants.{NoMemory};
+
     ghost from_gives = { λ _ e. e ≡ NoMemory };
 
     fn from(_: AllocFailed<T>) -> Self {
@@ -82,15 +84,13 @@ pub fn lex(alloc: Global, bytes: &[u8]) -> Result<Vec<Token>, LexFault>
 /// Law: tokens have bytes, and each begins no earlier than the one before it ends.
 pub fn law_apart()
     ensures { (bs : List ℕ) (ts : List Tok) → IsLexed bs ts → AreApart 0 ts (length bs) }
-{
-}
+{}
 
 /// Law: each byte of a file with tokens is of a token, a blank, a comment or a join.
 pub fn law_accounted()
     ensures { (bs : List ℕ) (ts : List Tok)
         → IsLexed bs ts → (k : ℕ) → k < length bs → IsAccounted bs ts k }
-{
-}
+{}
 
 /// The tokens of a file, or its first fault.
 fn answer(alloc: Global, bytes: &[u8]) -> Result<Vec<Token>, LexFault>

@@ -1,4 +1,4 @@
-use Rattle.std.proofs.Common.{◌≡◌, ◌+◌, ◌∙◌, sym, ap}
+use Rattle.std.proofs.Common.{◌+◌, ◌∙◌, sym, ap}
 use Rattle.lp_lexer.proofs.Signs.{next_plain, line_after-newline, line_after-other}
 use Rattle.lp_lexer.proofs.cursor.next_sign.Goals as goal
 

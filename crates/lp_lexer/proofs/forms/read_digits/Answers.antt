@@ -1,5 +1,4 @@
-use Rattle.std.proofs.Common.{◌≡◌, true, ◌∙◌, sym, ap, refl, min, arith}
-use Rattle.lp_lexer.specs.Source.{Rest, front, past}
+use Rattle.std.proofs.Common.{◌≡◌, true, ◌∙◌, sym, ap, min, arith}
 use Rattle.lp_lexer.specs.Forms.{is_digit, number_after}
 use Rattle.lp_lexer.specs.Steps.{too_large}
 use Rattle.lp_lexer.proofs.Reading.{front-more, front-end, past-more, past-end, no_digit, digit-step, integer-from_capped}
@@ -15,7 +14,8 @@ digits-preserved c =
     record {
       bound = omega (arith, c.with_digit-value.ensures);
       read = digit-step base c.digits.value c.with_digit-value.result code c.digit_of.result _ _ _ (omega arith) more c.digit_of.ensures.value c.with_digit-value.ensures c.digits.invariant.read;
-      left = sym (past-more (is_digit base) old.behind code old.left c.pass.new.self c.code-in-digits.ensures c.pass.ensures is) ∙ c.digits.invariant.left }
+      left = sym (past-more (is_digit base) old.behind code old.left c.pass.new.self c.code-in-digits.ensures c.pass.ensures is) ∙ c.digits.invariant.left;
+    }
 
 pub returns-clause-kind : goal.returns-clause-kind
 returns-clause-kind c =

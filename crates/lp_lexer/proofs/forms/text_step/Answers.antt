@@ -1,4 +1,4 @@
-use Rattle.std.proofs.Common.{◌∙◌, sym, rules}
+use Rattle.std.proofs.Common.{rules}
 use Rattle.lp_lexer.proofs.Reading.{text_letter}
 use Rattle.lp_lexer.proofs.forms.text_step.Goals as goal
 

@@ -10,7 +10,8 @@ pub returns : goal.returns
 returns c =
     let second = code_at 1 c.args.lexer.now.cursor.left in
     let o : (c.in-Some.sign.code ≡ 47 → ⊥) ⊎ ((second ≡ 47 → ⊥) × (second ≡ 42 → ⊥)) =
-        elim c.if-sign-eq47.branch [
-          then-sign-eq47+else-second-eq47+else-second-eq42 w ↦ inr ((λ e. w.if-second-eq47.false (w.codes-second.ensures.second ∙ e)), (λ e. w.if-second-eq42.false (w.codes-second.ensures.second ∙ e)))
-        | else-sign-eq47 w ↦ inl w.if-sign-eq47.false ] in
+    elim c.if-sign-eq47.branch [
+      | then-sign-eq47+else-second-eq47+else-second-eq42 w ↦ inr ((λ e. w.if-second-eq47.false (w.codes-second.ensures.second ∙ e)), (λ e. w.if-second-eq42.false (w.codes-second.ensures.second ∙ e)))
+      | else-sign-eq47 w ↦ inl w.if-sign-eq47.false
+    ] in
     token_next (place_of c.args.lexer.now) c.in-Some.sign (c.in-Some.ensures) (sym c.is_blank.ensures ∙ c.if-is_blank.false) o ∙ ap Some (sym c.in_ok-take_token.ensures)

@@ -1,5 +1,4 @@
-use Rattle.std.proofs.Common.{◌≡◌}
-use Rattle.lp_lexer.specs.Lexis.{here, more, Reaches}
+use Rattle.lp_lexer.specs.Lexis.{here, more}
 use Rattle.lp_lexer.specs.Walks.{place_of}
 use Rattle.lp_lexer.proofs.Advances.{next-shorter}
 use Rattle.lp_lexer.proofs.lexer.walk_over.Goals as goal

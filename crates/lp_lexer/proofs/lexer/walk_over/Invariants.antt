@@ -1,5 +1,5 @@
 use Rattle.std.proofs.Common.{length}
-use Rattle.lp_lexer.specs.Lexis.{begin_of, Reaches}
+use Rattle.lp_lexer.specs.Lexis.{Reaches}
 use Rattle.lp_lexer.specs.Walks.{place_of}
 use Rattle.lp_lexer.proofs.lexer.walk_over.Given as goal
 

@@ -1,6 +1,6 @@
-use Rattle.std.proofs.Common.{◌≡◌, ◌∙◌, sym, ap, length, [], rules, arith}
+use Rattle.std.proofs.Common.{◌∙◌, sym, arith}
 use Rattle.std.proofs.lemmas.Str.{utf8_valid_len-IsUtf8, utf8_valid_len_le}
-use Rattle.lp_lexer.proofs.Decoding.{characters-utf8, characters-split, width-source, width-utf8, utf8_whole}
+use Rattle.lp_lexer.proofs.Decoding.{characters-utf8, characters-split, width-source, width-utf8}
 use Rattle.lp_lexer.proofs.characters.Characters.new.Goals as goal
 
 pub returns-in-Ok-clause-all : goal.returns-in-Ok-clause-all

@@ -1,6 +1,6 @@
-use Rattle.std.proofs.Common.{◌≡◌, ℕ, suc, ◌+◌, ◌∙◌, ap, arith}
+use Rattle.std.proofs.Common.{◌≡◌, suc, ◌∙◌, ap, arith}
 use Rattle.lp_lexer.specs.Source.{skipped}
-use Rattle.lp_lexer.proofs.Signs.{skipped-passed, skipped-passed_by}
+use Rattle.lp_lexer.proofs.Signs.{skipped-passed_by}
 use Rattle.lp_lexer.proofs.cursor.Cursor.skip.Goals as goal
 
 pub loop-init : goal.loop-init
