@@ -63,7 +63,7 @@ mutual
         → Spells t ts (mark CloseParen l' ∷ rest) → Spells (Catch line t) (reserved words.Catch line ∷ mark OpenParen l ∷ ts) rest
     -- sscanf(assign, assign, place, place)
     sscanf : {line l l' : ℕ} {t f : Tree} {places : Trees} {ts us vs rest : List Seen}
-        → Spells t ts (mark Comma l' ∷ us) → 1 ≤ rank t → Spells f us vs → 1 ≤ rank f → SpellsPlaces places vs rest
+        → Spells t ts (mark Comma l' ∷ us) → 2 ≤ rank t → Spells f us vs → 2 ≤ rank f → SpellsPlaces places vs rest
         → Spells (Sscanf line t f places) (reserved words.Sscanf line ∷ mark OpenParen l ∷ ts) rest
     -- postfix [index]
     index : {t i : Tree} {e : Edge} {l l' : ℕ} {ts us vs rest : List Seen}
@@ -104,33 +104,33 @@ mutual
     -- place = assign
     assign : {p v : Tree} {op : AssignOp} {at : ℕ} {ts us rest : List Seen}
         → Spells p ts (mark (marks.Assign op) at ∷ us) → IsTrue (is_place p)
-        → Spells v us rest → 1 ≤ rank v → Spells (Assign (line_of p) op p v) ts rest
+        → Spells v us rest → 2 ≤ rank v → Spells (Assign (line_of p) op p v) ts rest
     -- assign, assign, assign
     sequence : {t : Tree} {parts : Trees} {l : ℕ} {ts us rest : List Seen}
-        → Spells t ts (mark Comma l ∷ us) → 1 ≤ rank t → SpellsParts parts us rest → Spells (Sequence (line_of t) (OneMore t parts)) ts rest
+        → Spells t ts (mark Comma l ∷ us) → 2 ≤ rank t → SpellsParts parts us rest → Spells (Sequence (line_of t) (OneMore t parts)) ts rest
 
   -- the parts of a sequence behind its first
   pub data SpellsParts : Trees → List Seen → List Seen → Type 0 where
-    final : {t : Tree} {ts rest : List Seen} → Spells t ts rest → 1 ≤ rank t → SpellsParts (OneMore t NoTree) ts rest
+    final : {t : Tree} {ts rest : List Seen} → Spells t ts rest → 2 ≤ rank t → SpellsParts (OneMore t NoTree) ts rest
     further : {t : Tree} {parts : Trees} {l : ℕ} {ts us rest : List Seen}
-        → Spells t ts (mark Comma l ∷ us) → 1 ≤ rank t → SpellsParts parts us rest → SpellsParts (OneMore t parts) ts rest
+        → Spells t ts (mark Comma l ∷ us) → 2 ≤ rank t → SpellsParts parts us rest → SpellsParts (OneMore t parts) ts rest
 
   -- items up to a closing mark, with that mark; a comma may stand behind the last
   pub data SpellsItems : Mark → Trees → List Seen → List Seen → Type 0 where
     none : {m : Mark} {l : ℕ} {rest : List Seen} → SpellsItems m NoTree (mark m l ∷ rest) rest
     last : {m : Mark} {t : Tree} {l : ℕ} {ts rest : List Seen}
-        → Spells t ts (mark m l ∷ rest) → 1 ≤ rank t → SpellsItems m (OneMore t NoTree) ts rest
+        → Spells t ts (mark m l ∷ rest) → 2 ≤ rank t → SpellsItems m (OneMore t NoTree) ts rest
     more : {m : Mark} {t : Tree} {us : Trees} {l : ℕ} {ts rest rest' : List Seen}
-        → Spells t ts (mark Comma l ∷ rest) → 1 ≤ rank t → SpellsItems m us rest rest' → SpellsItems m (OneMore t us) ts rest'
+        → Spells t ts (mark Comma l ∷ rest) → 2 ≤ rank t → SpellsItems m us rest rest' → SpellsItems m (OneMore t us) ts rest'
 
   -- pairs up to `]`, with that mark; a comma may stand behind the last
   pub data SpellsPairs : Pairs → List Seen → List Seen → Type 0 where
     no_pair : {l : ℕ} {rest : List Seen} → SpellsPairs NoPair (mark CloseBracket l ∷ rest) rest
     last_pair : {k v : Tree} {l l' : ℕ} {ts us rest : List Seen}
-        → Spells k ts (mark Colon l ∷ us) → 1 ≤ rank k → Spells v us (mark CloseBracket l' ∷ rest) → 1 ≤ rank v
+        → Spells k ts (mark Colon l ∷ us) → 2 ≤ rank k → Spells v us (mark CloseBracket l' ∷ rest) → 2 ≤ rank v
         → SpellsPairs (OnePair k v NoPair) ts rest
     more_pairs : {k v : Tree} {ps : Pairs} {l l' : ℕ} {ts us vs rest : List Seen}
-        → Spells k ts (mark Colon l ∷ us) → 1 ≤ rank k → Spells v us (mark Comma l' ∷ vs) → 1 ≤ rank v
+        → Spells k ts (mark Colon l ∷ us) → 2 ≤ rank k → Spells v us (mark Comma l' ∷ vs) → 2 ≤ rank v
         → SpellsPairs ps vs rest → SpellsPairs (OnePair k v ps) ts rest
 
   -- places, each behind a comma, up to `)`, with that mark; a comma may stand behind all

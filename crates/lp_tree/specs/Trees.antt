@@ -59,8 +59,8 @@ pairs [] = NoPair
 pairs (p ∷ ps) = OnePair p.0 p.1 (pairs ps)
 
 -- The levels of productions, the loosest first: 0 a sequence, 2 an assignment, 3 a conditional, 4 to 13 the binary
--- operators, 14 the prefix operators and casts, 15 all that stands by itself or is postfix. 1 is no level: a part of
--- which it is the least is anything but a sequence.
+-- operators, 14 the prefix operators and casts, 15 all that stands by itself or is postfix. No production has the
+-- level 1, which is the comma's own.
 abbrev pub level : BinOp → ℕ
 level ops.Or = 6
 level ops.Xor = 7

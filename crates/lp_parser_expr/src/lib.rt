@@ -1,0 +1,2 @@
+//! Expressions of LPC sources.
+#![tactic(auto)]
