@@ -1,0 +1,4 @@
+pub mod Settle
+pub mod Complete
+pub mod Sound
+pub mod Shallow
