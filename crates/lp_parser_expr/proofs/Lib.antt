@@ -2,3 +2,4 @@ pub mod Settle
 pub mod Complete
 pub mod Sound
 pub mod Shallow
+pub mod Viable
