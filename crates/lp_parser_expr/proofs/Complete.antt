@@ -26,7 +26,9 @@ use Rattle.lp_tree.specs.Seen.{word, text, integer, mark, reserved}
 use Rattle.lp_tree.specs.Types.{SpellsStars, none as no_star, one_more as one_star, SpellsType, typed}
 use Rattle.lp_tree.specs.Trees.{Tree, Int, Text, Name, Paren, Array, Mapping, Call, EfunCall, ParentCall, NamedParentCall, Catch, Sscanf, Index, Range, CallOther, PostStep, PreStep, Unary, Cast, Binary, AndThen, OrElse, Cond, Assign, Sequence, Trees, NoTree, OneMore, Pairs, NoPair, OnePair, End, Open, At, trees, pairs, level, rank, line_of, is_place, height, heights, pair_heights, end_height}
 use Rattle.lp_tree.specs.Expressions.{IsUnary, exclamation, tilde, minus, SpellsEdge, from_front, from_back, Spells, int, string, name, paren, array, mapping, call, efun_call, parent_call, named_parent_call, catch, sscanf, index, range, call_other, post_step, pre_step, unary, cast, binary, and_then, or_else, cond as conditional, assign, sequence, SpellsParts, final, further, SpellsItems, none, last, more, SpellsPairs, no_pair, last_pair, more_pairs, SpellsPlaces, no_place, comma_last, one_place, SpellsEnd, missing, given}
-use Rattle.lp_parser_expr.specs.Machine.{Callee, Function, Efun, Parent, NamedParent, Other, called, Infix, Plain, And, Or, infix_level, infix_mark, infix_tree, Frame, Alone, InParen, InArray, AtKey, AtValue, InArgs, InCatch, ScanText, ScanForm, ScanPlaces, InIndex, InRange, Stepping, UnaryOf, Casting, LeftOf, Testing, Choosing, Assigning, InSequence, Stack, wants, wants_of, needs, needs_of, plug, Held, settle, State, Need, Have, EndCast, EndLiteral, NeedName, NeedParen, binds_mark, binds, empty_paren, empty_brace, empty_bracket, opened_brace, opened_bracket, begun_range, counted_back, prefixed, stepping, begun_cast, begin_base, begin_op, begin_mark, begin_word, begin, infixed, tested, assigned_to, assigned, stepped, opened, scoped, scanned, closed, ended_brace, ended_bracket, after_dots, after_colon, next_place, begun_sequence, after_comma, act_mark, act, act_held, end_cast, end_literal, need_name, need_paren, step, whole, whole_held, finished, run, walk}
+use Rattle.lp_parser_expr.specs.Machine.{Callee, Function, Efun, Parent, NamedParent, Other, called, infix_level, infix_mark, infix_tree, Frame, Alone, InParen, InArray, AtKey, AtValue, InArgs, InCatch, ScanText, ScanForm, ScanPlaces, InIndex, InRange, Stepping, UnaryOf, Casting, LeftOf, Testing, Choosing, Assigning, InSequence, Stack, wants, wants_of, needs, needs_of, plug, Held, settle, State, Need, Have, EndCast, EndLiteral, NeedName, NeedParen, binds_mark, binds, empty_paren, empty_brace, empty_bracket, opened_brace, opened_bracket, begun_range, counted_back, prefixed, stepping, begun_cast, begin_base, begin_op, begin_mark, begin_word, begin, infixed, tested, assigned_to, assigned, stepped, opened, scoped, scanned, closed, ended_brace, ended_bracket, after_dots, after_colon, next_place, begun_sequence, after_comma, act_mark, act, act_held, end_cast, end_literal, need_name, need_paren, step, whole, whole_held, finished, run, walk}
+use Rattle.lp_parser_expr.specs.declared.infix.Infix.{Infix}
+use Rattle.lp_parser_expr.specs.declared.infix.Infix.TheVariants.{Plain, And, Or}
 use Rattle.lp_parser_expr.proofs.Settle.{held, follow, settle-stays, run-ends, step-stays, run-stays, reach, level-least, level≤13, infix-least, infix≤13, rank≤reach, left<reach, postfix-reach, 0<reach, place-rank, needs≤wants, wants-most, needs-most, called-rank, infix-rank, if-true}
 
 -- items in front of items
@@ -71,7 +73,7 @@ prefix_begins exclamation line s h = if-le (wants_of s) 14 _ _ h
 prefix_begins tilde line s h = if-le (wants_of s) 14 _ _ h
 prefix_begins minus line s h = if-le (wants_of s) 14 _ _ h
 
-pub sequence_begins : (t : Tree) (s : Stack) → wants_of s ≤ 0 → after_comma t s ≡ Some (Need (InSequence t [] ∷ s))
+pub sequence_begins : (t : Tree) (s : Stack) → wants_of s ≤ 0 → after_comma t s ≡ Some (Need (InSequence (line_of t) (t ∷ []) ∷ s))
 sequence_begins t [] h = refl
 sequence_begins t (InParen line ∷ s) h = refl
 sequence_begins t (InCatch line ∷ s) h = refl
@@ -240,19 +242,19 @@ module _ {X : Type 0} (R : State → List Seen → X) (m : IsReader R) where
       ∙ m.ends v (Assign (line_of p) op p v) (Assigning op p) s rest f refl
     complete (sequence {t} {l} {us} d h1 g) s h f =
       complete d s (omega arith) (omega (arith, rank≤reach t))
-      ∙ have t s (mark Comma l) (Need (InSequence t [] ∷ s)) us (omega (arith, needs≤wants s)) (sequence_begins t s h)
-      ∙ complete_parts g t [] s f
+      ∙ have t s (mark Comma l) (Need (InSequence (line_of t) (t ∷ []) ∷ s)) us (omega (arith, needs≤wants s)) (sequence_begins t s h)
+      ∙ complete_parts g (line_of t) (t ∷ []) s f
 
-    complete_parts : {us : Trees} {ts rest : List Seen} → SpellsParts us ts rest → (first : Tree) (done : List Tree) (s : Stack) → follow rest < 1 → R (Need (InSequence first done ∷ s)) ts ≡ R (Have (Sequence (line_of first) (OneMore first (joined done us))) s) rest
-    complete_parts (final {t} {rest} d h) first done s f =
-      complete d (InSequence first done ∷ s) h (omega (arith, 0<reach t))
-      ∙ m.ends t (Sequence (line_of first) (OneMore first (trees (done ++ t ∷ [])))) (InSequence first done) s rest f refl
-      ∙ ap (λ us. R (Have (Sequence (line_of first) (OneMore first us)) s) rest) (joined-last done t)
-    complete_parts {rest} (further {t} {parts} {l} {us} d h g) first done s f =
-      complete d (InSequence first done ∷ s) h (omega (arith, rank≤reach t))
-      ∙ have t (InSequence first done ∷ s) (mark Comma l) (Need (InSequence first (done ++ t ∷ []) ∷ s)) us (omega arith) refl
-      ∙ complete_parts g first (done ++ t ∷ []) s f
-      ∙ ap (λ us. R (Have (Sequence (line_of first) (OneMore first us)) s) rest) (joined-more done t parts)
+    complete_parts : {us : Trees} {ts rest : List Seen} → SpellsParts us ts rest → (line : ℕ) (done : List Tree) (s : Stack) → follow rest < 1 → R (Need (InSequence line done ∷ s)) ts ≡ R (Have (Sequence line (joined done us)) s) rest
+    complete_parts (final {t} {rest} d h) line done s f =
+      complete d (InSequence line done ∷ s) h (omega (arith, 0<reach t))
+      ∙ m.ends t (Sequence line (trees (done ++ t ∷ []))) (InSequence line done) s rest f refl
+      ∙ ap (λ us. R (Have (Sequence line us) s) rest) (joined-last done t)
+    complete_parts {rest} (further {t} {parts} {l} {us} d h g) line done s f =
+      complete d (InSequence line done ∷ s) h (omega (arith, rank≤reach t))
+      ∙ have t (InSequence line done ∷ s) (mark Comma l) (Need (InSequence line (done ++ t ∷ []) ∷ s)) us (omega arith) refl
+      ∙ complete_parts g line (done ++ t ∷ []) s f
+      ∙ ap (λ us. R (Have (Sequence line us) s) rest) (joined-more done t parts)
 
     complete_args : {us : Trees} {ts rest : List Seen} → SpellsItems CloseParen us ts rest → (c : Callee) (w : List ℕ) (done : List Tree) (s : Stack) → R (Need (InArgs c w done ∷ s)) ts ≡ R (Have (called c w (joined done us)) s) rest
     complete_args (none {l} {rest}) c w done s =

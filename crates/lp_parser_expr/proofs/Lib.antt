@@ -3,3 +3,5 @@ pub mod Complete
 pub mod Sound
 pub mod Shallow
 pub mod Viable
+pub mod Lists
+pub mod Nodes

@@ -26,7 +26,9 @@ use Rattle.lp_tree.specs.Seen.{word, text, integer, mark, reserved}
 use Rattle.lp_tree.specs.Types.{SpellsStars, none as no_star, one_more as one_star, SpellsType, typed}
 use Rattle.lp_tree.specs.Trees.{Tree, Int, Text, Name, Paren, Array, Mapping, Call, EfunCall, ParentCall, NamedParentCall, Catch, Sscanf, Index, Range, CallOther, PostStep, PreStep, Unary, Cast, Binary, AndThen, OrElse, Cond, Assign, Sequence, Trees, NoTree, OneMore, Pairs, NoPair, OnePair, End, Open, At, trees, pairs, level, rank, line_of, is_place, height, heights, pair_heights, end_height}
 use Rattle.lp_tree.specs.Expressions.{IsUnary, exclamation, tilde, minus, SpellsEdge, from_front, from_back, Spells, int, string, name, paren, array, mapping, call, efun_call, parent_call, named_parent_call, catch, sscanf, index, range, call_other, post_step, pre_step, unary, cast, binary, and_then, or_else, cond as conditional, assign, sequence, SpellsParts, final, further, SpellsItems, none, last, more, SpellsPairs, no_pair, last_pair, more_pairs, SpellsPlaces, no_place, comma_last, one_place, SpellsEnd, missing, given}
-use Rattle.lp_parser_expr.specs.Machine.{Callee, Function, Efun, Parent, NamedParent, Other, called, Infix, Plain, And, Or, infix_level, infix_mark, infix_tree, Frame, Alone, InParen, InArray, AtKey, AtValue, InArgs, InCatch, ScanText, ScanForm, ScanPlaces, InIndex, InRange, Stepping, UnaryOf, Casting, LeftOf, Testing, Choosing, Assigning, InSequence, Stack, wants, wants_of, needs, needs_of, plug, Held, settle, State, Need, Have, EndCast, EndLiteral, NeedName, NeedParen, binds_mark, binds, empty_paren, empty_brace, empty_bracket, opened_brace, opened_bracket, begun_range, counted_back, prefixed, stepping, begun_cast, begin_base, begin_op, begin_mark, begin_word, begin, infixed, tested, assigned_to, assigned, stepped, opened, scoped, scanned, closed, ended_brace, ended_bracket, after_dots, after_colon, next_place, begun_sequence, after_comma, act_mark, act, act_held, end_cast, end_literal, need_name, need_paren, step, whole, whole_held, finished, run, walk}
+use Rattle.lp_parser_expr.specs.Machine.{Callee, Function, Efun, Parent, NamedParent, Other, called, infix_level, infix_mark, infix_tree, Frame, Alone, InParen, InArray, AtKey, AtValue, InArgs, InCatch, ScanText, ScanForm, ScanPlaces, InIndex, InRange, Stepping, UnaryOf, Casting, LeftOf, Testing, Choosing, Assigning, InSequence, Stack, wants, wants_of, needs, needs_of, plug, Held, settle, State, Need, Have, EndCast, EndLiteral, NeedName, NeedParen, binds_mark, binds, empty_paren, empty_brace, empty_bracket, opened_brace, opened_bracket, begun_range, counted_back, prefixed, stepping, begun_cast, begin_base, begin_op, begin_mark, begin_word, begin, infixed, tested, assigned_to, assigned, stepped, opened, scoped, scanned, closed, ended_brace, ended_bracket, after_dots, after_colon, next_place, begun_sequence, after_comma, act_mark, act, act_held, end_cast, end_literal, need_name, need_paren, step, whole, whole_held, finished, run, walk}
+use Rattle.lp_parser_expr.specs.declared.infix.Infix.{Infix}
+use Rattle.lp_parser_expr.specs.declared.infix.Infix.TheVariants.{Plain, And, Or}
 
 abbrev pub held : Tree → Stack → Held
 held t s = record { tree = t; stack = s }

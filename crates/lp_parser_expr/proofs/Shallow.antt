@@ -26,7 +26,9 @@ use Rattle.lp_tree.specs.Seen.{word, text, integer, mark, reserved}
 use Rattle.lp_tree.specs.Types.{SpellsStars, none as no_star, one_more as one_star, SpellsType, typed}
 use Rattle.lp_tree.specs.Trees.{Tree, Int, Text, Name, Paren, Array, Mapping, Call, EfunCall, ParentCall, NamedParentCall, Catch, Sscanf, Index, Range, CallOther, PostStep, PreStep, Unary, Cast, Binary, AndThen, OrElse, Cond, Assign, Sequence, Trees, NoTree, OneMore, Pairs, NoPair, OnePair, End, Open, At, trees, pairs, level, rank, line_of, is_place, height, heights, pair_heights, end_height}
 use Rattle.lp_tree.specs.Expressions.{IsUnary, exclamation, tilde, minus, SpellsEdge, from_front, from_back, Spells, int, string, name, paren, array, mapping, call, efun_call, parent_call, named_parent_call, catch, sscanf, index, range, call_other, post_step, pre_step, unary, cast, binary, and_then, or_else, cond as conditional, assign, sequence, SpellsParts, final, further, SpellsItems, none, last, more, SpellsPairs, no_pair, last_pair, more_pairs, SpellsPlaces, no_place, comma_last, one_place, SpellsEnd, missing, given}
-use Rattle.lp_parser_expr.specs.Machine.{Callee, Function, Efun, Parent, NamedParent, Other, called, Infix, Plain, And, Or, infix_level, infix_mark, infix_tree, Frame, Alone, InParen, InArray, AtKey, AtValue, InArgs, InCatch, ScanText, ScanForm, ScanPlaces, InIndex, InRange, Stepping, UnaryOf, Casting, LeftOf, Testing, Choosing, Assigning, InSequence, Stack, wants, wants_of, needs, needs_of, plug, Held, settle, State, Need, Have, EndCast, EndLiteral, NeedName, NeedParen, binds_mark, binds, empty_paren, empty_brace, empty_bracket, opened_brace, opened_bracket, begun_range, counted_back, prefixed, stepping, begun_cast, begin_base, begin_op, begin_mark, begin_word, begin, infixed, tested, assigned_to, assigned, stepped, opened, scoped, scanned, closed, ended_brace, ended_bracket, after_dots, after_colon, next_place, begun_sequence, after_comma, act_mark, act, act_held, end_cast, end_literal, need_name, need_paren, step, whole, whole_held, finished, run, walk}
+use Rattle.lp_parser_expr.specs.Machine.{Callee, Function, Efun, Parent, NamedParent, Other, called, infix_level, infix_mark, infix_tree, Frame, Alone, InParen, InArray, AtKey, AtValue, InArgs, InCatch, ScanText, ScanForm, ScanPlaces, InIndex, InRange, Stepping, UnaryOf, Casting, LeftOf, Testing, Choosing, Assigning, InSequence, Stack, wants, wants_of, needs, needs_of, plug, Held, settle, State, Need, Have, EndCast, EndLiteral, NeedName, NeedParen, binds_mark, binds, empty_paren, empty_brace, empty_bracket, opened_brace, opened_bracket, begun_range, counted_back, prefixed, stepping, begun_cast, begin_base, begin_op, begin_mark, begin_word, begin, infixed, tested, assigned_to, assigned, stepped, opened, scoped, scanned, closed, ended_brace, ended_bracket, after_dots, after_colon, next_place, begun_sequence, after_comma, act_mark, act, act_held, end_cast, end_literal, need_name, need_paren, step, whole, whole_held, finished, run, walk}
+use Rattle.lp_parser_expr.specs.declared.infix.Infix.{Infix}
+use Rattle.lp_parser_expr.specs.declared.infix.Infix.TheVariants.{Plain, And, Or}
 use Rattle.lp_parser_expr.specs.Depth.{tallest, tallest_pair, callee_height, as_place, makes, up, total, least_need, least}
 use Rattle.lp_parser_expr.proofs.Settle.{held}
 
@@ -119,8 +121,8 @@ step-levels : (p : ℕ) (s : Stack) (line : ℕ) (u : Step) (t : Tree) (b : Bool
 step-levels p s line u t true ih = ih (PreStep line u t)
 step-levels p s line u t false ih = tt
 
-sequence-levels : (first : Tree) (done : List Tree) (t : Tree) → height (Sequence (line_of first) (OneMore first (trees (done ++ t ∷ [])))) ≡ suc (max (height first) (max (tallest done) (height t)))
-sequence-levels first done t = omega (arith, heights-trees (done ++ t ∷ []), tallest-push done t)
+sequence-levels : (line : ℕ) (done : List Tree) (t : Tree) → height (Sequence line (trees (done ++ t ∷ []))) ≡ suc (max (tallest done) (height t))
+sequence-levels line done t = omega (arith, heights-trees (done ++ t ∷ []), tallest-push done t)
 
 settle-if : (p : ℕ) (t : Tree) (f : Frame) (s : Stack) (b : Bool) → nat_le (needs f) p ≡ b → Settling p s → HasLevels (cond b (Some (held t (f ∷ s))) (option_and_then (λ v. settle p v s) (plug f t))) (total (f ∷ s) (is_place t) (height t))
 settle-if p t f s true e ih = refl
@@ -132,9 +134,9 @@ settle-if p t (LeftOf And l) s false e ih = ih (AndThen (line_of l) l t)
 settle-if p t (LeftOf Or l) s false e ih = ih (OrElse (line_of l) l t)
 settle-if p t (Choosing c y) s false e ih = ih (Cond (line_of c) c y t)
 settle-if p t (Assigning op q) s false e ih = ih (Assign (line_of q) op q t)
-settle-if p t (InSequence c done) s false e ih =
-  let u = Sequence (line_of c) (OneMore c (trees (done ++ t ∷ []))) in
-  levels-as (settle p u s) _ _ (ap (total s false) (sequence-levels c done t)) (ih u)
+settle-if p t (InSequence line done) s false e ih =
+  let u = Sequence line (trees (done ++ t ∷ [])) in
+  levels-as (settle p u s) _ _ (ap (total s false) (sequence-levels line done t)) (ih u)
 settle-if p t f s false e ih = absurd (omega (arith, leb-false 0 p e))
 
 pub settle-levels : (p : ℕ) (s : Stack) (t : Tree) → HasLevels (settle p t s) (total s (is_place t) (height t))
@@ -273,7 +275,7 @@ colon-grows t (AtKey line done ∷ s) = total-le s _ _ _ _ tt (omega arith)
 colon-grows t _ = tt
 
 sequence-grows : (t : Tree) (s : Stack) → Grows (levels_on t s) (begun_sequence t s)
-sequence-grows t s = grow-if (nat_le (wants_of s) 0) _ (Need (InSequence t [] ∷ s)) (total-le s _ _ _ _ (any-no-better (is_place t)) (omega arith))
+sequence-grows t s = grow-if (nat_le (wants_of s) 0) _ (Need (InSequence (line_of t) (t ∷ []) ∷ s)) (total-le s _ _ _ _ (any-no-better (is_place t)) (omega arith))
 
 comma-grows : (t : Tree) (s : Stack) → Grows (levels_on t s) (after_comma t s)
 comma-grows t (InArray line done ∷ s) = total-le s _ _ _ _ tt (omega (arith, tallest-push done t))
@@ -282,7 +284,7 @@ comma-grows t (InArgs c w done ∷ s) = total-le s _ _ _ _ tt (omega (arith, tal
 comma-grows t (ScanText line ∷ s) = total-le s _ _ _ _ tt (omega arith)
 comma-grows t (ScanForm line text ∷ s) = total-le s _ _ _ _ tt (omega arith)
 comma-grows t (ScanPlaces line text form done ∷ s) = place-grows line text form done t s (is_place t)
-comma-grows t (InSequence first done ∷ s) = total-le s _ _ _ _ tt (omega (arith, tallest-push done t))
+comma-grows t (InSequence line done ∷ s) = total-le s _ _ _ _ tt (omega (arith, tallest-push done t))
 comma-grows t s = sequence-grows t s
 
 opened-grows : (t : Tree) (s : Stack) → Grows (levels_on t s) (opened t s)

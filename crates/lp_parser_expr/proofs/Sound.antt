@@ -26,7 +26,9 @@ use Rattle.lp_tree.specs.Seen.{word, text, integer, mark, reserved}
 use Rattle.lp_tree.specs.Types.{SpellsStars, none as no_star, one_more as one_star, SpellsType, typed}
 use Rattle.lp_tree.specs.Trees.{Tree, Int, Text, Name, Paren, Array, Mapping, Call, EfunCall, ParentCall, NamedParentCall, Catch, Sscanf, Index, Range, CallOther, PostStep, PreStep, Unary, Cast, Binary, AndThen, OrElse, Cond, Assign, Sequence, Trees, NoTree, OneMore, Pairs, NoPair, OnePair, End, Open, At, trees, pairs, level, rank, line_of, is_place, height, heights, pair_heights, end_height}
 use Rattle.lp_tree.specs.Expressions.{IsUnary, exclamation, tilde, minus, SpellsEdge, from_front, from_back, Spells, int, string, name, paren, array, mapping, call, efun_call, parent_call, named_parent_call, catch, sscanf, index, range, call_other, post_step, pre_step, unary, cast, binary, and_then, or_else, cond as conditional, assign, sequence, SpellsParts, final, further, SpellsItems, none, last, more, SpellsPairs, no_pair, last_pair, more_pairs, SpellsPlaces, no_place, comma_last, one_place, SpellsEnd, missing, given}
-use Rattle.lp_parser_expr.specs.Machine.{Callee, Function, Efun, Parent, NamedParent, Other, called, Infix, Plain, And, Or, infix_level, infix_mark, infix_tree, Frame, Alone, InParen, InArray, AtKey, AtValue, InArgs, InCatch, ScanText, ScanForm, ScanPlaces, InIndex, InRange, Stepping, UnaryOf, Casting, LeftOf, Testing, Choosing, Assigning, InSequence, Stack, wants, wants_of, needs, needs_of, plug, Held, settle, State, Need, Have, EndCast, EndLiteral, NeedName, NeedParen, binds_mark, binds, empty_paren, empty_brace, empty_bracket, opened_brace, opened_bracket, begun_range, counted_back, prefixed, stepping, begun_cast, begin_base, begin_op, begin_mark, begin_word, begin, infixed, tested, assigned_to, assigned, stepped, opened, scoped, scanned, closed, ended_brace, ended_bracket, after_dots, after_colon, next_place, begun_sequence, after_comma, act_mark, act, act_held, end_cast, end_literal, need_name, need_paren, step, whole, whole_held, finished, run, walk}
+use Rattle.lp_parser_expr.specs.Machine.{Callee, Function, Efun, Parent, NamedParent, Other, called, infix_level, infix_mark, infix_tree, Frame, Alone, InParen, InArray, AtKey, AtValue, InArgs, InCatch, ScanText, ScanForm, ScanPlaces, InIndex, InRange, Stepping, UnaryOf, Casting, LeftOf, Testing, Choosing, Assigning, InSequence, Stack, wants, wants_of, needs, needs_of, plug, Held, settle, State, Need, Have, EndCast, EndLiteral, NeedName, NeedParen, binds_mark, binds, empty_paren, empty_brace, empty_bracket, opened_brace, opened_bracket, begun_range, counted_back, prefixed, stepping, begun_cast, begin_base, begin_op, begin_mark, begin_word, begin, infixed, tested, assigned_to, assigned, stepped, opened, scoped, scanned, closed, ended_brace, ended_bracket, after_dots, after_colon, next_place, begun_sequence, after_comma, act_mark, act, act_held, end_cast, end_literal, need_name, need_paren, step, whole, whole_held, finished, run, walk}
+use Rattle.lp_parser_expr.specs.declared.infix.Infix.{Infix}
+use Rattle.lp_parser_expr.specs.declared.infix.Infix.TheVariants.{Plain, And, Or}
 use Rattle.lp_parser_expr.proofs.Settle.{held, follow, settle-stays, run-ends, step-stays, run-stays, reach, level-least, level≤13, infix-least, infix≤13, rank≤reach, left<reach, postfix-reach, 0<reach, place-rank, needs≤wants, wants-most, needs-most, called-rank, infix-rank, if-true}
 use Rattle.std.proofs.lemmas.Slice.Eq.{bytes_eq-Decides}
 use Rattle.lp_parser_expr.proofs.Complete.{joined, joined-none, joined-last, pairs_joined, pairs_joined-none, pairs_joined-last}
@@ -108,7 +110,7 @@ pub data Opened : ℕ → Stack → List Seen → List Seen → Type 0 where
   assigning : {g : ℕ} {s : Stack} {p : Tree} {op : AssignOp} {at : ℕ} {ts us rest : List Seen}
     → Opened g s ts us → wants_of s ≤ 2 → Spells p us (mark (marks.Assign op) at ∷ rest) → IsTrue (is_place p) → Opened g (Assigning op p ∷ s) ts rest
   in_sequence : {g : ℕ} {s : Stack} {t : Tree} {done : List Tree} {l : ℕ} {ts us vs rest : List Seen}
-    → Opened g s ts us → wants_of s ≤ 0 → Spells t us (mark Comma l ∷ vs) → 2 ≤ rank t → Done done vs rest → Opened g (InSequence t done ∷ s) ts rest
+    → Opened g s ts us → wants_of s ≤ 0 → Spells t us (mark Comma l ∷ vs) → 2 ≤ rank t → Done done vs rest → Opened g (InSequence (line_of t) (t ∷ done) ∷ s) ts rest
 
 -- a literal of which only its last parenthesis is missing
 pub data Closes : Tree → List Seen → List Seen → Type 0 where
@@ -162,7 +164,7 @@ settled_if g p t (Casting line ty) s false e ts us rest ih (casting o w n) d h k
 settled_if g p t (LeftOf op l) s false e ts us rest ih (left_of o n d0 r) d h k = ih (infix_tree op l t) _ o (infix_spelled op d0 r d h) (omega (arith, infix-rank op l t)) (omega (arith, infix-rank op l t, leb-false (suc (infix_level op)) p e))
 settled_if g p t (Choosing c y) s false e ts us rest ih (choosing o n d0 r d1) d h k = ih (Cond (line_of c) c y t) _ o (conditional d0 r d1 d h) n (omega (arith, leb-false 3 p e))
 settled_if g p t (Assigning op q) s false e ts us rest ih (assigning o n d0 r) d h k = ih (Assign (line_of q) op q t) _ o (assign d0 r d h) n (omega (arith, leb-false 2 p e))
-settled_if g p t (InSequence c done) s false e ts us rest ih (in_sequence o n d0 r a) d h k = ih (Sequence (line_of c) (OneMore c (trees (done ++ t ∷ [])))) _ o (sequence d0 r (parts_as (sym (joined-last done t)) (parts_spelled a (final d h)))) n (omega (arith, leb-false 1 p e))
+settled_if g p t (InSequence line done) s false e ts us rest ih (in_sequence {t = c} {done = ds} o n d0 r a) d h k = ih (Sequence (line_of c) (OneMore c (trees (ds ++ t ∷ [])))) _ o (sequence d0 r (parts_as (sym (joined-last ds t)) (parts_spelled a (final d h)))) n (omega (arith, leb-false 1 p e))
 settled_if g p t f s false e ts us rest ih o d h k = absurd (omega (arith, leb-false 0 p e))
 
 -- Ending productions keeps what was read.
@@ -347,8 +349,8 @@ comma_read t (InArgs c w done ∷ s) ts rest (in_args o n e) d h = needs_more (i
 comma_read t (ScanText at ∷ s) ts rest (scan_text o) d h = needs_more (scan_form o d h)
 comma_read t (ScanForm at text ∷ s) ts rest (scan_form o d0 h0) d h = needs_more (scan_places o d0 h0 d h no_places)
 comma_read {g} t (ScanPlaces at text form done ∷ s) ts rest (scan_places o d0 h0 d1 h1 a) d h = read-if g (is_place t) (Need (ScanPlaces at text form (done ++ t ∷ []) ∷ s)) ts rest (λ w. needs_more (scan_places o d0 h0 d1 h1 (place_more a d w)))
-comma_read t (InSequence first done ∷ s) ts rest (in_sequence o n d0 h0 a) d h = needs_more (in_sequence o n d0 h0 (one_more a d h))
-comma_read {g} t s ts rest o d h = read-if g (nat_le (wants_of s) 0) (Need (InSequence t [] ∷ s)) ts rest (λ w. needs_more (in_sequence o (leb-true (wants_of s) 0 w) d h nothing))
+comma_read t (InSequence at done ∷ s) ts rest (in_sequence o n d0 h0 a) d h = needs_more (in_sequence o n d0 h0 (one_more a d h))
+comma_read {g} t s ts rest o d h = read-if g (nat_le (wants_of s) 0) (Need (InSequence (line_of t) (t ∷ []) ∷ s)) ts rest (λ w. needs_more (in_sequence o (leb-true (wants_of s) 0 w) d h nothing))
 
 binds-most : (m : Mark) → binds_mark m ≤ 15
 binds-most (marks.Binary op) = omega (arith, level≤13 op)

@@ -41,7 +41,7 @@ up (LeftOf op l) b h = suc (max (height l) h)
 up (Testing t) b h = suc (max (height t) (max h 1))
 up (Choosing t y) b h = suc (max (height t) (max (height y) h))
 up (Assigning op p) b h = suc (max (height p) h)
-up (InSequence t done) b h = suc (max (height t) (max (tallest done) h))
+up (InSequence line done) b h = suc (max (tallest done) h)
 
 -- whether a production is a place
 abbrev pub makes : Frame → Bool

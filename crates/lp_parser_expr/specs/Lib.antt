@@ -1,2 +1,4 @@
 pub mod Machine
 pub mod Depth
+pub mod Capped
+pub mod View

@@ -18,6 +18,8 @@ use Rattle.lp_tree.specs.declared.token.Mark.TheVariants.{OpenParen, CloseParen,
 use Rattle.lp_tree.specs.declared.seen.Sort.{Sort}
 use Rattle.lp_tree.specs.declared.seen.Sort.TheVariants as sorts
 use Rattle.lp_tree.specs.declared.seen.Seen.{Seen}
+use Rattle.lp_parser_expr.specs.declared.infix.Infix.{Infix}
+use Rattle.lp_parser_expr.specs.declared.infix.Infix.TheVariants.{Plain, And, Or}
 use Rattle.lp_tree.specs.Trees.{Tree, Int, Text, Name, Paren, Array, Mapping, Call, EfunCall, ParentCall, NamedParentCall, Catch, Sscanf, Index, Range, CallOther, PostStep, PreStep, Unary, Cast, Binary, AndThen, OrElse, Cond, Assign, Sequence, Trees, NoTree, OneMore, End, Open, At, trees, pairs, level, line_of, is_place}
 
 -- whose function a call names, and the line of its first token
@@ -36,12 +38,7 @@ called (Parent line) w args = ParentCall line w args
 called (NamedParent line p) w args = NamedParentCall line p w args
 called (Other of) w args = CallOther (line_of of) of w args
 
--- an operator between two operands
-pub data Infix : Type 0 where
-  Plain : (op : BinOp) → Infix
-  And : Infix
-  Or : Infix
-
+-- the level of an operator between two operands
 abbrev pub infix_level : Infix → ℕ
 infix_level (Plain op) = level op
 infix_level And = 5
@@ -79,7 +76,7 @@ pub data Frame : Type 0 where
   Testing : (test : Tree) → Frame
   Choosing : (test yes : Tree) → Frame
   Assigning : (op : AssignOp) (place : Tree) → Frame
-  InSequence : (first : Tree) (done : List Tree) → Frame
+  InSequence : (line : ℕ) (done : List Tree) → Frame
 
 -- the open productions, the innermost first
 abbrev pub Stack : Type 0
@@ -112,7 +109,7 @@ needs (Casting line ty) = 14
 needs (LeftOf op l) = suc (infix_level op)
 needs (Choosing t y) = 3
 needs (Assigning op p) = 2
-needs (InSequence t done) = 1
+needs (InSequence line done) = 1
 needs _ = 0
 
 abbrev pub needs_of : Stack → ℕ
@@ -127,7 +124,7 @@ plug (Casting line ty) t = Some (Cast line ty t)
 plug (LeftOf op l) t = Some (infix_tree op l t)
 plug (Choosing c y) t = Some (Cond (line_of c) c y t)
 plug (Assigning op p) t = Some (Assign (line_of p) op p t)
-plug (InSequence first done) t = Some (Sequence (line_of first) (OneMore first (trees (done ++ t ∷ []))))
+plug (InSequence line done) t = Some (Sequence line (trees (done ++ t ∷ [])))
 plug _ t = None
 
 -- an operand on a stack
@@ -329,7 +326,7 @@ next_place line t f done p s = if is_place p then Some (Need (ScanPlaces line t 
 
 -- a comma begins a sequence where one may stand
 abbrev pub begun_sequence : Tree → Stack → Option State
-begun_sequence t s = if nat_le (wants_of s) 0 then Some (Need (InSequence t [] ∷ s)) else None
+begun_sequence t s = if nat_le (wants_of s) 0 then Some (Need (InSequence (line_of t) (t ∷ []) ∷ s)) else None
 
 -- `,` behind an operand
 abbrev pub after_comma : Tree → Stack → Option State
@@ -339,7 +336,7 @@ after_comma t (InArgs c w done ∷ s) = Some (Need (InArgs c w (done ++ t ∷ []
 after_comma t (ScanText line ∷ s) = Some (Need (ScanForm line t ∷ s))
 after_comma t (ScanForm line text ∷ s) = Some (Need (ScanPlaces line text t [] ∷ s))
 after_comma t (ScanPlaces line text form done ∷ s) = next_place line text form done t s
-after_comma t (InSequence first done ∷ s) = Some (Need (InSequence first (done ++ t ∷ []) ∷ s))
+after_comma t (InSequence line done ∷ s) = Some (Need (InSequence line (done ++ t ∷ []) ∷ s))
 after_comma t s = begun_sequence t s
 
 -- what a mark makes of an operand whose inner productions are ended

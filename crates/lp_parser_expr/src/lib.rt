@@ -1,2 +1,7 @@
 //! Expressions of LPC sources.
 #![tactic(auto)]
+
+pub mod build;
+pub mod frame;
+pub mod infix;
+pub mod tall;
