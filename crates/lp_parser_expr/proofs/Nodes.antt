@@ -4,13 +4,15 @@ use Rattle.std.specs.Prelude.{Vec, Box}
 use Rattle.std.specs.declared.alloc.Global.{Global}
 use Rattle.lp_tree.specs.declared.expr.Expr.{Expr}
 use Rattle.lp_tree.specs.declared.expr.Expr.TheVariants as variants
-use Rattle.lp_tree.specs.declared.expr.Expr.TheVariants.{rolls-Array, rolls-Mapping, rolls-Call, rolls-EfunCall, rolls-ParentCall, rolls-NamedParentCall, rolls-CallOther, rolls-Sscanf, rolls-Sequence}
+use Rattle.lp_tree.specs.declared.expr.Expr.TheVariants.{rolls-Array, rolls-Mapping, rolls-Call, rolls-EfunCall, rolls-ParentCall, rolls-NamedParentCall, rolls-CallOther, rolls-Sscanf, rolls-Sequence, rolls-Range}
 use Rattle.lp_tree.specs.declared.expr.Expr.TheOpen as layer
 use Rattle.lp_tree.specs.declared.expr.Expr.TheFolds.{fold-roll-Expr}
-use Rattle.lp_tree.specs.Trees.{Tree, height}
+use Rattle.lp_tree.specs.declared.expr.Bound.{Bound}
+use Rattle.lp_tree.specs.declared.expr.Bound.TheVariants as bounds
+use Rattle.lp_tree.specs.Trees.{Tree, height, end_height}
 use Rattle.lp_tree.specs.TreeView.{tree_of, layer_tree}
 use Rattle.lp_parser_expr.specs.Depth.{tallest, tallest_pair}
-use Rattle.lp_parser_expr.specs.Capped.{pair_of}
+use Rattle.lp_parser_expr.specs.Capped.{pair_of, end_of}
 use Rattle.lp_parser_expr.proofs.Shallow.{heights-trees, heights-pairs}
 
 pub array_height : (line : ℕ) (v : Vec Expr Global) → height (tree_of (variants.Array line v)) ≡ suc (tallest (map tree_of v.items))
@@ -39,3 +41,9 @@ scan_height line t f v = ap height (ap tree_of (sym (rolls-Sscanf line t f v)) �
 
 pub sequence_height : (line : ℕ) (v : Vec Expr Global) → height (tree_of (variants.Sequence line v)) ≡ suc (tallest (map tree_of v.items))
 sequence_height line v = ap height (ap tree_of (sym (rolls-Sequence line v)) ∙ fold-roll-Expr Tree layer_tree (layer.Sequence line v)) ∙ ap suc (heights-trees (map tree_of v.items))
+
+pub range_height : (line : ℕ) (t : Box Expr Global) (a b : Bound (Box Expr Global)) → height (tree_of (variants.Range line t a b)) ≡ suc (max (height (tree_of t.value)) (max (end_height (end_of a)) (end_height (end_of b))))
+range_height line t bounds.Open bounds.Open = ap height (ap tree_of (sym (rolls-Range line t bounds.Open bounds.Open)) ∙ fold-roll-Expr Tree layer_tree (layer.Range line t bounds.Open bounds.Open))
+range_height line t bounds.Open (bounds.At e i) = ap height (ap tree_of (sym (rolls-Range line t bounds.Open (bounds.At e i))) ∙ fold-roll-Expr Tree layer_tree (layer.Range line t bounds.Open (bounds.At e i)))
+range_height line t (bounds.At e i) bounds.Open = ap height (ap tree_of (sym (rolls-Range line t (bounds.At e i) bounds.Open)) ∙ fold-roll-Expr Tree layer_tree (layer.Range line t (bounds.At e i) bounds.Open))
+range_height line t (bounds.At e i) (bounds.At f j) = ap height (ap tree_of (sym (rolls-Range line t (bounds.At e i) (bounds.At f j))) ∙ fold-roll-Expr Tree layer_tree (layer.Range line t (bounds.At e i) (bounds.At f j)))

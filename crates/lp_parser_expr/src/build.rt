@@ -1,16 +1,17 @@
 //! Productions with all their parts.
 ghost use Rattle.std.specs.Prelude.{◌≡◌, ◌++◌, ◌∷◌, [], IfOk, map, option_map};
-ghost use Rattle.lp_tree.specs.Trees.{height as levels, Array, Catch, Index, Mapping, Paren, PostStep, Range, Sscanf, trees, pairs as all_pairs, line_of};
+ghost use Rattle.lp_tree.specs.Trees.{height as levels, Array, Assign, Cast, Catch, Cond, Index, Mapping, Paren, PostStep, Range, Sequence, Sscanf, Unary, trees, pairs as all_pairs, line_of};
 ghost use Rattle.lp_tree.specs.TreeView.{tree_of};
 ghost use Rattle.lp_parser_expr.specs.Capped.{pair_of, end_of};
-ghost use Rattle.lp_parser_expr.specs.Machine.{called, plug as plugged, infix_tree};
+ghost use Rattle.lp_parser_expr.specs.Machine.{called, plug as plugged, infix_tree, Stepping};
 ghost use Rattle.lp_parser_expr.specs.View.{callee_of, frame_of, tree_in};
 
 use std::alloc::{AllocError, Global};
 
 use lp_tree::chars::Chars;
 use lp_tree::expr::{Edge, Expr};
-use lp_tree::operator::Step;
+use lp_tree::operator::{AssignOp, Step, UnOp};
+use lp_tree::types::TypeName;
 
 use crate::frame::{Callee, Frame};
 use crate::infix::Infix;
@@ -104,6 +105,7 @@ pub fn index(alloc: Global, of: Tall, edge: Edge, at: Tall) -> Result<Tall, Allo
 }
 
 /// `of[from .. to]`
+#[tactic(auto, using(crate::proofs::Nodes::range_height))]
 pub fn range(alloc: Global, of: Tall, from: TallEnd, to: TallEnd) -> Result<Tall, AllocError>
     ensures { IfOk result (λ t. tree_of t.expr ≡ Range (line_of (tree_of of.expr)) (tree_of of.expr) (end_of from.bound) (end_of to.bound)) }
 {
@@ -121,4 +123,97 @@ pub fn post_step(alloc: Global, step: Step, place: Tall) -> Result<Tall, AllocEr
     let height = deeper(place.height);
     let place = Box::new(alloc, place.expr)?;
     Ok(Tall { expr: Expr::PostStep { line, step, place }, height })
+}
+
+// An operator with both its operands.
+fn infix(alloc: Global, op: Infix, left: Tall, right: Tall) -> Result<Tall, AllocError>
+    ensures { IfOk result (λ t. tree_of t.expr ≡ infix_tree op (tree_of left.expr) (tree_of right.expr)) }
+{
+    let line = left.expr.line();
+    let height = deeper(left.height.max(right.height));
+    let left = Box::new(alloc, left.expr)?;
+    let right = Box::new(alloc, right.expr)?;
+    match op {
+        Infix::Plain(op) => Ok(Tall { expr: Expr::Binary { line, op, left, right }, height }),
+        Infix::And => Ok(Tall { expr: Expr::AndThen { line, left, right }, height }),
+        Infix::Or => Ok(Tall { expr: Expr::OrElse { line, left, right }, height }),
+    }
+}
+
+// A prefix operator with its operand.
+fn unary(alloc: Global, line: u32, op: UnOp, of: Tall) -> Result<Tall, AllocError>
+    ensures { IfOk result (λ t. tree_of t.expr ≡ Unary line op (tree_of of.expr)) }
+{
+    let height = deeper(of.height);
+    let of = Box::new(alloc, of.expr)?;
+    Ok(Tall { expr: Expr::Unary { line, op, of }, height })
+}
+
+// A cast with its operand.
+fn cast(alloc: Global, line: u32, to: TypeName, of: Tall) -> Result<Tall, AllocError>
+    ensures { IfOk result (λ t. tree_of t.expr ≡ Cast line to (tree_of of.expr)) }
+{
+    let height = deeper(of.height);
+    let of = Box::new(alloc, of.expr)?;
+    Ok(Tall { expr: Expr::Cast { line, to, of }, height })
+}
+
+// `++place`, where it is a place.
+fn pre_step(alloc: Global, line: u32, step: Step, place: Tall) -> Result<Option<Tall>, AllocError>
+    ensures { IfOk result (λ t. tree_in t ≡ plugged (Stepping line step) (tree_of place.expr)) }
+{
+    if !place.expr.is_place() {
+        return Ok(None);
+    }
+    let height = deeper(place.height);
+    let place = Box::new(alloc, place.expr)?;
+    Ok(Some(Tall { expr: Expr::PreStep { line, step, place }, height }))
+}
+
+// `test ? yes : no`
+fn cond(alloc: Global, test: Tall, yes: Tall, no: Tall) -> Result<Tall, AllocError>
+    ensures { IfOk result (λ t. tree_of t.expr ≡ Cond (line_of (tree_of test.expr)) (tree_of test.expr) (tree_of yes.expr) (tree_of no.expr)) }
+{
+    let line = test.expr.line();
+    let height = deeper(test.height.max(yes.height.max(no.height)));
+    let test = Box::new(alloc, test.expr)?;
+    let yes = Box::new(alloc, yes.expr)?;
+    let no = Box::new(alloc, no.expr)?;
+    Ok(Tall { expr: Expr::Cond { line, test, yes, no }, height })
+}
+
+// `place = value`
+fn assign(alloc: Global, op: AssignOp, place: Tall, value: Tall) -> Result<Tall, AllocError>
+    ensures { IfOk result (λ t. tree_of t.expr ≡ Assign (line_of (tree_of place.expr)) op (tree_of place.expr) (tree_of value.expr)) }
+{
+    let line = place.expr.line();
+    let height = deeper(place.height.max(value.height));
+    let place = Box::new(alloc, place.expr)?;
+    let value = Box::new(alloc, value.expr)?;
+    Ok(Tall { expr: Expr::Assign { line, op, place, value }, height })
+}
+
+// `part, part, last`
+#[tactic(auto, using(crate::proofs::Nodes::sequence_height))]
+fn sequence(line: u32, parts: Talls) -> Tall
+    ensures { tree_of result.expr ≡ Sequence line (trees (map tree_of parts.items.items)) }
+{
+    let height = deeper(parts.tallest);
+    Tall { expr: Expr::Sequence { line, parts: parts.items }, height }
+}
+
+/// The production with its last part, where that part may stand there.
+pub fn plug(alloc: Global, frame: Frame, tree: Tall) -> Result<Option<Tall>, AllocError>
+    ensures { IfOk result (λ t. tree_in t ≡ plugged (frame_of frame) (tree_of tree.expr)) }
+{
+    match frame {
+        Frame::Stepping(line, step) => pre_step(alloc, line, step, tree),
+        Frame::UnaryOf(line, op) => Ok(Some(unary(alloc, line, op, tree)?)),
+        Frame::Casting(line, to) => Ok(Some(cast(alloc, line, to, tree)?)),
+        Frame::LeftOf(op, left) => Ok(Some(infix(alloc, op, left, tree)?)),
+        Frame::Choosing(test, yes) => Ok(Some(cond(alloc, test, yes, tree)?)),
+        Frame::Assigning(op, place) => Ok(Some(assign(alloc, op, place, tree)?)),
+        Frame::InSequence(line, done) => Ok(Some(sequence(line, done.with(tree)?))),
+        _other => Ok(None),
+    }
 }
