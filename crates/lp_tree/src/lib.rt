@@ -2,7 +2,12 @@
 #![tactic(auto)]
 
 pub mod chars;
+pub mod expr;
 pub mod fault;
+pub mod keyword;
 pub mod operator;
 pub mod path;
+pub mod reserved;
+pub mod seen;
 pub mod token;
+pub mod types;
