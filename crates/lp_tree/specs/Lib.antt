@@ -5,3 +5,8 @@ pub mod Types
 pub mod Trees
 pub mod TreeView
 pub mod Expressions
+pub mod Laws
+pub mod Statements
+pub mod StatementView
+pub mod Units
+pub mod UnitView

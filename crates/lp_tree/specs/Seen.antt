@@ -1,5 +1,5 @@
 -- Tokens as parsers see them.
-use Rattle.std.specs.Prelude.{◌≡◌, ℕ, ℤ, List, Option, Some, None}
+use Rattle.std.specs.Prelude.{◌≡◌, ℕ, ℤ, List, [], ◌∷◌, Option, Some, None}
 use Rattle.lp_tree.specs.declared.keyword.Keyword.{Keyword}
 use Rattle.lp_tree.specs.declared.seen.Sort.{Sort}
 use Rattle.lp_tree.specs.declared.seen.Sort.TheVariants as sorts
@@ -45,3 +45,8 @@ mark m l = record { sort = sorts.Mark m; line = l }
 
 abbrev pub reserved : Keyword → ℕ → Seen
 reserved k l = record { sort = sorts.Reserved k; line = l }
+
+-- the line of the first of some tokens
+abbrev pub first_line : List Seen → ℕ
+first_line [] = 0
+first_line (x ∷ xs) = x.line
