@@ -1,18 +1,17 @@
 -- Laws of the grammar.
-use Rattle.std.specs.Prelude.{◌≡◌, ℕ, ℤ, pos, neg_ℤ, List, [], ◌∷◌, ◌++◌, Option, Some, None, codes}
+use Rattle.std.specs.Prelude.{◌≡◌, pos, neg_ℤ, List, [], ◌∷◌, Some, None, codes}
 use Rattle.lp_tree.specs.declared.keyword.Base.TheVariants as bases
 use Rattle.lp_tree.specs.declared.keyword.Keyword.TheVariants as words
 use Rattle.lp_tree.specs.declared.keyword.Modifier.TheVariants as modifiers
 use Rattle.lp_tree.specs.declared.operator.AssignOp.TheVariants.{Set}
 use Rattle.lp_tree.specs.declared.operator.BinOp.TheVariants as ops
-use Rattle.lp_tree.specs.declared.token.Mark.TheVariants.{OpenParen, CloseParen, OpenBrace, CloseBrace, Comma, Semicolon, Colon, DotDot, Binary as BinaryMark, Assign as AssignMark}
+use Rattle.lp_tree.specs.declared.token.Mark.TheVariants.{OpenParen, CloseParen, OpenBrace, CloseBrace, Semicolon, Colon, DotDot, Binary as BinaryMark, Assign as AssignMark}
 use Rattle.lp_tree.specs.declared.seen.Seen.{Seen}
-use Rattle.lp_tree.specs.declared.stmt.Constant.TheVariants as constants
 use Rattle.lp_tree.specs.declared.stmt.Label.TheVariants as labels
 use Rattle.lp_tree.specs.Seen.{word, text, integer, mark, reserved, first_line}
 use Rattle.lp_tree.specs.Trees.{Tree, line_of, Int, Name}
 use Rattle.lp_tree.specs.Expressions.{Spells}
-use Rattle.lp_tree.specs.Statements.{Around, StmtTree, Block, Empty, If, Else, NoElse, Foreach, Switch, Break, Return, Run, NoStmt, MoreStmts, NoPart, LabelPart, StmtPart, stmt_line, SpellsStmt}
+use Rattle.lp_tree.specs.Statements.{Around, StmtTree, Empty, If, Else, NoElse, Foreach, Switch, Break, Return, NoStmt, MoreStmts, NoPart, LabelPart, StmtPart, stmt_line, SpellsStmt}
 use Rattle.lp_tree.specs.Units.{ItemTree, Inherit, Proto, Fun, Var, item_line, SpellsItem, SpellsUnit, unit_height}
 
 -- the line of each tree is that of its first token
@@ -56,9 +55,12 @@ function =
 
 abbrev pub function_trees : List ItemTree
 function_trees =
-    Fun 1 [] (Some (record { base = bases.Void; stars = 0 })) (codes "g") (record { line = 1; of = None; name = codes "x" } ∷ []) (record { line = 1; stmts =
-      MoreStmts (Foreach 2 (record { line = 2; of = None; name = codes "y" }) None (Name 2 (codes "x")) (Switch 2 (Name 2 (codes "y"))
-        (LabelPart (labels.Range 3 (neg_ℤ (pos 1)) (pos 2)) (StmtPart (Break 3) (LabelPart (labels.Default 4) (StmtPart (Return 4 (Some (Name 4 (codes "y")))) NoPart)))))) NoStmt }) ∷ []
+    Fun 1 [] (Some (record { base = bases.Void; stars = 0 })) (codes "g") (record { line = 1; of = None; name = codes "x" } ∷ []) (record {
+      line = 1;
+      stmts =
+          MoreStmts (Foreach 2 (record { line = 2; of = None; name = codes "y" }) None (Name 2 (codes "x")) (Switch 2 (Name 2 (codes "y"))
+          (LabelPart (labels.Range 3 (neg_ℤ (pos 1)) (pos 2)) (StmtPart (Break 3) (LabelPart (labels.Default 4) (StmtPart (Return 4 (Some (Name 4 (codes "y")))) NoPart)))))) NoStmt;
+    }) ∷ []
 
 -- small sources spell the trees that they should
 pub record AreSpelled (a : Around) : Type 0 where

@@ -1,5 +1,5 @@
 -- Tokens as parsers see them.
-use Rattle.std.specs.Prelude.{◌≡◌, ℕ, ℤ, List, [], ◌∷◌, Option, Some, None}
+use Rattle.std.specs.Prelude.{ℕ, ℤ, List, [], ◌∷◌, Option, Some, None}
 use Rattle.lp_tree.specs.declared.keyword.Keyword.{Keyword}
 use Rattle.lp_tree.specs.declared.seen.Sort.{Sort}
 use Rattle.lp_tree.specs.declared.seen.Sort.TheVariants as sorts

@@ -1,5 +1,5 @@
 -- The tree that a statement stands for.
-use Rattle.std.specs.Prelude.{ℕ, List, [], ◌∷◌, map, Option, Some, None, option_map, Box}
+use Rattle.std.specs.Prelude.{List, [], ◌∷◌, map, Option, Some, None, option_map, Box}
 use Rattle.std.specs.declared.alloc.Global.{Global}
 use Rattle.lp_tree.specs.declared.stmt.Declarator.{Declarator}
 use Rattle.lp_tree.specs.declared.stmt.Local.{Local}

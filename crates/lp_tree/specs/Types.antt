@@ -1,5 +1,5 @@
 -- Which tokens spell a type.
-use Rattle.std.specs.Prelude.{◌≡◌, ℕ, zero, suc, List, [], ◌∷◌}
+use Rattle.std.specs.Prelude.{ℕ, zero, suc, List, ◌∷◌}
 use Rattle.lp_tree.specs.declared.keyword.Base.{Base as BaseWord}
 use Rattle.lp_tree.specs.declared.keyword.Keyword.TheVariants.{Base}
 use Rattle.lp_tree.specs.declared.operator.BinOp.TheVariants.{Mul}

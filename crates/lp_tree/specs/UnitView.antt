@@ -1,5 +1,5 @@
 -- The tree that a unit stands for.
-use Rattle.std.specs.Prelude.{ℕ, List, map}
+use Rattle.std.specs.Prelude.{List, map}
 use Rattle.lp_tree.specs.declared.unit.Item.{Item}
 use Rattle.lp_tree.specs.declared.unit.Item.TheVariants as items
 use Rattle.lp_tree.specs.declared.unit.Unit.{Unit as UnitOf}

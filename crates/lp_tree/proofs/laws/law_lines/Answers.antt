@@ -5,4 +5,5 @@ pub returns : goal.returns
 returns c = record {
   expressions = λ t ts rest s. expression_line s;
   statements = λ a t ts rest s. statement_line s;
-  items = λ i ts rest s. unit_line s }
+  items = λ i ts rest s. unit_line s;
+}
