@@ -31,7 +31,7 @@ abbrev pub declaration_trees : List ItemTree
 declaration_trees =
     Inherit 1 (codes "/p")
     ∷ Var 2 (modifiers.Private ∷ []) bases.Int (record { line = 2; stars = 1; name = codes "v"; value = Some (Int 2 (pos 5)) } ∷ [])
-    ∷ Proto 3 [] None (codes "f") (record { line = 3; of = Some (record { base = bases.Int; stars = 0 }); name = codes "n" } ∷ []) ∷ []
+    ∷ Proto 3 [] None (codes "f") (record { line = 3; type_name = Some (record { base = bases.Int; stars = 0 }); name = codes "n" } ∷ []) ∷ []
 
 -- `if (a) if (b) ; else ;`: the `else` goes with the nearest `if`
 abbrev pub nearest_if : List Seen
@@ -55,10 +55,10 @@ function =
 
 abbrev pub function_trees : List ItemTree
 function_trees =
-    Fun 1 [] (Some (record { base = bases.Void; stars = 0 })) (codes "g") (record { line = 1; of = None; name = codes "x" } ∷ []) (record {
+    Fun 1 [] (Some (record { base = bases.Void; stars = 0 })) (codes "g") (record { line = 1; type_name = None; name = codes "x" } ∷ []) (record {
       line = 1;
       stmts =
-          MoreStmts (Foreach 2 (record { line = 2; of = None; name = codes "y" }) None (Name 2 (codes "x")) (Switch 2 (Name 2 (codes "y"))
+          MoreStmts (Foreach 2 (record { line = 2; type_name = None; name = codes "y" }) None (Name 2 (codes "x")) (Switch 2 (Name 2 (codes "y"))
           (LabelPart (labels.Range 3 (neg_ℤ (pos 1)) (pos 2)) (StmtPart (Break 3) (LabelPart (labels.Default 4) (StmtPart (Return 4 (Some (Name 4 (codes "y")))) NoPart)))))) NoStmt;
     }) ∷ []
 

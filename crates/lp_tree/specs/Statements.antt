@@ -125,9 +125,9 @@ pub data SpellsLocal : LocalTree → List Seen → List Seen → Type 0 where
 -- each = [type] NAME
 pub data SpellsEach : Each → List Seen → List Seen → Type 0 where
   untyped : {w : List ℕ} {line : ℕ} {rest : List Seen}
-      → SpellsEach (record { line = line; of = None; name = w }) (word w line ∷ rest) rest
+      → SpellsEach (record { line = line; type_name = None; name = w }) (word w line ∷ rest) rest
   typed : {ty : TypeName} {w : List ℕ} {l : ℕ} {ts rest : List Seen}
-      → SpellsType ty ts (word w l ∷ rest) → SpellsEach (record { line = first_line ts; of = Some ty; name = w }) ts rest
+      → SpellsType ty ts (word w l ∷ rest) → SpellsEach (record { line = first_line ts; type_name = Some ty; name = w }) ts rest
 
 -- each ["," each]
 pub data SpellsEaches : Each → Option Each → List Seen → List Seen → Type 0 where

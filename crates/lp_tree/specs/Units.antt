@@ -1,5 +1,5 @@
 -- Units without where they lie in memory, which tokens spell which, and the first fault of tokens that spell none.
-use Rattle.std.specs.Prelude.{◌≡◌, ℕ, ◌+◌, ◌≤◌, ◌<◌, List, [], ◌∷◌, ◌++◌, length, take, Option, Some, None, max, suc}
+use Rattle.std.specs.Prelude.{◌≡◌, ℕ, ◌+◌, ◌≤◌, ◌<◌, List, [], ◌∷◌, ◌++◌, length, take, Option, Some, None, max, zero, suc}
 use Rattle.lp_tree.specs.declared.keyword.Base.{Base as BaseWord}
 use Rattle.lp_tree.specs.declared.keyword.Modifier.{Modifier as ModifierWord}
 use Rattle.lp_tree.specs.declared.keyword.Keyword.TheVariants as words
@@ -19,8 +19,8 @@ pub record BlockTree : Type 0 where
 -- one case per production, as in the program's units
 pub data ItemTree : Type 0 where
   Inherit : (line : ℕ) (path : List ℕ) → ItemTree
-  Proto : (line : ℕ) (mods : List ModifierWord) (of : Option TypeName) (name : List ℕ) (params : List Param) → ItemTree
-  Fun : (line : ℕ) (mods : List ModifierWord) (of : Option TypeName) (name : List ℕ) (params : List Param) (body : BlockTree) → ItemTree
+  Proto : (line : ℕ) (mods : List ModifierWord) (type_name : Option TypeName) (name : List ℕ) (params : List Param) → ItemTree
+  Fun : (line : ℕ) (mods : List ModifierWord) (type_name : Option TypeName) (name : List ℕ) (params : List Param) (body : BlockTree) → ItemTree
   Var : (line : ℕ) (mods : List ModifierWord) (base : BaseWord) (ones : List DeclaratorTree) → ItemTree
 
 -- the line of an item's first token
@@ -44,7 +44,7 @@ pub data SpellsTypeIf : Option TypeName → List Seen → List Seen → Type 0 w
 -- param = [type] NAME
 pub data SpellsParam : Param → List Seen → List Seen → Type 0 where
   param : {ty : Option TypeName} {w : List ℕ} {l : ℕ} {ts rest : List Seen}
-      → SpellsTypeIf ty ts (word w l ∷ rest) → SpellsParam (record { line = first_line ts; of = ty; name = w }) ts rest
+      → SpellsTypeIf ty ts (word w l ∷ rest) → SpellsParam (record { line = first_line ts; type_name = ty; name = w }) ts rest
 
 -- params = param {"," param}
 pub data SpellsParams : List Param → List Seen → List Seen → Type 0 where
@@ -135,3 +135,10 @@ pub record IsTooNested (limit : ℕ) (tokens : List Seen) (at : ℕ) : Type 0 wh
   pub before : BeginsWithin limit (take at tokens)
   pub so : Begins (take (at + 1) tokens)
   pub not_within : BeginsWithin limit (take (at + 1) tokens) → ⊥
+
+-- the line of a fault: that of the token there, or behind the last token the last line that has one, or 0
+abbrev pub line_at : List Seen → ℕ → ℕ
+line_at [] n = 0
+line_at (x ∷ []) n = x.line
+line_at (x ∷ y ∷ xs) zero = x.line
+line_at (x ∷ y ∷ xs) (suc n) = line_at (y ∷ xs) n

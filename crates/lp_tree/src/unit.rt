@@ -14,7 +14,7 @@ pub struct Param {
     /// The line of its first token.
     pub line: u32,
     /// Its type, if one is written.
-    pub of: Option<TypeName>,
+    pub type_name: Option<TypeName>,
     /// The name.
     pub name: Chars,
 }
@@ -40,7 +40,7 @@ pub enum Item {
     Proto {
         line: u32,
         mods: Vec<Modifier>,
-        of: Option<TypeName>,
+        type_name: Option<TypeName>,
         name: Chars,
         params: Vec<Param>,
     },
@@ -48,7 +48,7 @@ pub enum Item {
     Fun {
         line: u32,
         mods: Vec<Modifier>,
-        of: Option<TypeName>,
+        type_name: Option<TypeName>,
         name: Chars,
         params: Vec<Param>,
         body: Block,
@@ -80,5 +80,26 @@ impl Item {
             Item::Fun { line, .. } => *line,
             Item::Var { line, .. } => *line,
         }
+    }
+}
+
+#[cfg(test)]
+mod tests {
+    use super::*;
+    use std::test::Fail;
+
+    #[test]
+    fn lines(rt: HostRuntime) -> Result<(), Fail> {
+        let path = Chars::from_vec(rt.alloc(), Vec::new(rt.alloc()))?;
+        let inherit = Item::Inherit { line: 7, path };
+        assert_eq!(rt; inherit.line(), 7);
+        let var = Item::Var {
+            line: 8,
+            mods: Vec::new(rt.alloc()),
+            base: Base::Int,
+            ones: Vec::new(rt.alloc()),
+        };
+        assert_eq!(rt; var.line(), 8);
+        Ok(())
     }
 }
