@@ -5,3 +5,4 @@ pub mod Advances
 pub mod Walking
 pub mod Order
 pub mod Cover
+pub mod Ends

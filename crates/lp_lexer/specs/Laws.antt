@@ -1,8 +1,9 @@
 -- Laws of the tokens of a source.
 use Rattle.std.specs.Prelude.{◌≡◌, ℕ, ◌+◌, ◌<◌, ◌≤◌, List, [], ◌∷◌, true, Some, slice_index, ◌⊎◌}
+use Rattle.lp_tree.specs.declared.token.LexKind.{LexKind}
 use Rattle.lp_tree.specs.declared.token.Token.{Token}
 use Rattle.lp_lexer.specs.declared.sign.Sign.{Sign}
-use Rattle.lp_lexer.specs.Lexis.{Place, begin, next, Reaches, is_blank, opens_line, opens_block}
+use Rattle.lp_lexer.specs.Lexis.{Place, begin, next, Reaches, is_blank, opens_line, opens_block, IsLexed, IsFault}
 
 -- Tokens have bytes, and each begins no earlier than the one before it ends: from a place on up to another.
 abbrev pub AreApart : ℕ → List Token → ℕ → Type 0
@@ -34,3 +35,7 @@ pub record IsOfGap (bs : List ℕ) (k : ℕ) : Type 0 where
 -- the byte at k is of a token, a blank, a comment or a join
 abbrev pub IsAccounted : List ℕ → List Token → ℕ → Type 0
 IsAccounted bs ts k = IsOfToken ts k ⊎ (IsOfGap bs k ⊎ IsOfJoin bs k)
+
+-- A source has tokens or a fault.
+abbrev pub HasAnswer : List ℕ → Type 0
+HasAnswer bs = ((ts : List Token) × IsLexed bs ts) ⊎ ((at : ℕ) × (kind : LexKind) × IsFault bs at kind)

@@ -107,7 +107,7 @@ IsLexed bs ts = IsUtf8 bs × IsWhole bs ts
 
 -- The first fault: the first byte that is not UTF-8, or a comment without end that begins before it.
 abbrev pub IsFault : List ℕ → ℕ → LexKind → Type 0
-IsFault bs at NotUtf8 = (at ≡ utf8_valid_len bs) × (at < length bs) × ((begin_at : ℕ) → IsOpenComment bs begin_at → at ≤ begin_at)
+IsFault bs at NotUtf8 = (at ≡ utf8_valid_len bs) × (at < length bs) × ((open_at : ℕ) → IsOpenComment bs open_at → at ≤ open_at)
 IsFault bs at OpenComment = IsOpenComment bs at × (at < utf8_valid_len bs)
 IsFault bs at BadChar = ⊥
 IsFault bs at OpenString = ⊥

@@ -10,7 +10,7 @@ ghost use Rattle.lp_tree.specs.declared.token.Token.{Token as Tok};
 ghost use Rattle.lp_tree.specs.declared.token.LexKind.{LexKind as Kind};
 ghost use Rattle.lp_lexer.specs.Source.{most_bytes};
 ghost use Rattle.lp_lexer.specs.Lexis.{IsLexed, IsFault};
-ghost use Rattle.lp_lexer.specs.Laws.{AreApart, IsAccounted};
+ghost use Rattle.lp_lexer.specs.Laws.{AreApart, IsAccounted, HasAnswer};
 ghost use Rattle.lp_lexer.specs.Answer.{IsLexFault, AreTokensUnlessMemory, IsFaultUnlessMemory};
 
 mod characters;
@@ -80,6 +80,11 @@ pub fn lex(alloc: Global, bytes: &[u8]) -> Result<Vec<Token>, LexFault>
 {
     answer(alloc, bytes)
 }
+
+/// Law: each source has tokens or a fault.
+pub fn law_answered()
+    ensures { (bs : List ℕ) → HasAnswer bs }
+{}
 
 /// Law: tokens have bytes, and each begins no earlier than the one before it ends.
 pub fn law_apart()
