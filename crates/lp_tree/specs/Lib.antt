@@ -1,1 +1,12 @@
 pub mod FaultText
+pub mod Keywords
+pub mod Seen
+pub mod Types
+pub mod Trees
+pub mod TreeView
+pub mod Expressions
+pub mod Laws
+pub mod Statements
+pub mod StatementView
+pub mod Units
+pub mod UnitView
