@@ -1,6 +1,0 @@
-pub mod Machine
-pub mod Depth
-pub mod Capped
-pub mod View
-pub mod Levels
-pub mod StackView
