@@ -1,5 +1,13 @@
 -- Exactly the paths and names pass the tests.
-use Rattle.std.proofs.Common.{subst, ◌⊎◌, inl, inr, ◌<◌, ◌≤◌, ◌==◌, length, arith, ◌≡◌, ◌∙◌, ℕ, List, [], ◌∷◌, ◌++◌, Bool, true, false, refl, sym, ap, append_assoc, length-append}
+use Rattle.std.proofs.Common.{subst, ◌⊎◌, inl, inr, zero, suc, ◌<◌, ◌≤◌, ◌+◌, ◌-◌, ◌==◌, length, take, drop, get_or, replicate, arith, ◌≡◌, ◌∙◌, ℕ, List, [], ◌∷◌, ◌++◌, Bool, true, false, not, ◌&&◌, refl, sym, ap, append_assoc, length-append, nat_eq, nat_lt, drop-cons, add-one}
+use Rattle.std.specs.Ordering.{nat_cmp, is_lt, ordering_then}
+use Rattle.std.specs.Cmp.{nat_cmp_is}
+use Rattle.std.specs.Cmp.Lexicographic.{slice_cmp, pointwise}
+use Rattle.std.specs.declared.cmp.Ordering.{Ordering}
+use Rattle.std.specs.declared.cmp.Ordering.TheVariants.{Less, Equal, Greater}
+use Rattle.std.proofs.lemmas.Bool.Decides.{nat_tests}
+use Rattle.std.proofs.lemmas.Bool.{cases_order, lt-ltb, le-ltb, lt-leb, eq-eqb, ne_eqb, and_left}
+use Rattle.std.proofs.lemmas.List.{length-replicate}
 use Rattle.std.specs.Prelude.{if◌then◌else◌, nat_le}
 use Rattle.std.specs.List.{list_all}
 use Rattle.std.proofs.lemmas.Bool.{and_parts, and_from, eqb-true, eqb-false, leb-true, le-leb, cases_Bool, true≢false, both_ways}
@@ -9,7 +17,7 @@ use Rattle.std.proofs.lemmas.List.Sums.{AllPass-from_list_all, list_all-from_All
 use Rattle.lp_meaning.specs.Script.{is_part_byte, IsPart, AreParts, path_of, IsPath}
 use Rattle.lp_words.specs.declared.path.Progress.{Progress}
 use Rattle.lp_words.specs.declared.path.Progress.TheVariants.{Start, Slash, Dot, Dots, Part, Refused}
-use Rattle.lp_words.specs.Paths.{step, read, is_done, is_path}
+use Rattle.lp_words.specs.Paths.{step, read, is_done, is_path, may_go_on, stem, filled, is_above, begins_path}
 
 -- what has been read of the last part
 abbrev Describes : Progress → List ℕ → Type 0
@@ -215,3 +223,321 @@ from-read (c ∷ cs) h short = from-start (c == 47) c cs refl h short
 pub is_path-yes : (w : List ℕ) → is_path w ≡ true → IsPath w
 unfolding is_path
 is_path-yes w h = let t = and_parts (nat_le (length w) 256) (is_done (read Start w)) h in from-read w t.1 (leb-true _ _ t.0)
+
+-- THE BYTES OF A PATH
+
+all-pass : (p q : ℕ → Bool) → ((c : ℕ) → p c ≡ true → q c ≡ true) → (xs : List ℕ) → list_all p xs ≡ true → list_all q xs ≡ true
+all-pass p q f [] h = refl
+all-pass p q f (c ∷ xs) h = let t = and_parts (p c) (list_all p xs) h in and_from _ _ (f c t.0) (all-pass p q f xs t.1)
+
+all-parts : (q : ℕ → Bool) → q 47 ≡ true → ((c : ℕ) → is_part_byte c ≡ true → q c ≡ true) → (parts : List (List ℕ)) → AreParts parts → list_all q (path_of parts) ≡ true
+all-parts q slash f [] h = refl
+all-parts q slash f (part ∷ parts) h =
+    and_from _ _ slash (list_all-append q part (path_of parts) ∙ and_from _ _ (all-pass is_part_byte q f part (list_all-from_AllPass is_part_byte part h.0.bytes)) (all-parts q slash f parts h.1))
+
+all-path : (q : ℕ → Bool) → q 47 ≡ true → ((c : ℕ) → is_part_byte c ≡ true → q c ≡ true) → (w : List ℕ) → IsPath w → list_all q w ≡ true
+all-path q slash f w p = ap (list_all q) p.joined ∙ all-parts q slash f p.parts p.each
+
+other-byte : (n c : ℕ) → is_part_byte n ≡ false → is_part_byte c ≡ true → not (c == n) ≡ true
+other-byte n c none h = elim (cases_Bool (c == n)) [
+  | inl e ↦ absurd (both_ways (is_part_byte n) none (subst (λ x. is_part_byte x ≡ true) (eqb-true c n e) h))
+  | inr e ↦ ap not e
+]
+
+-- no byte of a path is a space or a newline
+pub path-bytes : (w : List ℕ) → IsPath w → list_all (λ c. not (c == 32) && not (c == 10)) w ≡ true
+path-bytes w p = all-path (λ c. not (c == 32) && not (c == 10)) refl (λ c h. and_from _ _ (other-byte 32 c refl h) (other-byte 10 c refl h)) w p
+
+low-byte : (c : ℕ) → is_part_byte c ≡ true → nat_le c 122 ≡ true
+low-byte c h = grind (arith, nat_tests)
+
+-- THE GREATEST PATH THAT BEGINS WITH A WORD
+
+read-append : (s : Progress) (v w : List ℕ) → read s (v ++ w) ≡ read (read s v) w
+read-append s [] w = refl
+read-append s (c ∷ v) w = read-append (step s c) v w
+
+fill-part : (k : ℕ) → read Part (replicate k 122) ≡ Part
+fill-part zero = refl
+fill-part (suc k) = fill-part k
+
+fill-some : (s : Progress) (k : ℕ) → is_done (read s (replicate (suc k) 122)) ≡ may_go_on s
+fill-some Start k = ap is_done (stays-refused (replicate k 122))
+fill-some Refused k = ap is_done (stays-refused (replicate k 122))
+fill-some Slash k = ap is_done (fill-part k)
+fill-some Dot k = ap is_done (fill-part k)
+fill-some Dots k = ap is_done (fill-part k)
+fill-some Part k = ap is_done (fill-part k)
+
+-- something was read
+abbrev has_begun : Progress → Bool
+has_begun Start = false
+has_begun _ = true
+
+begun-one : (a : Bool) (s : Progress) → has_begun s ≡ true → has_begun (if◌then◌else◌ a s Refused) ≡ true
+begun-one true s h = h
+begun-one false s h = refl
+
+begun-two : (a b : Bool) (s : Progress) → has_begun s ≡ true → has_begun (if◌then◌else◌ a s (if◌then◌else◌ b Part Refused)) ≡ true
+begun-two true b s h = h
+begun-two false b s h = begun-one b Part refl
+
+begun-step : (s : Progress) (c : ℕ) → has_begun (step s c) ≡ true
+begun-step Start c = begun-one (c == 47) Slash refl
+begun-step Slash c = begun-two (c == 46) (is_part_byte c) Dot refl
+begun-step Dot c = begun-two (c == 46) (is_part_byte c) Dots refl
+begun-step Dots c = begun-one (is_part_byte c) Part refl
+begun-step Part c = begun-two (c == 47) (is_part_byte c) Slash refl
+begun-step Refused c = refl
+
+begun-read : (s : Progress) (w : List ℕ) → has_begun s ≡ true → has_begun (read s w) ≡ true
+begun-read s [] h = h
+begun-read s (c ∷ w) h = begun-read (step s c) w (begun-step s c)
+
+begun-stem : (w : List ℕ) → has_begun (read Start (stem w)) ≡ true
+begun-stem [] = refl
+begun-stem (c ∷ cs) = begun-read (step Start c) cs (begun-step Start c)
+
+may-go-on : (s : Progress) (rest : List ℕ) → has_begun s ≡ true → is_done (read s rest) ≡ true → may_go_on s ≡ true
+may-go-on Start rest b d = b
+may-go-on Slash rest b d = refl
+may-go-on Dot rest b d = refl
+may-go-on Dots rest b d = refl
+may-go-on Part rest b d = refl
+may-go-on Refused rest b d = sym (ap is_done (stays-refused rest)) ∙ d
+
+fill : (s : Progress) (rest : List ℕ) (k : ℕ) → has_begun s ≡ true → is_done (read s rest) ≡ true → length rest ≤ k → is_done (read s (replicate k 122)) ≡ true
+fill s [] zero b d l = d
+fill s (c ∷ rest) zero b d l = absurd (omega arith)
+fill s rest (suc k) b d l = fill-some s k ∙ may-go-on s rest b d
+
+-- a path from its first `/` on
+slash-first : (parts : List (List ℕ)) → 0 < length parts → (rest : List ℕ) × (path_of parts ≡ 47 ∷ rest)
+slash-first [] h = absurd (omega arith)
+slash-first (part ∷ parts) h = (part ++ path_of parts, refl)
+
+stem-first : (w others : List ℕ) → IsPath (w ++ others) → (rest : List ℕ) × (w ++ others ≡ stem w ++ rest)
+stem-first [] others p = let t = slash-first p.parts p.some in (t.0, p.joined ∙ t.1)
+stem-first (c ∷ cs) others p = (others, refl)
+
+length-fill : (v : List ℕ) → length v ≤ 256 → length (v ++ replicate (256 - length v) 122) ≡ 256
+length-fill v h = omega (arith, length-append v (replicate (256 - length v) 122), length-replicate {A = ℕ} (256 - length v) 122)
+
+fill-done : (v rest : List ℕ) → has_begun (read Start v) ≡ true → is_done (read Start (v ++ rest)) ≡ true → length (v ++ rest) ≤ 256
+    → is_done (read Start (v ++ replicate (256 - length v) 122)) ≡ true
+fill-done v rest b d l =
+    let m : length rest ≤ 256 - length v = omega (arith, length-append v rest) in
+    ap is_done (read-append Start v (replicate (256 - length v) 122))
+    ∙ fill (read Start v) rest (256 - length v) b (sym (ap is_done (read-append Start v rest)) ∙ d) m
+
+is_path-filled : (w rest : List ℕ) → IsPath (stem w ++ rest) → is_path (filled w) ≡ true
+unfolding is_path filled
+is_path-filled w rest p =
+    let m : length (stem w) ≤ 256 = omega (arith, length-append (stem w) rest, p.short) in
+    and_from _ _ (le-leb _ _ (omega (arith, length-fill (stem w) m))) (fill-done (stem w) rest (begun-stem w) (ap is_done (reads-path (stem w ++ rest) p)) p.short)
+
+filled-front : (w : List ℕ) → (others : List ℕ) × (filled w ≡ w ++ others)
+unfolding filled
+filled-front [] = (filled [], refl)
+filled-front (c ∷ cs) = (replicate (256 - length (c ∷ cs)) 122, refl)
+
+-- THE ORDER
+
+cmp-less : (x y : ℕ) → x < y → nat_cmp x y ≡ Less
+cmp-less x y h = sym (nat_cmp_is x y Less h)
+
+cmp-equal : (x y : ℕ) → x ≡ y → nat_cmp x y ≡ Equal
+cmp-equal x y h = sym (nat_cmp_is x y Equal h)
+
+cmp-greater : (x y : ℕ) → y < x → nat_cmp x y ≡ Greater
+cmp-greater x y h = sym (nat_cmp_is x y Greater h)
+
+then-by : (o r : Ordering) (s : Ordering) → o ≡ r → ordering_then o s ≡ ordering_then r s
+then-by o r s e = ap (λ o. ordering_then o s) e
+
+abbrev is_low : ℕ → Bool
+is_low c = nat_le c 122
+
+-- one byte, and what stands behind it, filled up
+fill-byte : (x y : ℕ) (o p : Ordering) → y ≤ 122 → (o ≡ Less → p ≡ Less) → ordering_then (nat_cmp x y) o ≡ Less → ordering_then (nat_cmp x 122) p ≡ Less
+fill-byte x y o p low f h = elim (cases_order x y) [
+  | inr (inl l) ↦ then-by (nat_cmp x 122) Less p (cmp-less x 122 (omega arith))
+  | inr (inr g) ↦ absurd (let e : Greater ≡ Less = sym (then-by (nat_cmp x y) Greater o (cmp-greater x y g)) ∙ h in cc)
+  | inl e ↦ elim (cases_order x 122) [
+    | inl z ↦ then-by (nat_cmp x 122) Equal p (cmp-equal x 122 z) ∙ f (sym (then-by (nat_cmp x y) Equal o (cmp-equal x y e)) ∙ h)
+    | inr (inl l) ↦ then-by (nat_cmp x 122) Less p (cmp-less x 122 l)
+    | inr (inr g) ↦ absurd (omega arith)
+  ]
+]
+
+fill-above : (last rest : List ℕ) (k : ℕ) → list_all is_low rest ≡ true → length rest ≤ k → slice_cmp nat_cmp last rest ≡ Less → slice_cmp nat_cmp last (replicate k 122) ≡ Less
+fill-above [] [] k low l h = absurd cc
+fill-above (x ∷ last) [] k low l h = absurd cc
+fill-above last (y ∷ rest) zero low l h = absurd (omega arith)
+fill-above [] (y ∷ rest) (suc k) low l h = refl
+fill-above (x ∷ last) (y ∷ rest) (suc k) low l h =
+    let t = and_parts (is_low y) (list_all is_low rest) low in
+    let m : length rest ≤ k = omega arith in
+    fill-byte x y (slice_cmp nat_cmp last rest) (slice_cmp nat_cmp last (replicate k 122)) (leb-true y 122 t.0) (fill-above last rest k t.1 m) h
+
+front-above : (last v rest : List ℕ) (k : ℕ) → list_all is_low rest ≡ true → length rest ≤ k → slice_cmp nat_cmp last (v ++ rest) ≡ Less → slice_cmp nat_cmp last (v ++ replicate k 122) ≡ Less
+front-above last [] rest k low l h = fill-above last rest k low l h
+front-above [] (c ∷ v) rest k low l h = refl
+front-above (x ∷ last) (c ∷ v) rest k low l h =
+    elim (nat_cmp x c) as (λ o. ordering_then o (slice_cmp nat_cmp last (v ++ rest)) ≡ Less → ordering_then o (slice_cmp nat_cmp last (v ++ replicate k 122)) ≡ Less) [
+      | Less ↦ λ g. refl
+      | Equal ↦ λ g. front-above last v rest k low l g
+      | Greater ↦ λ g. g
+    ] h
+
+filled-above : (last w rest : List ℕ) → IsPath (stem w ++ rest) → slice_cmp nat_cmp last (stem w ++ rest) ≡ Less → slice_cmp nat_cmp last (filled w) ≡ Less
+unfolding filled
+filled-above last w rest p h =
+    let m : length rest ≤ 256 - length (stem w) = omega (arith, length-append (stem w) rest, p.short) in
+    let low = and_parts _ _ (sym (list_all-append is_low (stem w) rest) ∙ all-path is_low refl low-byte (stem w ++ rest) p) in
+    front-above last (stem w) rest (256 - length (stem w)) low.1 m h
+
+less-from : (o : Ordering) → is_lt o ≡ true → o ≡ Less
+less-from Less h = refl
+less-from Equal h = absurd (true≢false (sym h))
+less-from Greater h = absurd (true≢false (sym h))
+
+pub begins_path-yes : (last w : List ℕ) → begins_path last w ≡ true → (p : List ℕ) × IsPath p × (slice_cmp nat_cmp last p ≡ Less) × (others : List ℕ) × (p ≡ w ++ others)
+unfolding begins_path
+begins_path-yes last w h =
+    let t = and_parts (is_path (filled w)) (is_above last (filled w)) h in
+    let f = filled-front w in
+    (filled w, is_path-yes (filled w) t.0, less-from _ t.1, f.0, f.1)
+
+begins_path-complete : (last w rest : List ℕ) → IsPath (stem w ++ rest) → slice_cmp nat_cmp last (stem w ++ rest) ≡ Less → begins_path last w ≡ true
+unfolding begins_path
+begins_path-complete last w rest p h = and_from _ _ (is_path-filled w rest p) (ap is_lt (filled-above last w rest p h))
+
+pub begins_path-no : (last w : List ℕ) → begins_path last w ≡ false → (p others : List ℕ) → IsPath p → slice_cmp nat_cmp last p ≡ Less → p ≡ w ++ others → ⊥
+begins_path-no last w none p others path above e =
+    let t = stem-first w others (subst IsPath e path) in
+    let s : p ≡ stem w ++ t.0 = e ∙ t.1 in
+    both_ways (begins_path last w) none (begins_path-complete last w t.0 (subst IsPath s path) (subst (λ p. slice_cmp nat_cmp last p ≡ Less) s above))
+
+-- HOW THE CODE FINDS IT, WITHOUT THE FILLED WORD
+
+read-fill : (v : List ℕ) (k : ℕ) → is_done (read Start (v ++ replicate k 122)) ≡ is_done (read (read Start v) (replicate k 122))
+read-fill v k = ap is_done (read-append Start v (replicate k 122))
+
+fill-room : (v : List ℕ) (k : ℕ) → 0 < k → is_done (read Start (v ++ replicate k 122)) ≡ may_go_on (read Start v)
+fill-room v zero h = absurd (omega arith)
+fill-room v (suc k) h = read-fill v (suc k) ∙ fill-some (read Start v) k
+
+fill-none : (v : List ℕ) (k : ℕ) → k ≡ 0 → is_done (read Start (v ++ replicate k 122)) ≡ is_done (read Start v)
+fill-none v zero h = read-fill v 0
+fill-none v (suc k) h = absurd (omega arith)
+
+pub filled-short : (w : List ℕ) → length (stem w) < 256 → is_path (filled w) ≡ may_go_on (read Start (stem w))
+unfolding is_path filled
+filled-short w h =
+    let m : length (stem w) ≤ 256 = omega arith in
+    let room : 0 < 256 - length (stem w) = omega arith in
+    ap (λ b. b && is_done (read Start (stem w ++ replicate (256 - length (stem w)) 122))) (le-leb _ 256 (omega (arith, length-fill (stem w) m)))
+    ∙ fill-room (stem w) (256 - length (stem w)) room
+
+pub filled-full : (w : List ℕ) → length (stem w) ≡ 256 → is_path (filled w) ≡ is_done (read Start (stem w))
+unfolding is_path filled
+filled-full w h =
+    let m : length (stem w) ≤ 256 = omega arith in
+    let room : 256 - length (stem w) ≡ 0 = omega arith in
+    ap (λ b. b && is_done (read Start (stem w ++ replicate (256 - length (stem w)) 122))) (le-leb _ 256 (omega (arith, length-fill (stem w) m)))
+    ∙ fill-none (stem w) (256 - length (stem w)) room
+
+pub filled-long : (w : List ℕ) → 256 < length (stem w) → is_path (filled w) ≡ false
+unfolding is_path filled
+filled-long w h =
+    let over : 256 < length (stem w ++ replicate (256 - length (stem w)) 122) = omega (arith, length-append (stem w) (replicate (256 - length (stem w)) 122)) in
+    and_left _ _ (lt-leb _ 256 over)
+
+pub filling-none : (last : List ℕ) → is_above last (replicate 0 122) ≡ false
+filling-none [] = refl
+filling-none (x ∷ last) = refl
+
+pub filling-over : (room : ℕ) → is_above [] (replicate room 122) ≡ nat_lt 0 room
+filling-over zero = refl
+filling-over (suc k) = sym (lt-ltb 0 (suc k) (omega arith))
+
+less-or-not : (x : ℕ) (o : Ordering) → (x ≡ 122 → ⊥) → is_lt (ordering_then (nat_cmp x 122) o) ≡ nat_lt x 122
+less-or-not x o h = elim (cases_order x 122) [
+  | inl e ↦ absurd (h e)
+  | inr (inl l) ↦ ap is_lt (then-by (nat_cmp x 122) Less o (cmp-less x 122 l)) ∙ sym (lt-ltb x 122 l)
+  | inr (inr g) ↦ ap is_lt (then-by (nat_cmp x 122) Greater o (cmp-greater x 122 g)) ∙ sym (le-ltb x 122 (omega arith))
+]
+
+pub filling-other : (x : ℕ) (last : List ℕ) (room : ℕ) → 0 < room → (x ≡ 122 → ⊥) → is_above (x ∷ last) (replicate room 122) ≡ nat_lt x 122
+filling-other x last zero r h = absurd (omega arith)
+filling-other x last (suc room) r h = less-or-not x (slice_cmp nat_cmp last (replicate room 122)) h
+
+pub filling-same : (x : ℕ) (last : List ℕ) (room : ℕ) → 0 < room → x ≡ 122 → is_above (x ∷ last) (replicate room 122) ≡ is_above last (replicate (room - 1) 122)
+filling-same x last zero r h = absurd (omega arith)
+filling-same x last (suc room) r h =
+    let e : room ≡ suc room - 1 = omega arith in
+    ap is_lt (then-by (nat_cmp x 122) Equal (slice_cmp nat_cmp last (replicate room 122)) (cmp-equal x 122 h)) ∙ ap (λ k. is_above last (replicate k 122)) e
+
+pub front-stripped : (last v zs : List ℕ) → pointwise nat_eq (take (length v) last) v ≡ true → is_above last (v ++ zs) ≡ is_above (drop (length v) last) zs
+front-stripped last [] zs h = refl
+front-stripped [] (c ∷ v) zs h = absurd (true≢false (sym h))
+front-stripped (x ∷ last) (c ∷ v) zs h =
+    let t = and_parts (nat_eq x c) (pointwise nat_eq (take (length v) last) v) h in
+    ap is_lt (then-by (nat_cmp x c) Equal (slice_cmp nat_cmp last (v ++ zs)) (cmp-equal x c (eqb-true x c t.0))) ∙ front-stripped last v zs t.1
+
+pub front-kept : (last v zs : List ℕ) → pointwise nat_eq (take (length v) last) v ≡ false → is_above last (v ++ zs) ≡ is_above last v
+front-kept last [] zs h = absurd (true≢false h)
+front-kept [] (c ∷ v) zs h = refl
+front-kept (x ∷ last) (c ∷ v) zs h = elim (cases_order x c) [
+  | inl e ↦
+      let f : pointwise nat_eq (take (length v) last) v ≡ false = sym (ap (λ b. b && pointwise nat_eq (take (length v) last) v) (eq-eqb x c e)) ∙ h in
+      ap is_lt (then-by (nat_cmp x c) Equal (slice_cmp nat_cmp last (v ++ zs)) (cmp-equal x c e))
+      ∙ front-kept last v zs f
+      ∙ sym (ap is_lt (then-by (nat_cmp x c) Equal (slice_cmp nat_cmp last v) (cmp-equal x c e)))
+  | inr (inl l) ↦
+      ap is_lt (then-by (nat_cmp x c) Less (slice_cmp nat_cmp last (v ++ zs)) (cmp-less x c l))
+      ∙ sym (ap is_lt (then-by (nat_cmp x c) Less (slice_cmp nat_cmp last v) (cmp-less x c l)))
+  | inr (inr g) ↦
+      ap is_lt (then-by (nat_cmp x c) Greater (slice_cmp nat_cmp last (v ++ zs)) (cmp-greater x c g))
+      ∙ sym (ap is_lt (then-by (nat_cmp x c) Greater (slice_cmp nat_cmp last v) (cmp-greater x c g)))
+]
+
+-- the code's steps
+
+pub path-short : (w v : List ℕ) (s : Progress) (r : Bool) → v ≡ stem w → s ≡ read Start v → r ≡ may_go_on s → length v < 256 → r ≡ is_path (filled w)
+path-short w v s r e f g h = g ∙ ap may_go_on (f ∙ ap (read Start) e) ∙ sym (filled-short w (subst (λ v. length v < 256) e h))
+
+pub path-full : (w v : List ℕ) (s : Progress) (r : Bool) → v ≡ stem w → s ≡ read Start v → r ≡ is_done s → length v ≡ 256 → r ≡ is_path (filled w)
+path-full w v s r e f g h = g ∙ ap is_done (f ∙ ap (read Start) e) ∙ sym (filled-full w (subst (λ v. length v ≡ 256) e h))
+
+pub path-long : (w v : List ℕ) → v ≡ stem w → 256 ≤ length v → (length v ≡ 256 → ⊥) → nat_eq (length v) 256 ≡ is_path (filled w)
+path-long w v e l h =
+    let over : 256 < length v = omega arith in
+    ne_eqb _ _ h ∙ sym (filled-long w (subst (λ v. 256 < length v) e over))
+
+pub at-none : (xs : List ℕ) (i room : ℕ) → room ≡ 0 → false ≡ is_above (drop i xs) (replicate room 122)
+at-none xs i room h = sym (ap (λ k. is_above (drop i xs) (replicate k 122)) h ∙ filling-none (drop i xs))
+
+pub at-other : (xs : List ℕ) (i room : ℕ) → i < length xs → (room ≡ 0 → ⊥) → (get_or xs i 0 ≡ 122 → ⊥) → nat_lt (get_or xs i 0) 122 ≡ is_above (drop i xs) (replicate room 122)
+at-other xs i room l r h =
+    let some : 0 < room = omega arith in
+    sym (ap (λ ys. is_above ys (replicate room 122)) (drop-cons xs i 0 l) ∙ filling-other (get_or xs i 0) (drop (suc i) xs) room some h)
+
+pub at-same : (xs : List ℕ) (i room : ℕ) → i < length xs → (room ≡ 0 → ⊥) → get_or xs i 0 ≡ 122 → is_above (drop (i + 1) xs) (replicate (room - 1) 122) ≡ is_above (drop i xs) (replicate room 122)
+at-same xs i room l r h =
+    let some : 0 < room = omega arith in
+    rw add-one (sym (ap (λ ys. is_above ys (replicate room 122)) (drop-cons xs i 0 l) ∙ filling-same (get_or xs i 0) (drop (suc i) xs) room some h))
+
+above-filled : (last w v : List ℕ) → v ≡ stem w → is_above last (filled w) ≡ is_above last (v ++ replicate (256 - length v) 122)
+unfolding filled
+above-filled last w v e = ap (λ v. is_above last (v ++ replicate (256 - length v) 122)) (sym e)
+
+pub above-stripped : (last w v rest : List ℕ) (k : ℕ) (r : Bool) → v ≡ stem w → pointwise nat_eq (take (length v) last) v ≡ true → rest ≡ drop (length v) last → k ≡ 256 - length v
+    → r ≡ is_above rest (replicate k 122) → r ≡ is_above last (filled w)
+above-stripped last w v rest k r e h f g i =
+    i ∙ ap (λ xs. is_above xs (replicate k 122)) f ∙ ap (λ k. is_above (drop (length v) last) (replicate k 122)) g
+    ∙ sym (front-stripped last v (replicate (256 - length v) 122) h) ∙ sym (above-filled last w v e)
+
+pub above-kept : (last w v : List ℕ) (r : Bool) → v ≡ stem w → pointwise nat_eq (take (length v) last) v ≡ false → r ≡ is_above last v → r ≡ is_above last (filled w)
+above-kept last w v r e h i = i ∙ sym (front-kept last v (replicate (256 - length v) 122) h) ∙ sym (above-filled last w v e)

@@ -1,8 +1,8 @@
 //! Paths and names of objects.
-ghost use Rattle.std.specs.Prelude.{◌≡◌, if◌then◌else◌};
+ghost use Rattle.std.specs.Prelude.{◌≡◌, ◌++◌, replicate, if◌then◌else◌};
 ghost use Rattle.lp_meaning.specs.Script.{is_part_byte as part_byte};
 ghost use Rattle.lp_words.specs.declared.path.Progress.TheVariants.{Start, Part, Refused};
-ghost use Rattle.lp_words.specs.Paths.{step as step_of, read, is_done as is_done_of, is_path as path_test};
+ghost use Rattle.lp_words.specs.Paths.{step as step_of, read, is_done as is_done_of, is_path as path_test, may_go_on as may_go_on_of, stem as stem_of, filled, is_above as above, begins_path as path_begins};
 
 /// How far the bytes so far have come in a path.
 #[derive(Debug, Clone, Copy)]
@@ -79,4 +79,80 @@ pub fn is_path(word: &[u8]) -> bool
     ensures { result ≡ path_test word.now }
 {
     word.len() <= 256 && is_done(progress_after(word))
+}
+
+fn may_go_on(progress: Progress) -> bool
+    ensures { result ≡ may_go_on_of progress }
+{
+    match progress {
+        Progress::Start | Progress::Refused => false,
+        Progress::Slash | Progress::Dot | Progress::Dots | Progress::Part => true,
+    }
+}
+
+// A word from its first `/` on.
+fn stem(word: &[u8]) -> &[u8]
+    ensures { result.now ≡ stem_of word.now }
+{
+    if word.is_empty() {
+        b"/".as_slice()
+    } else {
+        word
+    }
+}
+
+// Whether a word filled up with `z` is a path. It is not built.
+fn is_filled_path(word: &[u8]) -> bool
+    ensures { result ≡ path_test (filled word.now) }
+{
+    let stem = stem(word);
+    let progress = progress_after(stem);
+    if stem.len() < 256 {
+        may_go_on(progress)
+    } else {
+        stem.len() == 256 && is_done(progress)
+    }
+}
+
+/// Whether a path stands above the last one, by its bytes.
+pub fn is_above(last: &[u8], path: &[u8]) -> bool
+    ensures { result ≡ above last.now path.now }
+{
+    last.cmp(&path).is_lt()
+}
+
+// Whether as many `z` stand above the last path.
+fn is_filling_above(last: &[u8], room: usize) -> bool
+    ensures { result ≡ above last.now (replicate room 122) }
+{
+    let mut room = room;
+    for c in last {
+        if room == 0 {
+            return false;
+        }
+        if *c != b'z' {
+            return *c < b'z';
+        }
+        room -= 1;
+    }
+    room > 0
+}
+
+// Whether a word filled up with `z` stands above the last path.
+fn is_filled_above(last: &[u8], word: &[u8]) -> bool
+    ensures { result ≡ above last.now (filled word.now) }
+{
+    let stem = stem(word);
+    match last.strip_prefix(stem) {
+        Some(rest) => is_filling_above(rest, 256_usize.saturating_sub(stem.len())),
+        None => is_above(last, stem),
+    }
+}
+
+/// Whether some path above the last one begins with a word.
+#[tactic(auto, unfolding(crate::specs::Paths::begins_path))]
+pub fn begins_path(last: &[u8], word: &[u8]) -> bool
+    ensures { result ≡ path_begins last.now word.now }
+{
+    is_filled_path(word) && is_filled_above(last, word)
 }
