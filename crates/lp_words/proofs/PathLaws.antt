@@ -6,7 +6,7 @@ use Rattle.std.specs.Cmp.Lexicographic.{slice_cmp, pointwise}
 use Rattle.std.specs.declared.cmp.Ordering.{Ordering}
 use Rattle.std.specs.declared.cmp.Ordering.TheVariants.{Less, Equal, Greater}
 use Rattle.std.proofs.lemmas.Bool.Decides.{nat_tests}
-use Rattle.std.proofs.lemmas.Bool.{cases_order, lt-ltb, le-ltb, lt-leb, eq-eqb, ne_eqb, and_left}
+use Rattle.std.proofs.lemmas.Bool.{cases_order, cases_lt, lt-ltb, le-ltb, lt-leb, eq-eqb, ne_eqb, and_left}
 use Rattle.std.proofs.lemmas.List.{length-replicate}
 use Rattle.std.specs.Prelude.{if◌then◌else◌, nat_le}
 use Rattle.std.specs.List.{list_all}
@@ -14,10 +14,18 @@ use Rattle.std.proofs.lemmas.Bool.{and_parts, and_from, eqb-true, eqb-false, leb
 use Rattle.std.proofs.lemmas.List.{append-nil}
 use Rattle.std.proofs.lemmas.List.Folds.{list_all-append}
 use Rattle.std.proofs.lemmas.List.Sums.{AllPass-from_list_all, list_all-from_AllPass}
-use Rattle.lp_meaning.specs.Script.{is_part_byte, IsPart, AreParts, path_of, IsPath}
+use Rattle.lp_meaning.specs.Script.{is_part_byte, IsPart, AreParts, path_of, IsPath, EndsInC, IsObjectName, numeral}
 use Rattle.lp_words.specs.declared.path.Progress.{Progress}
 use Rattle.lp_words.specs.declared.path.Progress.TheVariants.{Start, Slash, Dot, Dots, Part, Refused}
-use Rattle.lp_words.specs.Paths.{step, read, is_done, is_path, may_go_on, stem, filled, is_above, begins_path}
+use Rattle.lp_words.specs.Paths.{step, read, is_done, is_path, may_go_on, stem, filled, is_above, begins_path, is_nil, is_digit, is_numeral, ends_in_c, is_object_path, before_hash, from_hash, is_clone, is_name, begins_with_parts, begins_name}
+use Rattle.lp_words.proofs.Numerals.{numeral-passes, numeral-spelled, numeral-digits, numeral-front}
+use Rattle.std.specs.Prelude.{◌||◌, codes}
+use Rattle.std.specs.List.{prefix_len}
+use Rattle.std.proofs.lemmas.List.Sums.{prefix_len-le-length}
+use Rattle.std.proofs.lemmas.Slice.Eq.{ends_is}
+use Rattle.std.proofs.lemmas.Bool.Decides.{Decides-eqb}
+use Rattle.std.proofs.lemmas.Bool.{or_cases, not-true, false_from_ne_true}
+use Rattle.std.proofs.Common.{one-add, cond}
 
 -- what has been read of the last part
 abbrev Describes : Progress → List ℕ → Type 0
@@ -541,3 +549,343 @@ above-stripped last w v rest k r e h f g i =
 
 pub above-kept : (last w v : List ℕ) (r : Bool) → v ≡ stem w → pointwise nat_eq (take (length v) last) v ≡ false → r ≡ is_above last v → r ≡ is_above last (filled w)
 above-kept last w v r e h i = i ∙ sym (front-kept last v (replicate (256 - length v) 122) h) ∙ sym (above-filled last w v e)
+
+pub is_above-yes : (last path : List ℕ) → is_above last path ≡ true → slice_cmp nat_cmp last path ≡ Less
+is_above-yes last path h = less-from _ h
+
+pub is_above-no : (last path : List ℕ) → is_above last path ≡ false → slice_cmp nat_cmp last path ≡ Less → ⊥
+is_above-no last path h e = both_ways (is_above last path) h (ap is_lt e)
+
+-- THE END OF A TEXT
+
+pub ends_in_c-yes : (w : List ℕ) → ends_in_c w ≡ true → EndsInC w
+ends_in_c-yes w h = let t = ends_is Decides-eqb w (codes ".c") (ends_in_c w) refl in (take (length w - 2) w, t.0 h)
+
+pub ends_in_c-no : (w : List ℕ) → ends_in_c w ≡ false → EndsInC w → ⊥
+ends_in_c-no w h e = let t = ends_is Decides-eqb w (codes ".c") (ends_in_c w) refl in both_ways (ends_in_c w) h (t.1 e.0 e.1)
+
+not-ends : (w : List ℕ) → (EndsInC w → ⊥) → ends_in_c w ≡ false
+not-ends w h = false_from_ne_true (ends_in_c w) (λ e. h (ends_in_c-yes w e))
+
+-- the last byte, or this one
+abbrev last_or : ℕ → List ℕ → ℕ
+last_or d [] = d
+last_or d (x ∷ xs) = last_or x xs
+
+last-push : (d : ℕ) (xs : List ℕ) (a : ℕ) → last_or d (xs ++ a ∷ []) ≡ a
+last-push d [] a = refl
+last-push d (x ∷ xs) a = last-push x xs a
+
+last-c : (d : ℕ) (xs : List ℕ) → last_or d (xs ++ codes ".c") ≡ 99
+last-c d [] = refl
+last-c d (x ∷ xs) = last-c x xs
+
+last-filling : (d k : ℕ) → last_or d (replicate (suc k) 122) ≡ 122
+last-filling d zero = refl
+last-filling d (suc k) = last-filling 122 k
+
+last-filled : (d : ℕ) (v : List ℕ) (k : ℕ) → last_or d (v ++ replicate (suc k) 122) ≡ 122
+last-filled d [] k = last-filling d k
+last-filled d (x ∷ v) k = last-filled x v k
+
+two-bytes : (x : ℕ) → x ≡ 122 → x ≡ 99 → ⊥
+two-bytes x e f = omega arith
+
+filling-ends : (v : List ℕ) (k : ℕ) → EndsInC (v ++ replicate (suc k) 122) → ⊥
+filling-ends v k e = two-bytes (last_or 0 (v ++ replicate (suc k) 122)) (last-filled 0 v k) (ap (last_or 0) e.1 ∙ last-c 0 e.0)
+
+-- a word with room ends with the greatest byte of a part, and one without is as it was
+end-room : (v : List ℕ) (k : ℕ) → 0 < k → EndsInC (v ++ replicate k 122) → ⊥
+end-room v zero h = absurd (omega arith)
+end-room v (suc k) h = filling-ends v k
+
+no-room : (v : List ℕ) (k : ℕ) → k ≡ 0 → v ++ replicate k 122 ≡ v
+no-room v zero h = append-nil v
+no-room v (suc k) h = absurd (omega arith)
+
+filled-ends : (w : List ℕ) → length (stem w) < 256 → EndsInC (filled w) → ⊥
+unfolding filled
+filled-ends w h = let room : 0 < 256 - length (stem w) = omega arith in end-room (stem w) (256 - length (stem w)) room
+
+filled-same : (w : List ℕ) → 256 ≤ length (stem w) → filled w ≡ stem w
+unfolding filled
+filled-same w h = let room : 256 - length (stem w) ≡ 0 = omega arith in no-room (stem w) (256 - length (stem w)) room
+
+-- OBJECT PATHS
+
+abbrev IsObjectPath : List ℕ → Type 0
+IsObjectPath w = IsPath w × (EndsInC w → ⊥)
+
+object_path-yes : (w : List ℕ) → is_object_path w ≡ true → IsObjectPath w
+object_path-yes w h =
+    let t = and_parts (is_path w) (not (ends_in_c w)) h in
+    (is_path-yes w t.0, ends_in_c-no w (not-true (ends_in_c w) t.1))
+
+object_path-complete : (w : List ℕ) → IsObjectPath w → is_object_path w ≡ true
+object_path-complete w p = and_from _ _ (is_path-complete w p.0) (ap not (not-ends w p.1))
+
+-- where there is no room for more, the path is the word
+whole-stem : (v rest : List ℕ) → 256 ≤ length v → length (v ++ rest) ≤ 256 → v ++ rest ≡ v
+whole-stem v [] h l = append-nil v
+whole-stem v (c ∷ rest) h l = absurd (omega (arith, length-append v (c ∷ rest)))
+
+filled-object : (w rest : List ℕ) → IsObjectPath (stem w ++ rest) → EndsInC (filled w) → ⊥
+filled-object w rest p = elim (cases_lt (length (stem w)) 256) [
+  | inl l ↦ filled-ends w l
+  | inr g ↦ λ e. p.1 (subst EndsInC (filled-same w g ∙ sym (whole-stem (stem w) rest g p.0.short)) e)
+]
+
+filled-complete : (w others : List ℕ) → IsObjectPath (w ++ others) → is_object_path (filled w) ≡ true
+filled-complete w others p =
+    let t = stem-first w others p.0 in
+    let q : IsObjectPath (stem w ++ t.0) = subst IsObjectPath t.1 p in
+    and_from _ _ (is_path-filled w t.0 q.0) (ap not (not-ends (filled w) (filled-object w t.0 q)))
+
+-- THE HASH
+
+abbrev no_hash : ℕ → Bool
+no_hash c = not (c == 35)
+
+path-no_hash : (w : List ℕ) → IsPath w → list_all no_hash w ≡ true
+path-no_hash w p = all-path no_hash refl (λ c h. other-byte 35 c refl h) w p
+
+-- nothing, or what begins with a `#`
+abbrev IsTail : List ℕ → Type 0
+IsTail [] = Unit {0}
+IsTail (c ∷ cs) = c ≡ 35
+
+joins-by : (b : Bool) (c : ℕ) (cs xs ys : List ℕ) → xs ++ ys ≡ cs → if◌then◌else◌ b [] (c ∷ xs) ++ if◌then◌else◌ b (c ∷ cs) ys ≡ c ∷ cs
+joins-by true c cs xs ys h = refl
+joins-by false c cs xs ys h = ap (λ zs. c ∷ zs) h
+
+hash-joins : (w : List ℕ) → before_hash w ++ from_hash w ≡ w
+hash-joins [] = refl
+hash-joins (c ∷ cs) = joins-by (c == 35) c cs (before_hash cs) (from_hash cs) (hash-joins cs)
+
+tail-by : (b : Bool) (c : ℕ) (cs ys : List ℕ) → (c == 35) ≡ b → IsTail ys → IsTail (if◌then◌else◌ b (c ∷ cs) ys)
+tail-by true c cs ys e h = eqb-true c 35 e
+tail-by false c cs ys e h = h
+
+hash-tail : (w : List ℕ) → IsTail (from_hash w)
+hash-tail [] = tt
+hash-tail (c ∷ cs) = tail-by (c == 35) c cs (from_hash cs) refl (hash-tail cs)
+
+front-by : (b : Bool) (c : ℕ) (xs : List ℕ) → (c == 35) ≡ b → list_all no_hash xs ≡ true → list_all no_hash (if◌then◌else◌ b [] (c ∷ xs)) ≡ true
+front-by true c xs e h = refl
+front-by false c xs e h = and_from _ _ (ap not e) h
+
+hash-front : (w : List ℕ) → list_all no_hash (before_hash w) ≡ true
+hash-front [] = refl
+hash-front (c ∷ cs) = front-by (c == 35) c (before_hash cs) refl (hash-front cs)
+
+hash-byte : (c : ℕ) → no_hash c ≡ true → c ≡ 35 → ⊥
+hash-byte c h e = eqb-false c 35 (not-true (c == 35) h) e
+
+-- two words with a tail each are equal where both fronts and both tails are
+same-front : (p q a b : List ℕ) → list_all no_hash p ≡ true → list_all no_hash q ≡ true → IsTail a → IsTail b → p ++ a ≡ q ++ b → (p ≡ q) × (a ≡ b)
+same-front [] [] a b f g s t e = (refl, e)
+same-front [] (y ∷ q) [] b f g s t e = absurd cc
+same-front [] (y ∷ q) (x ∷ a) b f g s t e = absurd (hash-byte y (and_parts (no_hash y) (list_all no_hash q) g).0 (let d : x ≡ y = cc in sym d ∙ s))
+same-front (x ∷ p) [] a [] f g s t e = absurd cc
+same-front (x ∷ p) [] a (y ∷ b) f g s t e = absurd (hash-byte x (and_parts (no_hash x) (list_all no_hash p) f).0 (let d : x ≡ y = cc in d ∙ t))
+same-front (x ∷ p) (y ∷ q) a b f g s t e =
+    let d : x ≡ y = cc in
+    let u : p ++ a ≡ q ++ b = cc in
+    let r = same-front p q a b (and_parts (no_hash x) (list_all no_hash p) f).1 (and_parts (no_hash y) (list_all no_hash q) g).1 s t u in
+    (ap (λ z. z ∷ p) d ∙ ap (λ zs. y ∷ zs) r.0, r.1)
+
+-- a word without `#` that begins a path and a tail begins the path
+front-within : (w path a others : List ℕ) → list_all no_hash w ≡ true → IsTail a → path ++ a ≡ w ++ others → (rest : List ℕ) × (path ≡ w ++ rest)
+front-within [] path a others f s e = (path, refl)
+front-within (c ∷ w) [] [] others f s e = absurd cc
+front-within (c ∷ w) [] (x ∷ a) others f s e = absurd (hash-byte c (and_parts (no_hash c) (list_all no_hash w) f).0 (let d : x ≡ c = cc in sym d ∙ s))
+front-within (c ∷ w) (x ∷ path) a others f s e =
+    let d : x ≡ c = cc in
+    let u : path ++ a ≡ w ++ others = cc in
+    let r = front-within w path a others (and_parts (no_hash c) (list_all no_hash w) f).1 s u in
+    (r.0, ap (λ z. z ∷ path) d ∙ ap (λ zs. c ∷ zs) r.1)
+
+-- NAMES
+
+-- what stands behind the path of a name
+abbrev IsClone : List ℕ → Type 0
+IsClone [] = Unit {0}
+IsClone (c ∷ cs) = (c ≡ 35) × (is_numeral cs ≡ true)
+
+record Named (name path tail : List ℕ) : Type 0 where
+  object : IsObjectPath path
+  clone : IsClone tail
+  joined : name ≡ path ++ tail
+
+clone-tail : (a : List ℕ) → IsClone a → IsTail a
+clone-tail [] h = tt
+clone-tail (c ∷ cs) h = h.0
+
+clone-passes : (a : List ℕ) → IsClone a → is_clone a ≡ true
+clone-passes [] h = refl
+clone-passes (c ∷ cs) h = h.1
+
+clone-from : (a : List ℕ) → IsTail a → is_clone a ≡ true → IsClone a
+clone-from [] t h = tt
+clone-from (c ∷ cs) t h = (t, h)
+
+hash-joined : (path xs : List ℕ) → path ++ codes "#" ++ xs ≡ path ++ 35 ∷ xs
+hash-joined path xs = append_assoc path (35 ∷ []) xs
+
+abbrev Splits : List ℕ → Type 0
+Splits name = (path : List ℕ) × (tail : List ℕ) × Named name path tail
+
+name-splits : (name : List ℕ) → IsObjectName name → Splits name
+name-splits name o = elim o.spelled [
+  | inl e ↦ (o.path, [], record { object = (o.is_path, o.no_source); clone = tt; joined = e ∙ sym (append-nil o.path) })
+  | inr s ↦ (o.path, 35 ∷ numeral s.0, record { object = (o.is_path, o.no_source); clone = (refl, numeral-passes s.0); joined = s.1 ∙ hash-joined o.path (numeral s.0) })
+]
+
+name-from : (name path tail : List ℕ) → Named name path tail → IsObjectName name
+name-from name path [] n = record { path = path; is_path = n.object.0; no_source = n.object.1; spelled = inl (n.joined ∙ append-nil path) }
+name-from name path (c ∷ cs) n =
+    let s = numeral-spelled cs n.clone.1 in
+    record { path = path; is_path = n.object.0; no_source = n.object.1; spelled = inr (s.0, n.joined ∙ ap (λ x. path ++ x ∷ cs) n.clone.0 ∙ ap (λ xs. path ++ 35 ∷ xs) s.1 ∙ sym (hash-joined path (numeral s.0))) }
+
+pub is_name-yes : (w : List ℕ) → is_name w ≡ true → IsObjectName w
+unfolding is_name
+is_name-yes w h =
+    let t = and_parts (is_object_path (before_hash w)) (is_clone (from_hash w)) h in
+    name-from w (before_hash w) (from_hash w) (record { object = object_path-yes (before_hash w) t.0; clone = clone-from (from_hash w) (hash-tail w) t.1; joined = sym (hash-joins w) })
+
+named-complete : (w path tail : List ℕ) → Named w path tail → is_name w ≡ true
+unfolding is_name
+named-complete w path tail n =
+    let s = same-front (before_hash w) path (from_hash w) tail (hash-front w) (path-no_hash path n.object.0) (hash-tail w) (clone-tail tail n.clone) (hash-joins w ∙ n.joined) in
+    and_from _ _ (ap is_object_path s.0 ∙ object_path-complete path n.object) (ap is_clone s.1 ∙ clone-passes tail n.clone)
+
+is_name-complete : (w : List ℕ) → IsObjectName w → is_name w ≡ true
+is_name-complete w o = let s = name-splits w o in named-complete w s.0 s.1 s.2
+
+pub is_name-no : (w : List ℕ) → is_name w ≡ false → IsObjectName w → ⊥
+is_name-no w h o = both_ways (is_name w) h (is_name-complete w o)
+
+-- BEGUN NAMES
+
+abbrev Begun : List ℕ → Type 0
+Begun w = (name : List ℕ) × IsObjectName name × (others : List ℕ) × (name ≡ w ++ others)
+
+begun-path : (w path : List ℕ) → path ++ [] ≡ w → is_object_path (filled path) ≡ true → Begun w
+begun-path w path e h =
+    let f = filled-front path in
+    let j : filled path ≡ w ++ f.0 = f.1 ∙ ap (λ p. p ++ f.0) (sym (append-nil path) ∙ e) in
+    (filled path, name-from (filled path) (filled path) [] (record { object = object_path-yes (filled path) h; clone = tt; joined = sym (append-nil (filled path)) }), f.0, j)
+
+begun-hash : (w path : List ℕ) (c : ℕ) (cs : List ℕ) → c ≡ 35 → path ++ c ∷ cs ≡ w → is_object_path path ≡ true → is_nil cs ≡ true → Begun w
+begun-hash w path c (x ∷ cs) t e h n = absurd (true≢false (sym n))
+begun-hash w path c [] t e h n =
+    let j : path ++ c ∷ numeral 0 ≡ w ++ numeral 0 = sym (append_assoc path (c ∷ []) (numeral 0)) ∙ ap (λ v. v ++ numeral 0) e in
+    (path ++ c ∷ numeral 0, name-from (path ++ c ∷ numeral 0) path (c ∷ numeral 0) (record { object = object_path-yes path h; clone = (t, numeral-passes 0); joined = refl }), numeral 0, j)
+
+begun-clone : (w path : List ℕ) (c : ℕ) (cs : List ℕ) → c ≡ 35 → path ++ c ∷ cs ≡ w → is_object_path path ≡ true → is_numeral cs ≡ true → Begun w
+begun-clone w path c cs t e h n = (w, name-from w path (c ∷ cs) (record { object = object_path-yes path h; clone = (t, n); joined = sym e }), [], sym (append-nil w))
+
+begun-parts : (w path tail : List ℕ) → IsTail tail → path ++ tail ≡ w → begins_with_parts path tail ≡ true → Begun w
+begun-parts w path [] t e h = begun-path w path e h
+begun-parts w path (c ∷ cs) t e h =
+    let s = and_parts (is_object_path path) (is_nil cs || is_numeral cs) h in
+    elim (or_cases (is_nil cs) (is_numeral cs) s.1) [
+      | inl n ↦ begun-hash w path c cs t e s.0 n
+      | inr n ↦ begun-clone w path c cs t e s.0 n
+    ]
+
+pub begins_name-yes : (w : List ℕ) → begins_name w ≡ true → (name : List ℕ) × IsObjectName name × (others : List ℕ) × (name ≡ w ++ others)
+unfolding begins_name
+begins_name-yes w h = begun-parts w (before_hash w) (from_hash w) (hash-tail w) (hash-joins w) h
+
+number-front : (cs others : List ℕ) → is_numeral (cs ++ others) ≡ true → (is_nil cs || is_numeral cs) ≡ true
+number-front [] others h = refl
+number-front (c ∷ cs) others h = numeral-front c cs others h
+
+tail-begun : (c : ℕ) (cs others tail : List ℕ) → IsClone tail → tail ≡ c ∷ (cs ++ others) → (is_nil cs || is_numeral cs) ≡ true
+tail-begun c cs others [] n e = absurd cc
+tail-begun c cs others (x ∷ xs) n e =
+    let d : xs ≡ cs ++ others = cc in
+    number-front cs others (sym (ap is_numeral d) ∙ n.1)
+
+parts-complete : (w front back name path tail others : List ℕ) → list_all no_hash front ≡ true → IsTail back → front ++ back ≡ w → Named name path tail → name ≡ w ++ others → begins_with_parts front back ≡ true
+parts-complete w front [] name path tail others f t j n e =
+    let u : path ++ tail ≡ front ++ others = sym n.joined ∙ e ∙ ap (λ v. v ++ others) (sym j ∙ append-nil front) in
+    let r = front-within front path tail others f (clone-tail tail n.clone) u in
+    filled-complete front r.0 (subst IsObjectPath r.1 n.object)
+parts-complete w front (c ∷ cs) name path tail others f t j n e =
+    let u : path ++ tail ≡ front ++ c ∷ (cs ++ others) = sym n.joined ∙ e ∙ ap (λ v. v ++ others) (sym j) ∙ append_assoc front (c ∷ cs) others in
+    let s = same-front path front tail (c ∷ (cs ++ others)) (path-no_hash path n.object.0) f (clone-tail tail n.clone) t u in
+    and_from _ _ (sym (ap is_object_path s.0) ∙ object_path-complete path n.object) (tail-begun c cs others tail n.clone s.1)
+
+begins_name-complete : (w name others : List ℕ) → IsObjectName name → name ≡ w ++ others → begins_name w ≡ true
+unfolding begins_name
+begins_name-complete w name others o e =
+    let s = name-splits name o in
+    parts-complete w (before_hash w) (from_hash w) name s.0 s.1 others (hash-front w) (hash-tail w) (hash-joins w) s.2 e
+
+pub begins_name-no : (w : List ℕ) → begins_name w ≡ false → (name others : List ℕ) → IsObjectName name → name ≡ w ++ others → ⊥
+begins_name-no w h name others o e = both_ways (begins_name w) h (begins_name-complete w name others o e)
+
+other-digit : (n c : ℕ) → is_digit n ≡ false → is_digit c ≡ true → not (c == n) ≡ true
+other-digit n c none h = elim (cases_Bool (c == n)) [
+  | inl e ↦ absurd (both_ways (is_digit n) none (subst (λ x. is_digit x ≡ true) (eqb-true c n e) h))
+  | inr e ↦ ap not e
+]
+
+digit-no_space : (c : ℕ) → is_digit c ≡ true → (not (c == 32) && not (c == 10)) ≡ true
+digit-no_space c h = and_from _ _ (other-digit 32 c refl h) (other-digit 10 c refl h)
+
+clone-bytes : (tail : List ℕ) → IsClone tail → list_all (λ c. not (c == 32) && not (c == 10)) tail ≡ true
+clone-bytes [] h = refl
+clone-bytes (c ∷ cs) h =
+    and_from _ _ (ap (λ x. not (x == 32) && not (x == 10)) h.0) (all-pass is_digit (λ c. not (c == 32) && not (c == 10)) digit-no_space cs (numeral-digits cs h.1))
+
+-- no byte of a name is a space or a newline
+pub name-bytes : (w : List ℕ) → IsObjectName w → list_all (λ c. not (c == 32) && not (c == 10)) w ≡ true
+name-bytes w o =
+    let s = name-splits w o in
+    ap (list_all (λ c. not (c == 32) && not (c == 10))) s.2.joined
+    ∙ list_all-append (λ c. not (c == 32) && not (c == 10)) s.0 s.1
+    ∙ and_from _ _ (path-bytes s.0 s.2.object.0) (clone-bytes s.1 s.2.clone)
+
+-- how the code splits a word, and what the end of a filled word is
+
+take-by : (b : Bool) (c : ℕ) (cs : List ℕ) (n : ℕ) (xs : List ℕ) → xs ≡ take n cs → if◌then◌else◌ b [] (c ∷ xs) ≡ take (cond (not b) (1 + n) 0) (c ∷ cs)
+take-by true c cs n xs h = refl
+take-by false c cs n xs h = rw one-add (ap (λ ys. c ∷ ys) h)
+
+drop-by : (b : Bool) (c : ℕ) (cs : List ℕ) (n : ℕ) (xs : List ℕ) → xs ≡ drop n cs → if◌then◌else◌ b (c ∷ cs) xs ≡ drop (cond (not b) (1 + n) 0) (c ∷ cs)
+drop-by true c cs n xs h = refl
+drop-by false c cs n xs h = rw one-add h
+
+pub hash-take : (w : List ℕ) → before_hash w ≡ take (prefix_len (λ c. not (c == 35)) w) w
+hash-take [] = refl
+hash-take (c ∷ cs) = take-by (c == 35) c cs (prefix_len no_hash cs) (before_hash cs) (hash-take cs)
+
+pub hash-drop : (w : List ℕ) → from_hash w ≡ drop (prefix_len (λ c. not (c == 35)) w) w
+hash-drop [] = refl
+hash-drop (c ∷ cs) = drop-by (c == 35) c cs (prefix_len no_hash cs) (from_hash cs) (hash-drop cs)
+
+pub end-short : (w v : List ℕ) → v ≡ stem w → length v < 256 → false ≡ ends_in_c (filled w)
+end-short w v e h = sym (not-ends (filled w) (filled-ends w (subst (λ v. length v < 256) e h)))
+
+pub end-full : (w v : List ℕ) (r : Bool) → v ≡ stem w → 256 ≤ length v → r ≡ ends_in_c v → r ≡ ends_in_c (filled w)
+end-full w v r e h f = f ∙ ap ends_in_c e ∙ sym (ap ends_in_c (filled-same w (subst (λ v. 256 ≤ length v) e h)))
+
+pub split-within : (w : List ℕ) (n : ℕ) → n ≡ prefix_len (λ c. not (c == 35)) w → n ≤ length w
+split-within w n e = omega (arith, prefix_len-le-length (λ c. not (c == 35)) w)
+
+split-front : (w p : List ℕ) (n : ℕ) → n ≡ prefix_len (λ c. not (c == 35)) w → p ≡ take n w → p ≡ before_hash w
+split-front w p n e f = f ∙ ap (λ n. take n w) e ∙ sym (hash-take w)
+
+split-behind : (w t : List ℕ) (n : ℕ) → n ≡ prefix_len (λ c. not (c == 35)) w → t ≡ drop n w → t ≡ from_hash w
+split-behind w t n e f = f ∙ ap (λ n. drop n w) e ∙ sym (hash-drop w)
+
+pub split-name : (w p t : List ℕ) (n : ℕ) (r : Bool) → n ≡ prefix_len (λ c. not (c == 35)) w → p ≡ take n w → t ≡ drop n w → r ≡ (is_object_path p && is_clone t) → r ≡ is_name w
+unfolding is_name
+split-name w p t n r e f g h = h ∙ ap (λ p. is_object_path p && is_clone t) (split-front w p n e f) ∙ ap (λ t. is_object_path (before_hash w) && is_clone t) (split-behind w t n e g)
+
+pub split-begun : (w p t : List ℕ) (n : ℕ) (r : Bool) → n ≡ prefix_len (λ c. not (c == 35)) w → p ≡ take n w → t ≡ drop n w → r ≡ begins_with_parts p t → r ≡ begins_name w
+unfolding begins_name
+split-begun w p t n r e f g h = h ∙ ap (λ p. begins_with_parts p t) (split-front w p n e f) ∙ ap (begins_with_parts (before_hash w)) (split-behind w t n e g)

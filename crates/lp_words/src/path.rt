@@ -1,8 +1,9 @@
 //! Paths and names of objects.
-ghost use Rattle.std.specs.Prelude.{◌≡◌, ◌++◌, replicate, if◌then◌else◌};
+ghost use Rattle.std.specs.Prelude.{◌≡◌, replicate, if◌then◌else◌, not, ◌==◌, ◌&&◌};
 ghost use Rattle.lp_meaning.specs.Script.{is_part_byte as part_byte};
 ghost use Rattle.lp_words.specs.declared.path.Progress.TheVariants.{Start, Part, Refused};
-ghost use Rattle.lp_words.specs.Paths.{step as step_of, read, is_done as is_done_of, is_path as path_test, may_go_on as may_go_on_of, stem as stem_of, filled, is_above as above, begins_path as path_begins};
+ghost use Rattle.lp_words.specs.Paths.{step as step_of, read, is_done as is_done_of, is_path as path_test, may_go_on as may_go_on_of, stem as stem_of, filled, is_above as above, begins_path as path_begins, is_digit as digit, is_numeral as numeral_test, ends_in_c as source_end, is_object_path as object_path, is_clone as clone_test, is_name as name_test, begins_with_parts as parts_begin, begins_name as name_begins};
+ghost use Rattle.std.specs.List.{list_all, prefix_len};
 
 /// How far the bytes so far have come in a path.
 #[derive(Debug, Clone, Copy)]
@@ -155,4 +156,110 @@ pub fn begins_path(last: &[u8], word: &[u8]) -> bool
     ensures { result ≡ path_begins last.now word.now }
 {
     is_filled_path(word) && is_filled_above(last, word)
+}
+
+fn is_digit(c: u8) -> bool
+    ensures { result ≡ digit c }
+{
+    48 <= c && c <= 57
+}
+
+fn are_digits(word: &[u8]) -> bool
+    ensures { result ≡ list_all digit word.now }
+{
+    word.iter().all(|c| is_digit(*c))
+}
+
+// A number in decimal, without a leading zero, of any size.
+fn is_numeral(word: &[u8]) -> bool
+    ensures { result ≡ numeral_test word.now }
+{
+    match word.split_first() {
+        None => false,
+        Some((first, rest)) => {
+            if *first == b'0' {
+                rest.is_empty()
+            } else {
+                are_digits(word)
+            }
+        }
+    }
+}
+
+fn ends_in_c(word: &[u8]) -> bool
+    ensures { result ≡ source_end word.now }
+{
+    word.ends_with(b".c".as_slice())
+}
+
+fn is_object_path(word: &[u8]) -> bool
+    ensures { result ≡ object_path word.now }
+{
+    is_path(word) && !ends_in_c(word)
+}
+
+// How many bytes stand before the first `#`.
+fn path_len(word: &[u8]) -> usize
+    ensures { result ≡ prefix_len (λ c. not (c == 35)) word.now }
+{
+    word.iter().take_while(|c| **c != b'#').count()
+}
+
+// What stands from a `#` on, if anything does.
+fn is_clone(tail: &[u8]) -> bool
+    ensures { result ≡ clone_test tail.now }
+{
+    match tail.split_first() {
+        None => true,
+        Some((_, number)) => is_numeral(number),
+    }
+}
+
+fn is_name_of(path: &[u8], tail: &[u8]) -> bool
+    ensures { result ≡ (object_path path.now && clone_test tail.now) }
+{
+    is_object_path(path) && is_clone(tail)
+}
+
+/// Whether a word is the name of an object: a path that does not end with `.c`, and for a clone a
+/// `#` and a number without a leading zero.
+pub fn is_name(word: &[u8]) -> bool
+    ensures { result ≡ name_test word.now }
+{
+    let (path, tail) = word.split_at(path_len(word));
+    is_name_of(path, tail)
+}
+
+// Whether a word filled up with `z` ends with `.c`.
+fn ends_filled_in_c(word: &[u8]) -> bool
+    ensures { result ≡ source_end (filled word.now) }
+{
+    let stem = stem(word);
+    if stem.len() < 256 {
+        return false;
+    }
+    ends_in_c(stem)
+}
+
+fn is_filled_object_path(word: &[u8]) -> bool
+    ensures { result ≡ object_path (filled word.now) }
+{
+    is_filled_path(word) && !ends_filled_in_c(word)
+}
+
+fn begins_with_parts(path: &[u8], tail: &[u8]) -> bool
+    ensures { result ≡ parts_begin path.now tail.now }
+{
+    match tail.split_first() {
+        None => is_filled_object_path(path),
+        Some((_, number)) => { is_object_path(path) && (number.is_empty() || is_numeral(number)) }
+    }
+}
+
+/// Whether some name of an object begins with a word.
+pub fn begins_name(word: &[u8]) -> bool
+    ensures { result ≡ name_begins word.now }
+{
+    let (path, tail) = word.split_at(path_len(word));
+    begins_with_parts(path, tail)
 }
