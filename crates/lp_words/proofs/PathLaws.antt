@@ -5,6 +5,7 @@ use Rattle.std.specs.Cmp.{nat_cmp_is}
 use Rattle.std.specs.Cmp.Lexicographic.{slice_cmp, pointwise}
 use Rattle.std.specs.declared.cmp.Ordering.{Ordering}
 use Rattle.std.specs.declared.cmp.Ordering.TheVariants.{Less, Equal, Greater}
+use Rattle.std.proofs.Common.{Decides}
 use Rattle.std.proofs.lemmas.Bool.Decides.{nat_tests}
 use Rattle.std.proofs.lemmas.Bool.{cases_order, cases_lt, lt-ltb, le-ltb, lt-leb, eq-eqb, ne_eqb, and_left}
 use Rattle.std.proofs.lemmas.List.{length-replicate}
@@ -17,14 +18,14 @@ use Rattle.std.proofs.lemmas.List.Sums.{AllPass-from_list_all, list_all-from_All
 use Rattle.lp_meaning.specs.Script.{is_part_byte, IsPart, AreParts, path_of, IsPath, EndsInC, IsObjectName, numeral}
 use Rattle.lp_words.specs.declared.path.Progress.{Progress}
 use Rattle.lp_words.specs.declared.path.Progress.TheVariants.{Start, Slash, Dot, Dots, Part, Refused}
-use Rattle.lp_words.specs.Paths.{step, read, is_done, is_path, may_go_on, stem, filled, is_above, begins_path, is_nil, is_digit, is_numeral, ends_in_c, is_object_path, before_hash, from_hash, is_clone, is_name, begins_with_parts, begins_name}
+use Rattle.lp_words.specs.Paths.{BeginsPath, BeginsName, step, read, is_done, is_path, may_go_on, stem, filled, is_above, begins_path, is_nil, is_digit, is_numeral, ends_in_c, is_object_path, before_hash, from_hash, is_clone, is_name, begins_with_parts, begins_name}
 use Rattle.lp_words.proofs.Numerals.{numeral-passes, numeral-spelled, numeral-digits, numeral-front}
 use Rattle.std.specs.Prelude.{◌||◌, codes}
 use Rattle.std.specs.List.{prefix_len}
 use Rattle.std.proofs.lemmas.List.Sums.{prefix_len-le-length}
 use Rattle.std.proofs.lemmas.Slice.Eq.{ends_is}
 use Rattle.std.proofs.lemmas.Bool.Decides.{Decides-eqb}
-use Rattle.std.proofs.lemmas.Bool.{or_cases, not-true, false_from_ne_true}
+use Rattle.std.proofs.lemmas.Bool.{or_cases, not-true, false_from_ne_true, true_from_ne_false}
 use Rattle.std.proofs.Common.{one-add, cond}
 
 -- what has been read of the last part
@@ -889,3 +890,17 @@ split-name w p t n r e f g h = h ∙ ap (λ p. is_object_path p && is_clone t) (
 pub split-begun : (w p t : List ℕ) (n : ℕ) (r : Bool) → n ≡ prefix_len (λ c. not (c == 35)) w → p ≡ take n w → t ≡ drop n w → r ≡ begins_with_parts p t → r ≡ begins_name w
 unfolding begins_name
 split-begun w p t n r e f g h = h ∙ ap (λ p. begins_with_parts p t) (split-front w p n e f) ∙ ap (begins_with_parts (before_hash w)) (split-behind w t n e g)
+
+-- each test says true exactly where what it tests is so
+
+pub path-exact : (w : List ℕ) → Decides (is_path w) (IsPath w)
+path-exact w = (is_path-yes w, is_path-complete w)
+
+pub front-exact : (last w : List ℕ) → Decides (begins_path last w) (BeginsPath last w)
+front-exact last w = (begins_path-yes last w, λ b. true_from_ne_false (begins_path last w) (λ e. begins_path-no last w e b.0 b.3 b.1 b.2 b.4))
+
+pub name-exact : (w : List ℕ) → Decides (is_name w) (IsObjectName w)
+name-exact w = (is_name-yes w, is_name-complete w)
+
+pub name_front-exact : (w : List ℕ) → Decides (begins_name w) (BeginsName w)
+name_front-exact w = (begins_name-yes w, λ b. begins_name-complete w b.0 b.2 b.1 b.3)

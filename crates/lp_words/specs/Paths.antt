@@ -1,9 +1,10 @@
 -- Which words are paths and names of objects, and which can still become one.
-use Rattle.std.specs.Prelude.{ℕ, ◌-◌, List, [], ◌∷◌, ◌++◌, length, replicate, Bool, true, false, not, nat_le, nat_eq, ◌==◌, ◌&&◌, ◌||◌, if◌then◌else◌, codes}
+use Rattle.std.specs.Prelude.{◌≡◌, ℕ, ◌-◌, List, [], ◌∷◌, ◌++◌, length, replicate, Bool, true, false, not, nat_le, nat_eq, ◌==◌, ◌&&◌, ◌||◌, if◌then◌else◌, codes}
 use Rattle.std.specs.List.{list_all, ends_with}
 use Rattle.std.specs.Ordering.{nat_cmp, is_lt}
 use Rattle.std.specs.Cmp.Lexicographic.{slice_cmp}
-use Rattle.lp_meaning.specs.Script.{is_part_byte}
+use Rattle.std.specs.declared.cmp.Ordering.TheVariants.{Less}
+use Rattle.lp_meaning.specs.Script.{is_part_byte, IsPath, IsObjectName}
 use Rattle.lp_words.specs.declared.path.Progress.{Progress}
 use Rattle.lp_words.specs.declared.path.Progress.TheVariants.{Start, Slash, Dot, Dots, Part, Refused}
 
@@ -103,3 +104,11 @@ begins_with_parts path (c ∷ cs) = is_object_path path && (is_nil cs || is_nume
 -- some name begins with a word
 unfoldable pub begins_name : List ℕ → Bool
 begins_name w = begins_with_parts (before_hash w) (from_hash w)
+
+-- some path above the last one begins with a word
+abbrev pub BeginsPath : List ℕ → List ℕ → Type 0
+BeginsPath last w = (p : List ℕ) × IsPath p × (slice_cmp nat_cmp last p ≡ Less) × (others : List ℕ) × (p ≡ w ++ others)
+
+-- some name of an object begins with a word
+abbrev pub BeginsName : List ℕ → Type 0
+BeginsName w = (name : List ℕ) × IsObjectName name × (others : List ℕ) × (name ≡ w ++ others)

@@ -1,8 +1,8 @@
 //! Paths and names of objects.
-ghost use Rattle.std.specs.Prelude.{◌≡◌, replicate, if◌then◌else◌, not, ◌==◌, ◌&&◌};
-ghost use Rattle.lp_meaning.specs.Script.{is_part_byte as part_byte};
+ghost use Rattle.std.specs.Prelude.{Decides, ◌≡◌, replicate, if◌then◌else◌, not, ◌==◌, ◌&&◌};
+ghost use Rattle.lp_meaning.specs.Script.{is_part_byte as part_byte, IsPath, IsObjectName};
 ghost use Rattle.lp_words.specs.declared.path.Progress.TheVariants.{Start, Part, Refused};
-ghost use Rattle.lp_words.specs.Paths.{step as step_of, read, is_done as is_done_of, is_path as path_test, may_go_on as may_go_on_of, stem as stem_of, filled, is_above as above, begins_path as path_begins, is_digit as digit, is_numeral as numeral_test, ends_in_c as source_end, is_object_path as object_path, is_clone as clone_test, is_name as name_test, begins_with_parts as parts_begin, begins_name as name_begins};
+ghost use Rattle.lp_words.specs.Paths.{step as step_of, read, is_done as is_done_of, is_path as path_test, may_go_on as may_go_on_of, stem as stem_of, filled, is_above as above, begins_path as path_begins, is_digit as digit, is_numeral as numeral_test, ends_in_c as source_end, is_object_path as object_path, is_clone as clone_test, is_name as name_test, begins_with_parts as parts_begin, begins_name as name_begins, BeginsPath, BeginsName};
 ghost use Rattle.std.specs.List.{list_all, prefix_len};
 
 /// How far the bytes so far have come in a path.
@@ -262,4 +262,110 @@ pub fn begins_name(word: &[u8]) -> bool
 {
     let (path, tail) = word.split_at(path_len(word));
     begins_with_parts(path, tail)
+}
+
+/// Each test says true exactly where what it tests is so: of a path, of the front of a path above
+/// the last one, of the name of an object, and of the front of one. Does nothing.
+pub fn tests_are_exact(last: &[u8], word: &[u8])
+    ensures path { Decides (path_test word.now) (IsPath word.now) }
+    ensures path_front { Decides (path_begins last.now word.now) (BeginsPath last.now word.now) }
+    ensures name { Decides (name_test word.now) (IsObjectName word.now) }
+    ensures name_front { Decides (name_begins word.now) (BeginsName word.now) }
+{}
+
+#[cfg(test)]
+mod tests {
+    use super::*;
+
+    // A word, and whether it is a path, begins one, is a name and begins one.
+    const WORDS: [(&str, bool, bool, bool, bool); 20] = [
+        ("", false, true, false, true),
+        ("/", false, true, false, true),
+        ("a", false, false, false, false),
+        ("/a", true, true, true, true),
+        ("/a/", false, true, false, true),
+        ("/a//b", false, false, false, false),
+        ("/a/.", false, true, false, true),
+        ("/a/..", false, true, false, true),
+        ("/a/../b", false, false, false, false),
+        ("/a..b", true, true, true, true),
+        ("/a b", false, false, false, false),
+        ("/secure/master", true, true, true, true),
+        ("/secure/master.c", true, true, false, true),
+        ("/a#", false, false, false, true),
+        ("/a#0", false, false, true, true),
+        ("/a#1", false, false, true, true),
+        ("/a#10", false, false, true, true),
+        ("/a#01", false, false, false, false),
+        ("/a.c", true, true, false, true),
+        ("/a.c#1", false, false, false, false),
+    ];
+
+    #[test]
+    fn short_words(rt: HostRuntime) {
+        for (word, path, path_front, name, name_front) in WORDS {
+            let bytes = word.as_bytes();
+            assert_eq!(rt; is_path(bytes), path, "{word}");
+            assert_eq!(rt; begins_path(b"".as_slice(), bytes), path_front, "{word}");
+            assert_eq!(rt; is_name(bytes), name, "{word}");
+            assert_eq!(rt; begins_name(bytes), name_front, "{word}");
+        }
+    }
+
+    // The last byte but one and the last of 256, and whether they are a path, begin one, are a
+    // name and begin one.
+    const ENDS: [(u8, u8, bool, bool, bool, bool); 4] = [
+        (b'x', b'x', true, true, true, true),
+        (b'x', b'/', false, false, false, false),
+        (b'.', b'c', true, true, false, false),
+        (b'/', b'.', false, false, false, false),
+    ];
+
+    #[test]
+    fn longest_words(rt: HostRuntime) {
+        for (first, second, path, path_front, name, name_front) in ENDS {
+            let mut word = [b'x'; 257];
+            word[0] = b'/';
+            word[254] = first;
+            word[255] = second;
+            let longest = &word[..256];
+            assert_eq!(rt; is_path(longest), path);
+            assert_eq!(rt; begins_path(b"".as_slice(), longest), path_front);
+            assert_eq!(rt; is_name(longest), name);
+            assert_eq!(rt; begins_name(longest), name_front);
+            assert_eq!(rt; is_path(&word), false);
+            assert_eq!(rt; begins_path(b"".as_slice(), &word), false);
+        }
+    }
+
+    // The last path, a word, whether it stands above, and whether a path above begins with it.
+    const ORDERS: [(&str, &str, bool, bool); 7] = [
+        ("", "/a", true, true),
+        ("/a", "/a", false, true),
+        ("/b", "/a", false, false),
+        ("/b", "/", false, true),
+        ("/a/b", "/a", false, true),
+        ("/azz", "/a", false, true),
+        ("/b", "/bb", true, true),
+    ];
+
+    #[test]
+    fn order(rt: HostRuntime) {
+        for (last, word, above, front) in ORDERS {
+            assert_eq!(rt;
+                is_above(last.as_bytes(), word.as_bytes()),
+                above,
+                "{last} {word}"
+            );
+            assert_eq!(rt;
+                begins_path(last.as_bytes(), word.as_bytes()),
+                front,
+                "{last} {word}"
+            );
+        }
+        let mut greatest = [b'z'; 256];
+        greatest[0] = b'/';
+        assert_eq!(rt; begins_path(&greatest, b"/".as_slice()), false);
+        tests_are_exact(&greatest, b"/".as_slice());
+    }
 }
