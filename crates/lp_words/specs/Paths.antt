@@ -58,10 +58,12 @@ is_above last path = is_lt (slice_cmp nat_cmp last path)
 unfoldable pub begins_path : List ℕ → List ℕ → Bool
 begins_path last w = is_path (filled w) && is_above last (filled w)
 
+-- nothing is left
 abbrev pub is_nil : List ℕ → Bool
 is_nil [] = true
 is_nil (c ∷ cs) = false
 
+-- a decimal digit
 abbrev pub is_digit : ℕ → Bool
 is_digit c = nat_le 48 c && nat_le c 57
 
@@ -70,6 +72,7 @@ abbrev pub is_numeral : List ℕ → Bool
 is_numeral [] = false
 is_numeral (c ∷ cs) = if c == 48 then is_nil cs else list_all is_digit (c ∷ cs)
 
+-- a text ends with `.c`
 abbrev pub ends_in_c : List ℕ → Bool
 ends_in_c w = ends_with nat_eq w (codes ".c")
 
