@@ -28,6 +28,13 @@ impl Items {
         Items { items }
     }
 
+    /// The items, to keep. Takes no memory.
+    pub fn into_vec(self) -> Vec<Value>
+        ensures { result.items ≡ self }
+    {
+        self.items
+    }
+
     /// The items.
     pub fn as_slice(&self) -> &[Value]
         ensures { result.now ≡ self.now }

@@ -1,0 +1,9 @@
+//! The operators of LPC.
+#![tactic(auto)]
+
+pub mod effect;
+pub mod fault;
+pub mod int;
+pub mod list;
+pub mod range;
+pub mod set;
