@@ -9,6 +9,7 @@ use lp_cells::content::{Content, Items};
 use lp_cells::fault::CellFault;
 use lp_cells::pairs::Pairs;
 use lp_values::error::{ErrorKind, RunError};
+use lp_values::text::Text;
 use lp_values::value::Value;
 use std::alloc::{AllocError, Global};
 
@@ -31,6 +32,13 @@ pub fn refused(alloc: Global, kind: ErrorKind) -> Result<Effect, AllocError>
     ensures { IfOk result (λ e. e ≡ refused kind) }
 {
     Ok(Effect::Fault(RunError::plain(alloc, kind)?))
+}
+
+/// A text of these code points.
+pub fn text(alloc: Global, points: Vec<char>) -> Result<Effect, AllocError>
+    ensures { IfOk result (λ e. e ≡ Effect.Gives (Value.Str points.items)) }
+{
+    Ok(Effect::Gives(Value::Str(Text::from_vec(alloc, points)?)))
 }
 
 /// A new array of these items.

@@ -1,6 +1,7 @@
 //! The operators of LPC.
 #![tactic(auto)]
 
+pub mod binary;
 pub mod effect;
 pub mod fault;
 pub mod int;
