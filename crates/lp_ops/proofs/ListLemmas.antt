@@ -1,9 +1,9 @@
 -- Laws of lists of values, for loops.
-use Rattle.std.proofs.Common.{◌≡◌, ℕ, ◌+◌, ◌++◌, ◌||◌, List, [], ◌∷◌, Bool, true, false, refl, ap, ◌∙◌, sym, subst, cond, take, rules, arith, if◌then◌else◌, filter, not, is_some, length, get_or, ◌<◌}
+use Rattle.std.proofs.Common.{◌≡◌, ℕ, ◌+◌, ◌++◌, ◌||◌, List, [], ◌∷◌, Bool, true, false, refl, ap, ◌∙◌, sym, subst, cond, take, rules, arith, if◌then◌else◌, filter, not, is_some, length, get_or, ◌<◌, ◌-◌, drop, min}
 use Rattle.std.specs.List.{list_any}
 use Rattle.std.specs.Map.{lookup}
 use Rattle.std.proofs.lemmas.List.Folds.{list_any-append}
-use Rattle.std.proofs.lemmas.List.{take_more}
+use Rattle.std.proofs.lemmas.List.{take_more, drop-take, take_min}
 use Rattle.std.proofs.lemmas.List.Elements.{filter-append}
 use Rattle.std.proofs.lemmas.List.Sums.{fold-append}
 use Rattle.indexmap.specs.IndexMap.{insert_all, insert_entry}
@@ -55,3 +55,10 @@ pairs_without_next live es ps qs i =
     ap (λ l. insert_all value_eq es (pairs_without live l qs)) (pairs_there_next live ps i)
     ∙ ap (insert_all value_eq es) (filter-append (λ p. not (is_some (lookup (same live p.0) qs))) (pairs_there live (take i ps)) (pair_there live ps i))
     ∙ fold-append (λ done p. insert_entry value_eq done p.0 p.1) es (pairs_without live (pairs_there live (take i ps)) qs) (pairs_without live (pair_there live ps i) qs)
+
+-- a part whose ends were brought below the length
+pub part_is : {X : Type 0} (xs : List X) (a b s e : ℕ) → s ≡ min a (length xs) → e ≡ min b (length xs) → s < e → take (e - s) (drop s xs) ≡ drop a (take b xs)
+part_is xs a b s e hs he lt =
+    let first : a ≡ s = omega arith in
+    let whole : s + (e - s) ≡ e = omega arith in
+    sym (drop-take s (e - s) xs) ∙ ap (λ n. drop s (take n xs)) whole ∙ ap (λ n. drop s (take n xs)) he ∙ ap (drop s) (take_min b xs) ∙ ap (λ n. drop n (take b xs)) (sym first)

@@ -43,8 +43,17 @@ Yields (Fault e) old new v = ⊥
 Yields (Gives w) old new v = (v ≡ w) × (new ≡ old)
 Yields (Makes x) old new v = (v ≡ reference x (length old)) × (new ≡ with_cell old x)
 
--- a call answers so, unless memory runs out; on a refusal no cell changes
+-- a call fails so: without memory, or with the effect's error
+abbrev pub Refuses : Effect → OpFault → Type 0
+Refuses effect NoMemory = ⊤
+Refuses effect (Run e) = effect ≡ Fault e
+
+-- a call that makes no cell answers so
+abbrev pub Answers : Effect → Result Value OpFault → Type 0
+Answers effect (Ok v) = effect ≡ Gives v
+Answers effect (Err f) = Refuses effect f
+
+-- a call answers so, with the cells before and after; on a refusal no cell changes
 abbrev pub Meets : Effect → Store → Store → Result Value OpFault → Type 0
 Meets effect old new (Ok v) = Yields effect old new v
-Meets effect old new (Err NoMemory) = new ≡ old
-Meets effect old new (Err (Run e)) = (effect ≡ Fault e) × (new ≡ old)
+Meets effect old new (Err f) = Refuses effect f × (new ≡ old)

@@ -19,8 +19,8 @@ use Rattle.lp_cells.specs.Mapping.{pairs_of}
 use Rattle.lp_cells.specs.declared.content.Content.TheVariants as content
 use Rattle.lp_ops.specs.declared.effect.Effect.{Effect}
 use Rattle.lp_ops.specs.declared.effect.Effect.TheVariants.{Gives, Makes}
-use Rattle.lp_ops.specs.declared.range.End.{End}
-use Rattle.lp_ops.specs.declared.range.End.TheVariants.{Start, Back, Open}
+use Rattle.lp_ops.specs.declared.end.End.{End}
+use Rattle.lp_ops.specs.declared.end.End.TheVariants.{Start, Back, Open}
 use Rattle.lp_ops.specs.Effects.{refused, within}
 use Rattle.lp_ops.specs.Integers.{divided, int, remainder, shifted_left, shifted_right, truth, whole}
 use Rattle.lp_ops.specs.Operands.{Opened, Number, Chars, Array, Mapping, Object, value_of}
@@ -142,11 +142,15 @@ abbrev pub as_point : Option ℕ → Option Value
 as_point (Some c) = Some (Int (pos c))
 as_point None = None
 
+-- a mapping's value at a key, or 0
+abbrev pub value_or_zero : (ObjId → Bool) → List (Value × Value) → Value → Value
+value_or_zero live ps k = unwrap_or (lookup (same live k) ps) (Int (pos 0))
+
 -- `x[i]` and `x[<i]`: an item, a code point, or a mapping's value, 0 where the key is missing
 abbrev pub index : (ObjId → Bool) → Bool → Opened → Opened → Effect
 index live back (Array c xs) (Number n) = or_bad_index (at_place xs (place_of back n (length xs)))
 index live back (Chars s) (Number n) = or_bad_index (as_point (at_place s (place_of back n (length s))))
-index live false (Mapping c ps) k = Gives (unwrap_or (lookup (same live (value_of k)) ps) (Int (pos 0)))
+index live false (Mapping c ps) k = Gives (value_or_zero live ps (value_of k))
 index live _ _ _ = refused BadOperands
 
 -- the first and the last place that a range means
@@ -169,8 +173,12 @@ from_zero (negsuc n) = 0
 abbrev pub between : {X : Type 0} → ℤ → ℤ → List X → List X
 between a b xs = drop (from_zero a) (take (from_zero (b +ℤ pos 1)) xs)
 
--- `x[a..b]`: a part of an array or a text
+-- `x[a..b]`: a part of an array or a text, before the limits of length
+abbrev pub part_of : Opened → End → End → Effect
+part_of (Array c xs) a b = array (between (first_place a (length xs)) (last_place b (length xs)) xs)
+part_of (Chars s) a b = text (between (first_place a (length s)) (last_place b (length s)) s)
+part_of _ a b = refused BadOperands
+
+-- and with them
 abbrev pub range : Opened → End → End → Effect
-range (Array c xs) a b = array (between (first_place a (length xs)) (last_place b (length xs)) xs)
-range (Chars s) a b = text (between (first_place a (length s)) (last_place b (length s)) s)
-range _ a b = refused BadOperands
+range x a b = within (part_of x a b)

@@ -12,12 +12,7 @@ use crate::effect::{Effect, array, carry_out, mapping, refused, text};
 use crate::fault::OpFault;
 use crate::int::{divided, int, remainder, shifted_left, shifted_right, truth, whole};
 use crate::list::{
-    items_common,
-    items_joined,
-    items_without,
-    pairs_joined,
-    pairs_without,
-    text_joined,
+    items_common, items_joined, items_without, pairs_joined, pairs_without, text_joined,
 };
 use lp_cells::cells::Cells;
 use lp_cells::content::Content;
@@ -132,9 +127,7 @@ fn subtracted<L: Living>(
         (Value::Arr(c), Value::Arr(d)) => {
             Ok(array(items_without(alloc, cells.items(*c), cells.items(*d), live)?))
         }
-        (Value::Map(c), Value::Map(d)) => {
-            mapping_difference(alloc, *c, *d, cells, live)
-        }
+        (Value::Map(c), Value::Map(d)) => { mapping_difference(alloc, *c, *d, cells, live) }
         _ => refused(alloc, ErrorKind::BadOperands),
     }
 }
@@ -318,10 +311,5 @@ fn mapping_difference<L: Living>(
     requires right { IsSome (pairs_at cells.now d) }
     ensures { IfOk result (λ e. e ≡ Effect.Makes (Content.Mapping (pairs_of (pairs_without (L.live live.now) (pairs_there (L.live live.now) (stored_pairs cells.now c)) (pairs_there (L.live live.now) (stored_pairs cells.now d)))))) }
 {
-    Ok(mapping(pairs_without(
-        alloc,
-        cells.pairs(c),
-        cells.pairs(d),
-        live,
-    )?))
+    Ok(mapping(pairs_without(alloc, cells.pairs(c), cells.pairs(d), live)?))
 }

@@ -1,7 +1,7 @@
 //! What an operator does, and how it is carried out.
-ghost use Rattle.std.specs.Prelude.{◌≡◌, [], Err, IfOk, if◌then◌else◌};
+ghost use Rattle.std.specs.Prelude.{◌≡◌, IfOk, if◌then◌else◌};
 ghost use Rattle.lp_values.specs.Errors.{plain};
-ghost use Rattle.lp_ops.specs.Effects.{Meets, refused, within, within_value};
+ghost use Rattle.lp_ops.specs.Effects.{Answers, Meets, Refuses, refused, within, within_value};
 
 use crate::fault::OpFault;
 use lp_cells::cells::Cells;
@@ -56,8 +56,8 @@ pub fn mapping(pairs: Pairs) -> Effect
 }
 
 /// The error of this kind.
-fn fault(alloc: Global, kind: ErrorKind) -> OpFault
-    ensures { Meets (refused kind) [] [] (Err result) }
+pub fn fault(alloc: Global, kind: ErrorKind) -> OpFault
+    ensures { Refuses (refused kind) result }
 {
     match RunError::plain(alloc, kind) {
         Ok(error) => OpFault::Run(error),
@@ -78,7 +78,7 @@ pub fn carry_out(alloc: Global, effect: Effect, cells: &mut Cells) -> Result<Val
 
 /// Gives a value that is no text above the limit.
 fn give(alloc: Global, v: Value) -> Result<Value, OpFault>
-    ensures { Meets (within_value v) [] [] result }
+    ensures { Answers (within_value v) result }
 {
     if is_too_long(&v) {
         return Err(fault(alloc, ErrorKind::TextTooLong));

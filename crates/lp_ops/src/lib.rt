@@ -3,8 +3,11 @@
 
 pub mod binary;
 pub mod effect;
+pub mod end;
 pub mod fault;
+pub mod index;
 pub mod int;
 pub mod list;
 pub mod range;
 pub mod set;
+pub mod unary;
