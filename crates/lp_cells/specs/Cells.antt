@@ -6,6 +6,8 @@ use Rattle.lp_values.specs.declared.value.Value.{Value}
 use Rattle.lp_values.specs.declared.value.Value.TheVariants.{Int, Str, Arr, Map, Obj}
 use Rattle.lp_cells.specs.declared.content.Content.{Content}
 use Rattle.lp_cells.specs.declared.content.Content.TheVariants.{Array, Mapping}
+use Rattle.lp_cells.specs.declared.content.Kind.{Kind}
+use Rattle.lp_cells.specs.declared.content.Kind.TheVariants as kind
 use Rattle.lp_cells.specs.Mapping.{pairs_there}
 
 -- all cells: the one with serial n stands at place n, and a place may be empty
@@ -15,6 +17,12 @@ Store = List (Option Content)
 -- what the cell with a serial holds
 abbrev pub content_at : Store → CellId → Option Content
 content_at cells c = unwrap_or (slice_get cells c.0) None
+
+-- and of which kind it is
+abbrev pub kind_of : Option Content → Kind
+kind_of (Some (Array vs)) = kind.Array
+kind_of (Some (Mapping ps)) = kind.Mapping
+kind_of None = kind.Nothing
 
 abbrev pub as_items : Option Content → Option (List Value)
 as_items (Some (Array vs)) = Some vs

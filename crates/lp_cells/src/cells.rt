@@ -1,12 +1,12 @@
 //! The cells of a world.
-ghost use Rattle.std.specs.Prelude.{◌≡◌, ◌<◌, ◌↔◌, [], ◌∷◌, ◌++◌, length, All, Some, None, Ok, Err, IsSome, IfErr, IfOk, OnOk, OnErr, MatchResult, is_some, slice_get, slice_set, unwrap_or};
+ghost use Rattle.std.specs.Prelude.{◌≡◌, ◌<◌, ◌↔◌, IsTrue, [], ◌∷◌, ◌++◌, length, All, Some, None, Ok, Err, IsSome, IfErr, IfOk, OnOk, OnErr, MatchResult, is_some, slice_get, slice_set, unwrap_or};
 ghost use Rattle.std.specs.Map.Iter.{deref_pair};
 ghost use Rattle.std.specs.Option.{option_copied, option_map};
-ghost use Rattle.lp_cells.specs.Cells.{AreThere, IsClosed, IsPairThere, IsThere, KeepsThere, as_pairs, content_at, content_set, item_at, item_set, items_at, items_of, pairs_at, size_read, stored_pairs, with_cell};
+ghost use Rattle.lp_cells.specs.Cells.{AreThere, IsClosed, IsPairThere, IsThere, KeepsThere, as_pairs, content_at, content_set, item_at, item_set, items_at, items_of, kind_of, pairs_at, size_read, stored_pairs, with_cell};
 ghost use Rattle.lp_cells.specs.Mapping.{IsFullFor, pairs_dropped, pairs_of, pairs_put, value_at_key};
 ghost use Rattle.lp_cells.specs.Refusals.{UnlessFull};
 
-use crate::content::{Content, Items};
+use crate::content::{Content, Items, Kind};
 use crate::fault::{CellFault, MAX_ITEMS};
 use crate::pairs::Pairs;
 use lp_values::id::CellId;
@@ -79,6 +79,31 @@ impl Cells {
     {
         let pairs = Pairs::from_vec(self.alloc, pairs)?;
         self.new_mapping(pairs)
+    }
+
+    /// Whether the array or mapping that a value names is there. Takes no memory.
+    pub fn is_there(&self, v: &Value) -> bool
+        ensures { IsTrue result ↔ IsThere self.now v.now }
+    {
+        match v {
+            Value::Arr(c) => self.kind(*c) == Kind::Array,
+            Value::Map(c) => self.kind(*c) == Kind::Mapping,
+            _ => true,
+        }
+    }
+
+    /// What kind of cell has a serial.
+    fn kind(&self, id: CellId) -> Kind
+        ensures { result ≡ kind_of (content_at self.now id) }
+    {
+        if self.slots.len() <= id.0 as usize {
+            return Kind::Nothing;
+        }
+        match &self.slots[id.0 as usize] {
+            Some(Content::Array(_)) => Kind::Array,
+            Some(Content::Mapping(_)) => Kind::Mapping,
+            None => Kind::Nothing,
+        }
     }
 
     /// The items of an array. Takes no memory.

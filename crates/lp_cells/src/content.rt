@@ -59,3 +59,14 @@ pub enum Content {
     /// A mapping.
     Mapping(Pairs),
 }
+
+/// Which kind of cell there is, if one is.
+#[derive(Clone, Copy, Debug, PartialEq, Eq)]
+pub enum Kind {
+    /// An array.
+    Array,
+    /// A mapping.
+    Mapping,
+    /// No cell.
+    Nothing,
+}

@@ -104,6 +104,7 @@ impl Pairs {
     pub fn count_there<L: Living>(&self, live: &L) -> usize
         ensures value { result ≡ length (pairs_there (L.live live.now) self.now) }
         ensures within { result ≤ length self.now }
+        ensures small { result < 2 ^ 63 }
     {
         let mut count = 0;
         for i in 0..self.len() {

@@ -8,6 +8,7 @@ pub mod fault;
 pub mod index;
 pub mod int;
 pub mod list;
+pub mod price;
 pub mod range;
 pub mod set;
 pub mod unary;
