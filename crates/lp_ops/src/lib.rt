@@ -11,4 +11,6 @@ pub mod list;
 pub mod price;
 pub mod range;
 pub mod set;
+#[cfg(test)]
+mod tests;
 pub mod unary;

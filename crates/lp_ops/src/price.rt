@@ -43,13 +43,7 @@ pub fn size<L: Living>(v: &Value, cells: &Cells, live: &L) -> u64
 }
 
 /// What a binary operator costs before it acts. Takes no memory.
-pub fn binary_before<L: Living>(
-    op: BinOp,
-    a: &Value,
-    b: &Value,
-    cells: &Cells,
-    live: &L,
-) -> u64
+pub fn binary_before<L: Living>(op: BinOp, a: &Value, b: &Value, cells: &Cells, live: &L) -> u64
     requires left { IsThere cells.now a.now }
     requires right { IsThere cells.now b.now }
     ensures { result ≡ binary_before op (operand (L.live live.now) cells.now a.now) (operand (L.live live.now) cells.now b.now) }
