@@ -1,5 +1,5 @@
 -- Laws of cells.
-use Rattle.std.proofs.Common.{◌≡◌, ℕ, Bool, List, [], Option, Some, None, Ok, Err, Result, refl, ap, ◌∙◌, sym, subst, slice_get, unwrap_or, get_or, IsSome, rules, arith}
+use Rattle.std.proofs.Common.{◌≡◌, Bool, [], Option, Some, None, Ok, Err, Result, refl, ap, ◌∙◌, sym, subst, slice_get, unwrap_or, get_or, IsSome}
 use Rattle.std.specs.Prelude.{slice_set}
 use Rattle.std.proofs.lemmas.List.{set-get_or}
 use Rattle.std.proofs.lemmas.Option.{get_or_from_slice_get}

@@ -1,8 +1,8 @@
 -- Cells stay closed: what the values in cells name is there.
-use Rattle.std.proofs.Common.{◌≡◌, ◌⊎◌, ◌++◌, ℕ, suc, zero, Bool, true, false, List, [], ◌∷◌, Option, Some, None, refl, ap, ◌∙◌, sym, subst, inl, inr, slice_get, length, unwrap_or, IsSome, filter, is_some, rules, arith, cond, if◌then◌else◌, ◌||◌}
-use Rattle.std.specs.Prelude.{All, slice_set}
+use Rattle.std.proofs.Common.{◌≡◌, ◌⊎◌, ◌++◌, ℕ, suc, zero, Bool, true, false, List, [], ◌∷◌, Option, Some, None, refl, ap, ◌∙◌, sym, subst, inl, inr, slice_get, unwrap_or, IsSome, is_some, cond, if◌then◌else◌, pos, Result, Ok, Err}
+use Rattle.std.specs.Prelude.{All, OnErr, OnOk, slice_set}
 use Rattle.std.specs.Map.{remove_entry}
-use Rattle.std.proofs.lemmas.List.Elements.{All-nil, All-cons, All-head, All-tail, All-append, All-filter, All-set, All-weaker}
+use Rattle.std.proofs.lemmas.List.Elements.{All-nil, All-cons, All-head, All-tail, All-filter, All-set, All-weaker}
 use Rattle.indexmap.specs.IndexMap.{insert_all, insert_entry}
 use Rattle.lp_values.specs.Read.{as_read, live_part, value_eq}
 use Rattle.lp_values.specs.declared.id.CellId.{CellId}
@@ -12,8 +12,10 @@ use Rattle.lp_values.specs.declared.value.Value.TheVariants.{Int, Str, Arr, Map,
 use Rattle.lp_cells.specs.declared.content.Content.{Content}
 use Rattle.lp_cells.specs.declared.content.Content.TheVariants.{Array, Mapping}
 use Rattle.lp_cells.specs.declared.content.Kind.TheVariants as kind
-use Rattle.lp_cells.specs.Cells.{AreThere, IsClosed, IsPairThere, IsThere, KeepsThere, Store, as_items, as_pairs, content_at, content_set, kind_of, with_cell}
-use Rattle.lp_cells.specs.Mapping.{pairs_dropped, pairs_of, pairs_put, pairs_there, has_room_for}
+use Rattle.lp_cells.specs.Cells.{AreThere, IsClosed, IsPairThere, IsThere, KeepsThere, Store, as_items, as_pairs, content_at, content_set, item_set, items_at, items_of, kind_of, pairs_at, stored_pairs, with_cell}
+use Rattle.lp_cells.specs.Mapping.{IsFullFor, pairs_dropped, pairs_put, pairs_there, has_room_for}
+use Rattle.lp_cells.specs.Refusals.{UnlessFull}
+use Rattle.lp_cells.specs.declared.fault.CellFault.{CellFault}
 
 -- each cell is still there, of its kind
 abbrev pub SameKinds : Store → Store → Type 0
@@ -105,3 +107,111 @@ there_set cells c x k = there_by_kinds cells (content_set cells c x) (kinds_set 
 -- and the cells stay closed, where that content names what was there
 pub closed_set : (cells : Store) (c : CellId) (x : Content) → kind_of (content_at cells c) ≡ kind_of (Some x) → IsClosed cells → AreThere cells x → IsClosed (content_set cells c x)
 closed_set cells c x k h t = closed_by cells (content_set cells c x) (there_set cells c x k) h (λ d y e. elim (set_new cells c.0 d.0 (Some x) (Some y) (slot_of (slice_get (content_set cells c x) d.0) y e)) [ inl was ↦ inl (ap (λ o. unwrap_or o None) was) | inr is ↦ inr (subst (AreThere cells) (let s : x ≡ y = cc in s) t) ])
+
+-- what a value reads as is there
+pub read_there : (live : ObjId → Bool) (cells : Store) (v : Value) → IsThere cells v → IsThere cells (as_read live v)
+read_there live cells (Int n) h = tt
+read_there live cells (Str s) h = tt
+read_there live cells (Arr c) h = h
+read_there live cells (Map c) h = h
+read_there live cells (Obj o) h = by (live o)
+  where
+    by : (b : Bool) → IsThere cells (unwrap_or (if b then Some (Obj o) else None) (Int (pos 0)))
+    by true = tt
+    by false = tt
+
+inserted : (cells : Store) (p : Value × Value) (ps qs : List (Value × Value)) (v : Value) (b : Bool) → All (IsPairThere cells) (p ∷ ps) → All (IsPairThere cells) qs → IsThere cells v → All (IsPairThere cells) (if b then (p.0, v) ∷ ps else p ∷ qs)
+inserted cells p ps qs v true h g j = All-cons (IsPairThere cells) (p.0, v) ps ((All-head (IsPairThere cells) p ps h).0, j) (All-tail (IsPairThere cells) p ps h)
+inserted cells p ps qs v false h g j = All-cons (IsPairThere cells) p qs (All-head (IsPairThere cells) p ps h) g
+
+-- what a put leaves is there
+pub insert_there : (cells : Store) (ps : List (Value × Value)) (k v : Value) → All (IsPairThere cells) ps → IsThere cells k → IsThere cells v → All (IsPairThere cells) (insert_entry value_eq ps k v)
+insert_there cells [] k v h i j = All-cons (IsPairThere cells) (k, v) [] (i, j) (All-nil (IsPairThere cells))
+insert_there cells (p ∷ ps) k v h i j = inserted cells p ps (insert_entry value_eq ps k v) v (value_eq k p.0) h (insert_there cells ps k v (All-tail (IsPairThere cells) p ps h) i j) j
+
+-- what a new mapping has is there
+pub insert_all_there : (cells : Store) (es ps : List (Value × Value)) → All (IsPairThere cells) es → All (IsPairThere cells) ps → All (IsPairThere cells) (insert_all value_eq es ps)
+insert_all_there cells es [] h g = h
+insert_all_there cells es (p ∷ ps) h g = let a = All-head (IsPairThere cells) p ps g in insert_all_there cells (insert_entry value_eq es p.0 p.1) ps (insert_there cells es p.0 p.1 h a.0 a.1) (All-tail (IsPairThere cells) p ps g)
+
+removed : (cells : Store) (p : Value × Value) (ps qs : List (Value × Value)) (b : Bool) → All (IsPairThere cells) (p ∷ ps) → All (IsPairThere cells) qs → All (IsPairThere cells) (cond b ps (p ∷ qs))
+removed cells p ps qs true h g = All-tail (IsPairThere cells) p ps h
+removed cells p ps qs false h g = All-cons (IsPairThere cells) p qs (All-head (IsPairThere cells) p ps h) g
+
+-- what a drop leaves is there
+pub remove_there : (cells : Store) (test : Value → Bool) (ps : List (Value × Value)) → All (IsPairThere cells) ps → All (IsPairThere cells) (remove_entry test ps)
+remove_there cells test [] h = h
+remove_there cells test (p ∷ ps) h = removed cells p ps (remove_entry test ps) (test p.0) h (remove_there cells test ps (All-tail (IsPairThere cells) p ps h))
+
+chosen : (cells : Store) (live : ObjId → Bool) (ps : List (Value × Value)) (b : Bool) → All (IsPairThere cells) ps → All (IsPairThere cells) (if b then ps else pairs_there live ps)
+chosen cells live ps true h = h
+chosen cells live ps false h = All-filter (λ p. is_some (live_part live p.0)) (IsPairThere cells) ps h
+
+-- what a put into a mapping leaves is there
+pub put_there : (live : ObjId → Bool) (cells : Store) (ps : List (Value × Value)) (k v : Value) → All (IsPairThere cells) ps → IsThere cells k → IsThere cells v → All (IsPairThere cells) (pairs_put live ps k v)
+put_there live cells ps k v h i j = insert_there cells (if has_room_for live ps k then ps else pairs_there live ps) (as_read live k) v (chosen cells live ps (has_room_for live ps k) h) (read_there live cells k i) j
+
+items_cases : (cells : Store) (c : CellId) → IsClosed cells → (o : Option Content) → content_at cells c ≡ o → All (IsThere cells) (unwrap_or (as_items o) [])
+items_cases cells c h (Some (Array vs)) e = h c (Array vs) e
+items_cases cells c h (Some (Mapping ps)) e = All-nil (IsThere cells)
+items_cases cells c h None e = All-nil (IsThere cells)
+
+-- the items of an array of closed cells are there
+pub items_there : (cells : Store) (c : CellId) → IsClosed cells → All (IsThere cells) (items_of cells c)
+items_there cells c h = items_cases cells c h (content_at cells c) refl
+
+pairs_cases : (cells : Store) (c : CellId) → IsClosed cells → (o : Option Content) → content_at cells c ≡ o → All (IsPairThere cells) (unwrap_or (as_pairs o) [])
+pairs_cases cells c h (Some (Array vs)) e = All-nil (IsPairThere cells)
+pairs_cases cells c h (Some (Mapping ps)) e = h c (Mapping ps) e
+pairs_cases cells c h None e = All-nil (IsPairThere cells)
+
+-- and the pairs of a mapping
+pub stored_there : (cells : Store) (c : CellId) → IsClosed cells → All (IsPairThere cells) (stored_pairs cells c)
+stored_there cells c h = pairs_cases cells c h (content_at cells c) refl
+
+array_at : (o : Option Content) → IsSome (as_items o) → kind_of o ≡ kind.Array
+array_at (Some (Array vs)) h = refl
+array_at (Some (Mapping ps)) h = cc
+array_at None h = cc
+
+mapping_at : (o : Option Content) → IsSome (as_pairs o) → kind_of o ≡ kind.Mapping
+mapping_at (Some (Array vs)) h = cc
+mapping_at (Some (Mapping ps)) h = refl
+mapping_at None h = cc
+
+-- a write into an array
+pub there_item_set : (cells : Store) (c : CellId) (i : ℕ) (v : Value) → IsSome (items_at cells c) → KeepsThere cells (item_set cells c i v)
+there_item_set cells c i v s = there_set cells c (Array (slice_set (items_of cells c) i v)) (array_at (content_at cells c) s)
+
+pub closed_item_set : (cells : Store) (c : CellId) (i : ℕ) (v : Value) → IsSome (items_at cells c) → IsClosed cells → IsThere cells v → IsClosed (item_set cells c i v)
+closed_item_set cells c i v s h j = closed_set cells c (Array (slice_set (items_of cells c) i v)) (array_at (content_at cells c) s) h (All-set (IsThere cells) (items_of cells c) i v j (items_there cells c h))
+
+-- a change of a mapping's pairs
+pub there_pairs_set : (cells : Store) (c : CellId) (ps : List (Value × Value)) → IsSome (pairs_at cells c) → KeepsThere cells (content_set cells c (Mapping ps))
+there_pairs_set cells c ps s = there_set cells c (Mapping ps) (mapping_at (content_at cells c) s)
+
+pub closed_pairs_set : (cells : Store) (c : CellId) (ps : List (Value × Value)) → IsSome (pairs_at cells c) → IsClosed cells → All (IsPairThere cells) ps → IsClosed (content_set cells c (Mapping ps))
+closed_pairs_set cells c ps s h g = closed_set cells c (Mapping ps) (mapping_at (content_at cells c) s) h g
+
+-- a put
+pub closed_put : (live : ObjId → Bool) (cells : Store) (c : CellId) (k v : Value) → IsSome (pairs_at cells c) → IsClosed cells → IsThere cells k → IsThere cells v → IsClosed (content_set cells c (Mapping (pairs_put live (stored_pairs cells c) k v)))
+closed_put live cells c k v s h i j = closed_pairs_set cells c (pairs_put live (stored_pairs cells c) k v) s h (put_there live cells (stored_pairs cells c) k v (stored_there cells c h) i j)
+
+-- a drop
+pub closed_drop : (live : ObjId → Bool) (cells : Store) (c : CellId) (k : Value) → IsSome (pairs_at cells c) → IsClosed cells → IsClosed (content_set cells c (Mapping (pairs_dropped live (stored_pairs cells c) k)))
+closed_drop live cells c k s h = closed_pairs_set cells c (pairs_dropped live (stored_pairs cells c) k) s h (remove_there cells (value_eq (as_read live k)) (stored_pairs cells c) (stored_there cells c h))
+
+-- whatever a put answers, what was there is there
+pub there_after_put : (live : ObjId → Bool) (cells new : Store) (c : CellId) (k v : Value) (r : Result (Unit {0}) CellFault) → IsSome (pairs_at cells c) → UnlessFull (IsFullFor live (stored_pairs cells c) k) (λ _. new ≡ content_set cells c (Mapping (pairs_put live (stored_pairs cells c) k v))) (new ≡ cells) r → KeepsThere cells new
+there_after_put live cells new c k v (Ok u) s h = subst (KeepsThere cells) (sym h.1) (there_pairs_set cells c (pairs_put live (stored_pairs cells c) k v) s)
+there_after_put live cells new c k v (Err f) s h = subst (KeepsThere cells) (sym h.1) (λ w t. t)
+
+-- and the cells are closed
+pub closed_after_put : (live : ObjId → Bool) (cells new : Store) (c : CellId) (k v : Value) (r : Result (Unit {0}) CellFault) → IsSome (pairs_at cells c) → UnlessFull (IsFullFor live (stored_pairs cells c) k) (λ _. new ≡ content_set cells c (Mapping (pairs_put live (stored_pairs cells c) k v))) (new ≡ cells) r → IsClosed cells → IsThere cells k → IsThere cells v → IsClosed new
+closed_after_put live cells new c k v (Ok u) s h closed i j = subst IsClosed (sym h.1) (closed_put live cells c k v s closed i j)
+closed_after_put live cells new c k v (Err f) s h closed i j = subst IsClosed (sym h.1) closed
+
+-- whatever a write into an array answers, the cells are closed
+pub closed_after_set : (cells new : Store) (c : CellId) (i : ℕ) (v : Value) (r : Result (Unit {0}) CellFault) → IsSome (items_at cells c) → OnOk r (new ≡ item_set cells c i v) → OnErr r (new ≡ cells) → IsClosed cells → IsThere cells v → IsClosed new
+closed_after_set cells new c i v (Ok u) s h e closed j = subst IsClosed (sym h) (closed_item_set cells c i v s closed j)
+closed_after_set cells new c i v (Err f) s h e closed j = subst IsClosed (sym e) closed

@@ -1,5 +1,5 @@
 -- Laws of mappings as read.
-use Rattle.std.proofs.Common.{◌≡◌, ℕ, ◌+◌, ◌++◌, suc, zero, List, [], ◌∷◌, Bool, true, false, refl, ap, ◌∙◌, sym, Some, None, cond, rules, arith, Option, take, add-one, slice_get, length, ◌≤◌, ◌<◌, ◌||◌, nat_lt, if◌then◌else◌, unwrap_or, pos, is_some}
+use Rattle.std.proofs.Common.{◌≡◌, ℕ, ◌+◌, ◌++◌, suc, zero, List, [], ◌∷◌, Bool, true, false, refl, ap, ◌∙◌, sym, Some, None, cond, arith, Option, take, add-one, slice_get, length, ◌≤◌, ◌<◌, ◌||◌, nat_lt, if◌then◌else◌, unwrap_or, pos, is_some}
 use Rattle.std.specs.Option.{option_to_list}
 use Rattle.std.proofs.lemmas.List.Elements.{filter-append}
 use Rattle.std.proofs.lemmas.List.Sums.{count_by-le-length, fold-append, length-filter}
@@ -14,7 +14,7 @@ use Rattle.lp_values.specs.declared.value.Value.{Value}
 use Rattle.lp_values.specs.declared.value.Value.TheVariants.{Int, Str, Arr, Map, Obj}
 use Rattle.lp_values.specs.contracts.value.ValuePartialEq.TheImpl as derived
 use Rattle.lp_values.proofs.ReadLemmas.{eq_is, not_dead}
-use Rattle.lp_cells.specs.Mapping.{has_room_for, pairs_there, pair_there, pairs_put, pairs_to_put, value_at_key, IsFullFor}
+use Rattle.lp_cells.specs.Mapping.{has_room_for, pairs_there, pair_there, pairs_put, value_at_key, IsFullFor}
 
 -- the test by which the map finds keys is equality of values
 pub lookup-derived : (k : Value) (ps : List (Value × Value)) → lookup ((derived.eq-value).it k) ps ≡ lookup (value_eq k) ps

@@ -1,5 +1,5 @@
 -- Cells, found by their serials.
-use Rattle.std.specs.Prelude.{◌≡◌, List, [], ◌++◌, ◌∷◌, ℕ, ⊤, Bool, Option, Some, None, All, IsSome, length, slice_get, slice_set, unwrap_or, option_and_then}
+use Rattle.std.specs.Prelude.{◌≡◌, List, [], ◌++◌, ◌∷◌, ℕ, ⊤, Bool, Option, Some, None, All, IsSome, length, slice_get, slice_set, unwrap_or}
 use Rattle.lp_values.specs.declared.id.CellId.{CellId}
 use Rattle.lp_values.specs.declared.id.ObjId.{ObjId}
 use Rattle.lp_values.specs.declared.value.Value.{Value}

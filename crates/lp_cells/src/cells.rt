@@ -46,6 +46,8 @@ impl Cells {
         ensures made { IfOk result (λ c. c.0 ≡ length self.old) }
         ensures ok { OnOk result (self.new ≡ with_cell self.old content) }
         ensures err { IfErr result (λ e. (e ≡ CellFault.NoMemory) × (self.new ≡ self.old)) }
+        ensures stay { KeepsThere self.old self.new }
+        ensures closed { IsClosed self.old → AreThere self.old content → IsClosed self.new }
     {
         let serial = self.slots.len() as u64;
         self.slots.push(Some(content))?;
@@ -54,7 +56,9 @@ impl Cells {
 
     /// A new array. `TooLong` comes exactly above 10000 items.
     pub fn new_array(&mut self, items: Vec<Value>) -> Result<CellId, CellFault>
-        ensures { UnlessFull (10000 < length items.items) (λ c. (c.0 ≡ length self.old) × (self.new ≡ with_cell self.old (Content.Array items.items))) (self.new ≡ self.old) result }
+        ensures made { UnlessFull (10000 < length items.items) (λ c. (c.0 ≡ length self.old) × (self.new ≡ with_cell self.old (Content.Array items.items))) (self.new ≡ self.old) result }
+        ensures stay { KeepsThere self.old self.new }
+        ensures closed { IsClosed self.old → All (IsThere self.old) items.items → IsClosed self.new }
     {
         if items.len() > MAX_ITEMS {
             return Err(CellFault::TooLong);
@@ -64,7 +68,9 @@ impl Cells {
 
     /// A new mapping of these pairs. `TooLong` comes exactly above 10000 pairs.
     pub fn new_mapping(&mut self, pairs: Pairs) -> Result<CellId, CellFault>
-        ensures { UnlessFull (10000 < length pairs) (λ c. (c.0 ≡ length self.old) × (self.new ≡ with_cell self.old (Content.Mapping pairs))) (self.new ≡ self.old) result }
+        ensures made { UnlessFull (10000 < length pairs) (λ c. (c.0 ≡ length self.old) × (self.new ≡ with_cell self.old (Content.Mapping pairs))) (self.new ≡ self.old) result }
+        ensures stay { KeepsThere self.old self.new }
+        ensures closed { IsClosed self.old → All (IsPairThere self.old) pairs → IsClosed self.new }
     {
         if pairs.len() > MAX_ITEMS {
             return Err(CellFault::TooLong);
@@ -75,7 +81,9 @@ impl Cells {
     /// A new mapping. A later equal key wins, at the first one's place. Keys are taken as they stand.
     /// `TooLong` comes exactly above 10000 pairs with different keys.
     pub fn new_map(&mut self, pairs: Vec<(Value, Value)>) -> Result<CellId, CellFault>
-        ensures { UnlessFull (10000 < length (pairs_of pairs.items)) (λ c. (c.0 ≡ length self.old) × (self.new ≡ with_cell self.old (Content.Mapping (pairs_of pairs.items)))) (self.new ≡ self.old) result }
+        ensures made { UnlessFull (10000 < length (pairs_of pairs.items)) (λ c. (c.0 ≡ length self.old) × (self.new ≡ with_cell self.old (Content.Mapping (pairs_of pairs.items)))) (self.new ≡ self.old) result }
+        ensures stay { KeepsThere self.old self.new }
+        ensures closed { IsClosed self.old → All (IsPairThere self.old) pairs.items → IsClosed self.new }
     {
         let pairs = Pairs::from_vec(self.alloc, pairs)?;
         self.new_mapping(pairs)
@@ -109,7 +117,16 @@ impl Cells {
     /// The items of an array. Takes no memory.
     pub fn items(&self, id: CellId) -> &[Value]
         requires { IsSome (items_at self.now id) }
-        ensures { items_at self.now id ≡ Some result.now }
+        ensures value { items_at self.now id ≡ Some result.now }
+        ensures there { IsClosed self.now → All (IsThere self.now) result.now }
+    {
+        self.array_items(id)
+    }
+
+    /// The items of an array.
+    fn array_items(&self, id: CellId) -> &[Value]
+        requires { IsSome (items_at self.now id) }
+        ensures value { items_at self.now id ≡ Some result.now }
     {
         match &self.slots[id.0 as usize] {
             Some(Content::Array(items)) => items.as_slice(),
@@ -120,7 +137,16 @@ impl Cells {
     /// The pairs of a mapping. Takes no memory.
     pub fn pairs(&self, id: CellId) -> &Pairs
         requires { IsSome (pairs_at self.now id) }
-        ensures { pairs_at self.now id ≡ Some result.now }
+        ensures value { pairs_at self.now id ≡ Some result.now }
+        ensures there { IsClosed self.now → All (IsPairThere self.now) result.now }
+    {
+        self.mapping_pairs(id)
+    }
+
+    /// The pairs of a mapping.
+    fn mapping_pairs(&self, id: CellId) -> &Pairs
+        requires { IsSome (pairs_at self.now id) }
+        ensures value { pairs_at self.now id ≡ Some result.now }
     {
         match &self.slots[id.0 as usize] {
             Some(Content::Mapping(pairs)) => pairs,
@@ -141,6 +167,18 @@ impl Cells {
 
     /// Writes the item at a place of an array, from 0. Takes no memory.
     pub fn set(&mut self, id: CellId, i: u64, v: Value) -> Result<(), CellFault>
+        requires { IsSome (items_at self.old id) }
+        ensures ok { OnOk result (self.new ≡ item_set self.old id i v) }
+        ensures cases { MatchResult result (λ _. IsSome (item_at self.old id i)) (λ e. (e ≡ CellFault.BadIndex) × (item_at self.old id i ≡ None)) }
+        ensures err { OnErr result (self.new ≡ self.old) }
+        ensures stay { KeepsThere self.old self.new }
+        ensures closed { IsClosed self.old → IsThere self.old v → IsClosed self.new }
+    {
+        self.write_item(id, i, v)
+    }
+
+    /// Writes the item at a place of an array.
+    fn write_item(&mut self, id: CellId, i: u64, v: Value) -> Result<(), CellFault>
         requires { IsSome (items_at self.old id) }
         ensures ok { OnOk result (self.new ≡ item_set self.old id i v) }
         ensures cases { MatchResult result (λ _. IsSome (item_at self.old id i)) (λ e. (e ≡ CellFault.BadIndex) × (item_at self.old id i ≡ None)) }
@@ -177,13 +215,26 @@ impl Cells {
         live: &L,
     ) -> Result<(), CellFault>
         requires { IsSome (pairs_at self.old id) }
-        ensures { UnlessFull (IsFullFor (L.live live.now) (stored_pairs self.old id) k) (λ _. self.new ≡ content_set self.old id (Content.Mapping (pairs_put (L.live live.now) (stored_pairs self.old id) k v))) (self.new ≡ self.old) result }
+        ensures put { UnlessFull (IsFullFor (L.live live.now) (stored_pairs self.old id) k) (λ _. self.new ≡ content_set self.old id (Content.Mapping (pairs_put (L.live live.now) (stored_pairs self.old id) k v))) (self.new ≡ self.old) result }
+        ensures stay { KeepsThere self.old self.new }
+        ensures closed { IsClosed self.old → IsThere self.old k → IsThere self.old v → IsClosed self.new }
     {
         put_in_slot(&mut self.slots[id.0 as usize], k, v, live)
     }
 
     /// Drops a key of a mapping, and tells whether it was there. Takes no memory.
     pub fn map_drop<L: Living>(&mut self, id: CellId, k: &Value, live: &L) -> bool
+        requires { IsSome (pairs_at self.old id) }
+        ensures after { self.new ≡ content_set self.old id (Content.Mapping (pairs_dropped (L.live live.now) (stored_pairs self.old id) k.now)) }
+        ensures found { result ≡ is_some (value_at_key (L.live live.now) (stored_pairs self.old id) k.now) }
+        ensures stay { KeepsThere self.old self.new }
+        ensures closed { IsClosed self.old → IsClosed self.new }
+    {
+        self.drop_key(id, k, live)
+    }
+
+    /// Drops a key of a mapping.
+    fn drop_key<L: Living>(&mut self, id: CellId, k: &Value, live: &L) -> bool
         requires { IsSome (pairs_at self.old id) }
         ensures after { self.new ≡ content_set self.old id (Content.Mapping (pairs_dropped (L.live live.now) (stored_pairs self.old id) k.now)) }
         ensures found { result ≡ is_some (value_at_key (L.live live.now) (stored_pairs self.old id) k.now) }

@@ -1,4 +1,4 @@
-use Rattle.std.proofs.Common.{rules, arith, length-append}
+use Rattle.std.proofs.Common.{arith, length-append}
 use Rattle.lp_cells.proofs.MappingLemmas.{pairs_there_next}
 use Rattle.lp_cells.proofs.pairs.Pairs.count_there.Goals as goal
 use Rattle.lp_cells.proofs.pairs.Pairs.count_there.Goals.{then-is_there_at, else-is_there_at}

@@ -1,4 +1,3 @@
-use Rattle.std.proofs.Common.{rules, arith}
 use Rattle.lp_cells.proofs.MappingLemmas.{insert_all_next}
 use Rattle.lp_cells.proofs.pairs.Pairs.with_there.Goals as goal
 
