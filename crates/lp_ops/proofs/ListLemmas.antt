@@ -1,5 +1,5 @@
 -- Laws of lists of values, for loops.
-use Rattle.std.proofs.Common.{◌≡◌, ℕ, ◌+◌, ◌++◌, ◌||◌, List, [], ◌∷◌, Bool, true, false, refl, ap, ◌∙◌, sym, subst, cond, take, rules, arith, if◌then◌else◌, filter, not, is_some, length, get_or, ◌<◌, ◌-◌, drop, min}
+use Rattle.std.proofs.Common.{◌≡◌, ℕ, ◌+◌, ◌++◌, ◌||◌, List, [], ◌∷◌, Bool, true, false, refl, ap, ◌∙◌, sym, subst, take, arith, if◌then◌else◌, filter, not, is_some, length, get_or, ◌<◌, ◌-◌, drop, min}
 use Rattle.std.specs.List.{list_any}
 use Rattle.std.specs.Map.{lookup}
 use Rattle.std.proofs.lemmas.List.Folds.{list_any-append}

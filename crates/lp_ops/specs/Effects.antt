@@ -1,9 +1,8 @@
 -- What an operator answers, and what it does to the cells.
-use Rattle.std.specs.Prelude.{◌≡◌, ⊤, Bool, ℕ, List, if◌then◌else◌, nat_lt, length, Result, Ok, Err}
+use Rattle.std.specs.Prelude.{◌≡◌, ⊤, ℕ, if◌then◌else◌, nat_lt, length, Result, Ok, Err}
 use Rattle.lp_values.specs.Errors.{plain}
 use Rattle.lp_values.specs.declared.error.ErrorKind.{ErrorKind}
 use Rattle.lp_values.specs.declared.error.ErrorKind.TheVariants.{TooLong, TextTooLong}
-use Rattle.lp_values.specs.declared.error.RunError.{RunError}
 use Rattle.lp_values.specs.declared.value.Value.{Value}
 use Rattle.lp_values.specs.declared.value.Value.TheVariants.{Int, Str, Arr, Map, Obj}
 use Rattle.lp_cells.specs.Cells.{Store, with_cell}

@@ -1,5 +1,5 @@
 -- Operators on integers of 64 bits.
-use Rattle.std.specs.Prelude.{Bool, ℕ, ℤ, pos, negsuc, neg_ℤ, ◌^◌, if◌then◌else◌, nat_lt, min, int_div, int_rem}
+use Rattle.std.specs.Prelude.{Bool, ℤ, pos, negsuc, ◌^◌, if◌then◌else◌, nat_lt, min, int_div, int_rem}
 use Rattle.std.specs.Int.{w64, int_shl, int_shr}
 use Rattle.std.specs.Ordering.{int_eq}
 use Rattle.lp_values.specs.declared.error.ErrorKind.TheVariants.{BadOperands, Overflow, ZeroDivisor}

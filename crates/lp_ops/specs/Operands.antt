@@ -1,5 +1,5 @@
 -- What an operator sees of its operands.
-use Rattle.std.specs.Prelude.{Bool, ℕ, ℤ, List, ◌+◌, ◌/◌, length}
+use Rattle.std.specs.Prelude.{Bool, ℕ, ℤ, List, length}
 use Rattle.lp_values.specs.declared.id.CellId.{CellId}
 use Rattle.lp_values.specs.declared.id.ObjId.{ObjId}
 use Rattle.lp_values.specs.declared.value.Value.{Value}

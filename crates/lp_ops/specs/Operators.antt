@@ -1,5 +1,5 @@
 -- The operators, each a function of its opened operands.
-use Rattle.std.specs.Prelude.{Bool, true, false, ℕ, ℤ, pos, negsuc, ◌+ℤ◌, ◌-ℤ◌, ◌*ℤ◌, neg_ℤ, ◌+◌, ◌++◌, List, [], ◌∷◌, Option, Some, None, filter, not, is_some, length, slice_get, take, drop, unwrap_or, int_lt, int_le}
+use Rattle.std.specs.Prelude.{Bool, true, false, ℕ, ℤ, pos, negsuc, ◌+ℤ◌, ◌-ℤ◌, ◌*ℤ◌, neg_ℤ, ◌++◌, List, Option, Some, None, filter, not, is_some, length, slice_get, take, drop, unwrap_or, int_lt, int_le}
 use Rattle.std.specs.Cmp.Lexicographic.{slice_cmp}
 use Rattle.std.specs.Fmt.{signed_decimal}
 use Rattle.std.specs.Int.{w64, int_bit_and, int_bit_or, int_bit_xor, int_bit_not}
@@ -23,7 +23,7 @@ use Rattle.lp_ops.specs.declared.end.End.{End}
 use Rattle.lp_ops.specs.declared.end.End.TheVariants.{Start, Back, Open}
 use Rattle.lp_ops.specs.Effects.{refused, within}
 use Rattle.lp_ops.specs.Integers.{divided, int, remainder, shifted_left, shifted_right, truth, whole}
-use Rattle.lp_ops.specs.Operands.{Opened, Number, Chars, Array, Mapping, Object, value_of}
+use Rattle.lp_ops.specs.Operands.{Opened, Number, Chars, Array, Mapping, value_of}
 
 -- a text, an array, a mapping
 abbrev pub text : List ℕ → Effect

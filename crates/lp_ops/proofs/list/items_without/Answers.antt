@@ -1,4 +1,4 @@
-use Rattle.std.proofs.Common.{◌≡◌, Bool, not, sym, ap, ◌∙◌}
+use Rattle.std.proofs.Common.{◌≡◌, not, sym, ap, ◌∙◌}
 use Rattle.std.specs.List.{list_any}
 use Rattle.lp_values.specs.Read.{as_read, same}
 use Rattle.lp_values.specs.declared.value.Value.{Value}

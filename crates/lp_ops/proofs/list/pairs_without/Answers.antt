@@ -1,4 +1,3 @@
-use Rattle.std.proofs.Common.{rules}
 use Rattle.lp_ops.proofs.ListLemmas.{pairs_without_next}
 use Rattle.lp_ops.proofs.list.pairs_without.Goals as goal
 

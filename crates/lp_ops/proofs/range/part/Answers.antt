@@ -1,4 +1,4 @@
-use Rattle.std.proofs.Common.{rules, arith}
+use Rattle.std.proofs.Common.{rules}
 use Rattle.lp_ops.proofs.ListLemmas.{part_is}
 use Rattle.lp_ops.proofs.range.part.Goals as goal
 
