@@ -5,7 +5,7 @@ use Rattle.lp_values.specs.declared.error.ErrorKind.{ErrorKind}
 use Rattle.lp_values.specs.declared.error.ErrorKind.TheVariants.{TooLong, TextTooLong}
 use Rattle.lp_values.specs.declared.value.Value.{Value}
 use Rattle.lp_values.specs.declared.value.Value.TheVariants.{Int, Str, Arr, Map, Obj}
-use Rattle.lp_cells.specs.Cells.{Store, with_cell}
+use Rattle.lp_cells.specs.Cells.{AreThere, IsThere, Store, with_cell}
 use Rattle.lp_cells.specs.declared.content.Content.{Content}
 use Rattle.lp_cells.specs.declared.content.Content.TheVariants.{Array, Mapping}
 use Rattle.lp_ops.specs.declared.effect.Effect.{Effect}
@@ -56,3 +56,9 @@ Answers effect (Err f) = Refuses effect f
 abbrev pub Meets : Effect → Store → Store → Result Value OpFault → Type 0
 Meets effect old new (Ok v) = Yields effect old new v
 Meets effect old new (Err f) = Refuses effect f × (new ≡ old)
+
+-- what an effect gives or makes names what is there
+abbrev pub IsEffectThere : Store → Effect → Type 0
+IsEffectThere cells (Gives v) = IsThere cells v
+IsEffectThere cells (Makes x) = AreThere cells x
+IsEffectThere cells (Fault e) = ⊤

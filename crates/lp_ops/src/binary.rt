@@ -1,7 +1,7 @@
 //! The binary operators.
 ghost use Rattle.std.specs.Prelude.{◌≡◌, ◌*ℤ◌, IfOk, IsSome, int_le, int_lt};
 ghost use Rattle.std.specs.Int.{int_bit_or, int_bit_xor, w64};
-ghost use Rattle.lp_cells.specs.Cells.{IsThere, pairs_at, stored_pairs};
+ghost use Rattle.lp_cells.specs.Cells.{IsClosed, IsThere, KeepsThere, pairs_at, stored_pairs};
 ghost use Rattle.lp_cells.specs.Mapping.{pairs_of, pairs_there};
 ghost use Rattle.lp_ops.specs.Effects.{Meets};
 ghost use Rattle.lp_ops.specs.Integers.{divided, int, remainder, shifted_left, shifted_right, whole};
@@ -34,7 +34,9 @@ pub fn binary<L: Living>(
 ) -> Result<Value, OpFault>
     requires left { IsThere cells.old a.now }
     requires right { IsThere cells.old b.now }
-    ensures { Meets (binary (L.live live.now) op (operand (L.live live.now) cells.old a.now) (operand (L.live live.now) cells.old b.now)) cells.old cells.new result }
+    ensures value { Meets (binary (L.live live.now) op (operand (L.live live.now) cells.old a.now) (operand (L.live live.now) cells.old b.now)) cells.old cells.new result }
+    ensures stay { KeepsThere cells.old cells.new }
+    ensures closed { IsClosed cells.old → IsClosed cells.new × IfOk result (IsThere cells.new) }
 {
     let a = a.copy_as_read(live)?;
     let b = b.copy_as_read(live)?;

@@ -1,7 +1,8 @@
 //! What an operator does, and how it is carried out.
 ghost use Rattle.std.specs.Prelude.{◌≡◌, IfOk, if◌then◌else◌};
 ghost use Rattle.lp_values.specs.Errors.{plain};
-ghost use Rattle.lp_ops.specs.Effects.{Answers, Meets, Refuses, refused, within, within_value};
+ghost use Rattle.lp_cells.specs.Cells.{IsClosed, IsThere, KeepsThere};
+ghost use Rattle.lp_ops.specs.Effects.{Answers, IsEffectThere, Meets, Refuses, refused, within, within_value};
 
 use crate::fault::OpFault;
 use lp_cells::cells::Cells;
@@ -67,7 +68,9 @@ pub fn fault(alloc: Global, kind: ErrorKind) -> OpFault
 
 /// Carries an effect out. A result that is too long is an error in its place. Nothing changes on a refusal.
 pub fn carry_out(alloc: Global, effect: Effect, cells: &mut Cells) -> Result<Value, OpFault>
-    ensures { Meets (within effect) cells.old cells.new result }
+    ensures value { Meets (within effect) cells.old cells.new result }
+    ensures stay { KeepsThere cells.old cells.new }
+    ensures closed { IsClosed cells.old → IsEffectThere cells.old effect → IsClosed cells.new × IfOk result (IsThere cells.new) }
 {
     match effect {
         Effect::Gives(v) => give(alloc, v),

@@ -1,6 +1,6 @@
 //! Items by index.
 ghost use Rattle.std.specs.Prelude.{◌≡◌, ◌<◌, ◌≤◌, ℕ, length, pos, MatchOption, IfOk, IsSome};
-ghost use Rattle.lp_cells.specs.Cells.{IsThere, pairs_at, stored_pairs};
+ghost use Rattle.lp_cells.specs.Cells.{IsClosed, IsThere, pairs_at, stored_pairs};
 ghost use Rattle.lp_cells.specs.Mapping.{pairs_there};
 ghost use Rattle.lp_ops.specs.Effects.{Answers};
 ghost use Rattle.lp_ops.specs.Operands.{operand};
@@ -24,7 +24,8 @@ pub fn index<L: Living>(
     live: &L,
 ) -> Result<Value, OpFault>
     requires { IsThere cells.now a.now }
-    ensures { Answers (index (L.live live.now) from_end (operand (L.live live.now) cells.now a.now) (operand (L.live live.now) cells.now i.now)) result }
+    ensures value { Answers (index (L.live live.now) from_end (operand (L.live live.now) cells.now a.now) (operand (L.live live.now) cells.now i.now)) result }
+    ensures there { IsClosed cells.now → IfOk result (IsThere cells.now) }
 {
     let a = a.copy_as_read(live)?;
     let i = i.copy_as_read(live)?;

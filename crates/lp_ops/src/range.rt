@@ -1,6 +1,6 @@
 //! Ranges of arrays and texts.
 ghost use Rattle.std.specs.Prelude.{◌≡◌, ◌+ℤ◌, IfOk, length, min, pos};
-ghost use Rattle.lp_cells.specs.Cells.{IsThere};
+ghost use Rattle.lp_cells.specs.Cells.{IsClosed, IsThere, KeepsThere};
 ghost use Rattle.lp_ops.specs.Effects.{Meets};
 ghost use Rattle.lp_ops.specs.Operands.{opened, operand};
 ghost use Rattle.lp_ops.specs.Operators.{between, first_place, from_zero, last_place, part_of, range};
@@ -24,7 +24,9 @@ pub fn range<L: Living>(
     live: &L,
 ) -> Result<Value, OpFault>
     requires { IsThere cells.old a.now }
-    ensures { Meets (range (operand (L.live live.now) cells.old a.now) from to) cells.old cells.new result }
+    ensures value { Meets (range (operand (L.live live.now) cells.old a.now) from to) cells.old cells.new result }
+    ensures stay { KeepsThere cells.old cells.new }
+    ensures closed { IsClosed cells.old → IsClosed cells.new × IfOk result (IsThere cells.new) }
 {
     let a = a.copy_as_read(live)?;
     let effect = part_of(alloc, &a, from, to, cells, live)?;
