@@ -1,10 +1,12 @@
 -- Cells stay closed: what the values in cells name is there.
 use Rattle.std.proofs.Common.{◌≡◌, ◌⊎◌, ◌++◌, ℕ, suc, zero, Bool, true, false, List, [], ◌∷◌, Option, Some, None, refl, ap, ◌∙◌, sym, subst, inl, inr, slice_get, unwrap_or, IsSome, is_some, cond, if◌then◌else◌, pos, Result, Ok, Err}
-use Rattle.std.specs.Prelude.{All, OnErr, OnOk, slice_set}
-use Rattle.std.specs.Map.{remove_entry}
+use Rattle.std.specs.Prelude.{All, IfSome, OnErr, OnOk, slice_set}
+use Rattle.std.specs.Borrow.{Bor}
+use Rattle.std.specs.Map.{lookup, remove_entry}
+use Rattle.std.specs.Option.{option_copied}
 use Rattle.std.proofs.lemmas.List.Elements.{All-nil, All-cons, All-head, All-tail, All-filter, All-set, All-weaker}
 use Rattle.indexmap.specs.IndexMap.{insert_all, insert_entry}
-use Rattle.lp_values.specs.Read.{as_read, live_part, value_eq}
+use Rattle.lp_values.specs.Read.{as_read, live_part, same, value_eq}
 use Rattle.lp_values.specs.declared.id.CellId.{CellId}
 use Rattle.lp_values.specs.declared.id.ObjId.{ObjId}
 use Rattle.lp_values.specs.declared.value.Value.{Value}
@@ -13,7 +15,7 @@ use Rattle.lp_cells.specs.declared.content.Content.{Content}
 use Rattle.lp_cells.specs.declared.content.Content.TheVariants.{Array, Mapping}
 use Rattle.lp_cells.specs.declared.content.Kind.TheVariants as kind
 use Rattle.lp_cells.specs.Cells.{AreThere, IsClosed, IsPairThere, IsThere, KeepsThere, Store, as_items, as_pairs, content_at, content_set, item_set, items_at, items_of, kind_of, pairs_at, stored_pairs, with_cell}
-use Rattle.lp_cells.specs.Mapping.{IsFullFor, pairs_dropped, pairs_put, pairs_there, has_room_for}
+use Rattle.lp_cells.specs.Mapping.{IsFullFor, value_at_key, pairs_dropped, pairs_put, pairs_there, has_room_for}
 use Rattle.lp_cells.specs.Refusals.{UnlessFull}
 use Rattle.lp_cells.specs.declared.fault.CellFault.{CellFault}
 
@@ -215,3 +217,19 @@ closed_after_put live cells new c k v (Err f) s h closed i j = subst IsClosed (s
 pub closed_after_set : (cells new : Store) (c : CellId) (i : ℕ) (v : Value) (r : Result (Unit {0}) CellFault) → IsSome (items_at cells c) → OnOk r (new ≡ item_set cells c i v) → OnErr r (new ≡ cells) → IsClosed cells → IsThere cells v → IsClosed new
 closed_after_set cells new c i v (Ok u) s h e closed j = subst IsClosed (sym h) (closed_item_set cells c i v s closed j)
 closed_after_set cells new c i v (Err f) s h e closed j = subst IsClosed (sym e) closed
+
+found_step : (cells : Store) (p : Value × Value) (r : Option Value) (b : Bool) → IsPairThere cells p → IfSome r (IsThere cells) → IfSome (cond b (Some p.1) r) (IsThere cells)
+found_step cells p r true h i = h.1
+found_step cells p r false h i = i
+
+found_in : (cells : Store) (test : Value → Bool) (ps : List (Value × Value)) → All (IsPairThere cells) ps → IfSome (lookup test ps) (IsThere cells)
+found_in cells test [] h = tt
+found_in cells test (p ∷ ps) h = found_step cells p (lookup test ps) (test p.0) (All-head (IsPairThere cells) p ps h) (found_in cells test ps (All-tail (IsPairThere cells) p ps h))
+
+borrowed_there : (cells : Store) (o : Option (Bor Value)) (l : Option Value) → option_copied o ≡ l → IfSome l (IsThere cells) → IfSome o (λ v. IsThere cells v.now)
+borrowed_there cells None l e h = tt
+borrowed_there cells (Some v) l e h = let t : IfSome (option_copied (Some v)) (IsThere cells) = subst (λ r. IfSome r (IsThere cells)) (sym e) h in t
+
+-- the value that a look-up finds is there
+pub value_there : (live : ObjId → Bool) (cells : Store) (o : Option (Bor Value)) (ps : List (Value × Value)) (k : Value) → option_copied o ≡ value_at_key live ps k → All (IsPairThere cells) ps → IfSome o (λ v. IsThere cells v.now)
+value_there live cells o ps k e h = borrowed_there cells o (value_at_key live ps k) e (found_in cells (same live k) (pairs_there live ps) (All-filter (λ p. is_some (live_part live p.0)) (IsPairThere cells) ps h))

@@ -1,5 +1,5 @@
 //! The cells of a world.
-ghost use Rattle.std.specs.Prelude.{◌≡◌, ◌<◌, ◌↔◌, IsTrue, [], ◌∷◌, ◌++◌, length, All, Some, None, Ok, Err, IsSome, IfErr, IfOk, OnOk, OnErr, MatchResult, is_some, slice_get, slice_set, unwrap_or};
+ghost use Rattle.std.specs.Prelude.{◌≡◌, ◌<◌, ◌↔◌, IsTrue, [], ◌∷◌, ◌++◌, length, All, Some, None, Ok, Err, IsSome, IfErr, IfOk, IfSome, OnOk, OnErr, MatchResult, is_some, slice_get, slice_set, unwrap_or};
 ghost use Rattle.std.specs.Map.Iter.{deref_pair};
 ghost use Rattle.std.specs.Option.{option_copied, option_map};
 ghost use Rattle.lp_cells.specs.Cells.{AreThere, IsClosed, IsPairThere, IsThere, KeepsThere, as_pairs, content_at, content_set, item_at, item_set, items_at, items_of, kind_of, pairs_at, size_read, stored_pairs, with_cell};
@@ -157,7 +157,8 @@ impl Cells {
     /// The item at a place of an array, from 0. Takes no memory.
     pub fn get(&self, id: CellId, i: u64) -> Result<&Value, CellFault>
         requires { IsSome (items_at self.now id) }
-        ensures { MatchResult result (λ v. item_at self.now id i ≡ Some v.now) (λ e. (e ≡ CellFault.BadIndex) × (item_at self.now id i ≡ None)) }
+        ensures value { MatchResult result (λ v. item_at self.now id i ≡ Some v.now) (λ e. (e ≡ CellFault.BadIndex) × (item_at self.now id i ≡ None)) }
+        ensures there { IsClosed self.now → IfOk result (λ v. IsThere self.now v.now) }
     {
         match self.items(id).get(i as usize) {
             Some(v) => Ok(v),
@@ -200,7 +201,8 @@ impl Cells {
     /// The value at a key of a mapping, as read, or none. Takes no memory.
     pub fn map_get<L: Living>(&self, id: CellId, k: &Value, live: &L) -> Option<&Value>
         requires { IsSome (pairs_at self.now id) }
-        ensures { option_copied result ≡ value_at_key (L.live live.now) (stored_pairs self.now id) k.now }
+        ensures value { option_copied result ≡ value_at_key (L.live live.now) (stored_pairs self.now id) k.now }
+        ensures there { IsClosed self.now → IfSome result (λ v. IsThere self.now v.now) }
     {
         self.pairs(id).find_read(k, live)
     }
@@ -261,7 +263,8 @@ impl Cells {
     /// Takes no memory.
     pub fn pair(&self, id: CellId, i: u64) -> Option<(&Value, &Value)>
         requires { IsSome (pairs_at self.now id) }
-        ensures { option_map deref_pair result ≡ slice_get (stored_pairs self.now id) i }
+        ensures value { option_map deref_pair result ≡ slice_get (stored_pairs self.now id) i }
+        ensures there { IsClosed self.now → IfSome result (λ p. IsThere self.now p.0.now × IsThere self.now p.1.now) }
     {
         self.pairs(id).at(i as usize)
     }
