@@ -97,7 +97,11 @@ impl Value {
         ensures { result ≡ as_read (L.live live.now) self }
     {
         match self {
-            Value::Obj(o) => if live.is_live(o) { Value::Obj(o) } else { Value::Int(0) },
+            Value::Obj(o) => if live.is_live(o) {
+                Value::Obj(o)
+            } else {
+                Value::Int(0)
+            },
             v => v,
         }
     }
