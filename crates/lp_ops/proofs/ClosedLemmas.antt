@@ -1,13 +1,12 @@
 -- What operators give is there, where the cells are closed.
-use Rattle.std.proofs.Common.{◌≡◌, ◌++◌, ℕ, ℤ, pos, negsuc, suc, zero, Bool, true, false, List, [], ◌∷◌, Option, Some, None, Result, Ok, Err, refl, ap, ◌∙◌, sym, subst, slice_get, length, unwrap_or, filter, not, is_some, take, drop, cond, if◌then◌else◌, nat_lt}
+use Rattle.std.proofs.Common.{◌≡◌, ◌++◌, ℕ, ℤ, pos, negsuc, suc, zero, Bool, true, false, List, [], ◌∷◌, Option, Some, None, Result, Ok, Err, refl, sym, subst, slice_get, length, unwrap_or, not, is_some, take, cond, if◌then◌else◌, nat_lt}
 use Rattle.std.specs.Prelude.{All, IfOk, int_div, int_le, int_lt, int_rem, ◌+ℤ◌, ◌-ℤ◌, ◌*ℤ◌}
 use Rattle.std.specs.Int.{w64, int_bit_or, int_bit_xor}
 use Rattle.std.specs.Ordering.{int_eq}
 use Rattle.std.specs.List.{list_any}
 use Rattle.std.specs.Map.{lookup}
 use Rattle.std.proofs.lemmas.List.Elements.{All-nil, All-head, All-tail, All-append, All-filter, All-take, All-drop}
-use Rattle.lp_values.specs.Read.{as_read, same}
-use Rattle.lp_values.specs.declared.error.ErrorKind.{ErrorKind}
+use Rattle.lp_values.specs.Read.{same}
 use Rattle.lp_values.specs.declared.error.ErrorKind.TheVariants.{TooLong, TextTooLong, Overflow, ZeroDivisor}
 use Rattle.lp_values.specs.declared.id.ObjId.{ObjId}
 use Rattle.lp_values.specs.declared.value.Value.{Value}
@@ -15,7 +14,6 @@ use Rattle.lp_values.specs.declared.value.Value.TheVariants.{Int, Str, Arr, Map,
 use Rattle.lp_tree.specs.declared.operator.BinOp.{BinOp}
 use Rattle.lp_tree.specs.declared.operator.BinOp.TheVariants.{Add, Sub, Mul, Div, Rem, And, Or, Xor, Shl, Shr, Lt, Le, Gt, Ge, Eq, Ne}
 use Rattle.lp_cells.specs.Cells.{AreThere, IsClosed, IsPairThere, IsThere, KeepsThere, Store, with_cell}
-use Rattle.lp_cells.specs.Mapping.{pairs_there}
 use Rattle.lp_cells.specs.declared.content.Content.{Content}
 use Rattle.lp_cells.specs.declared.content.Content.TheVariants as content
 use Rattle.lp_cells.proofs.ClosedLemmas.{closed_with_cell, insert_all_there, items_there, stored_there, there_with_cell}
@@ -24,9 +22,9 @@ use Rattle.lp_ops.specs.declared.effect.Effect.TheVariants.{Gives, Makes, Fault}
 use Rattle.lp_ops.specs.declared.end.End.{End}
 use Rattle.lp_ops.specs.declared.fault.OpFault.{OpFault}
 use Rattle.lp_ops.specs.Effects.{Answers, IsEffectThere, Meets, Yields, reference, refused, within}
-use Rattle.lp_ops.specs.Integers.{divided, int, remainder, shifted_left, shifted_right, truth, whole, fits}
+use Rattle.lp_ops.specs.Integers.{divided, int, remainder, shifted_left, shifted_right, whole, fits}
 use Rattle.lp_ops.specs.Operands.{Opened, Number, Chars, Array, Mapping, Object, opened, value_of}
-use Rattle.lp_ops.specs.Operators.{added, anded, at_place, between, compared, index, on_integers, or_bad_index, pairs_without, part_of, place_of, result_of, subtracted, text_le, text_lt, value_or_zero, first_place, last_place, from_zero, as_point}
+use Rattle.lp_ops.specs.Operators.{added, anded, at_place, compared, index, on_integers, or_bad_index, pairs_without, part_of, place_of, result_of, subtracted, text_le, text_lt, first_place, last_place, from_zero, as_point}
 
 -- what an opened operand holds is there
 abbrev pub IsOpenedThere : Store → Opened → Type 0
