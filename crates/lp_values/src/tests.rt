@@ -41,6 +41,7 @@ fn equality_as_read(rt: HostRuntime) -> Result<(), Fail> {
         assert_eq!(rt; as_read(&a, &Even).is_none(), i > 5, "{i}");
         assert_eq!(rt; is_zero(&a, &Even), i == 0 || i > 5, "{i}");
         assert_eq!(rt; same(&a.copy_as_read(&Even)?, &a, &Even), true, "{i}");
+        assert_eq!(rt; same(&a.copy()?.into_read(&Even), &a, &Even), true, "{i}");
         for j in 0..8u64 {
             let b = value_of(rt.alloc(), j)?;
             let zeroes = (i == 0 || i > 5) && (j == 0 || j > 5);

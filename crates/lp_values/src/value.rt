@@ -92,6 +92,20 @@ impl Value {
         }
     }
 
+    /// What the value reads as, from the value itself. Takes no memory.
+    pub fn into_read<L: Living>(self, live: &L) -> Value
+        ensures { result ≡ as_read (L.live live.now) self }
+    {
+        match self {
+            Value::Obj(o) => if live.is_live(o) {
+                Value::Obj(o)
+            } else {
+                Value::Int(0)
+            },
+            v => v,
+        }
+    }
+
     fn is_integer_zero(&self) -> bool
         ensures { IsTrue result ↔ (self.now ≡ Value.Int (pos 0)) }
     {

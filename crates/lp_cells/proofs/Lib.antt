@@ -1,0 +1,3 @@
+pub mod CellLemmas
+pub mod ClosedLemmas
+pub mod MappingLemmas

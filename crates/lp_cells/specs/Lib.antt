@@ -1,0 +1,3 @@
+pub mod Cells
+pub mod Mapping
+pub mod Refusals

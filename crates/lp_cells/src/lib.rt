@@ -1,0 +1,9 @@
+//! Arrays and mappings of LPC.
+#![tactic(auto)]
+
+pub mod cells;
+pub mod content;
+pub mod fault;
+pub mod pairs;
+#[cfg(test)]
+mod tests;

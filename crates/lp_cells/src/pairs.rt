@@ -1,0 +1,206 @@
+//! The pairs of a mapping.
+ghost use Rattle.std.specs.Prelude.{◌≡◌, ◌≢◌, ◌+◌, ◌<◌, ◌≤◌, ◌^◌, ◌↔◌, [], length, is_some, slice_get, if◌then◌else◌, IfOk, OnOk, OnErr};
+ghost use Rattle.std.specs.Map.{lookup, remove_entry};
+ghost use Rattle.std.specs.Map.Iter.{deref_pair};
+ghost use Rattle.std.specs.Option.{option_copied, option_map};
+ghost use Rattle.indexmap.specs.IndexMap.{insert_all, insert_entry, spare};
+ghost use Rattle.lp_values.specs.Read.{as_read, live_part, value_eq};
+ghost use Rattle.lp_cells.specs.Mapping.{IsFullFor, has_room_for, pair_there, pairs_dropped, pairs_of, pairs_put, pairs_there, value_at_key};
+ghost use Rattle.lp_cells.specs.Refusals.{UnlessFull};
+
+use crate::fault::{CellFault, MAX_ITEMS};
+use indexmap::IndexMap;
+use lp_values::value::{Living, Value, as_read};
+use std::alloc::{AllocError, Global};
+use std::marker::Model;
+
+/// Pairs of a key and a value, in order of insertion. No two keys are one value; keys are found by hashing.
+#[derive(Drop)]
+pub struct Pairs {
+    pairs: IndexMap<Value, Value>,
+}
+
+impl Model for Pairs {
+    ghost use Rattle.std.specs.Prelude.{List};
+    ghost use Rattle.lp_values.specs.declared.value.Value.{Value as V};
+
+    ghost Value = { List (V × V) };
+
+    ghost view = { λ t. t.pairs.entries };
+}
+
+impl Pairs {
+    /// No pairs.
+    pub fn new(alloc: Global) -> Pairs
+        ensures { result ≡ [] }
+    {
+        Pairs {
+            pairs: IndexMap::new(alloc),
+        }
+    }
+
+    /// These pairs, a later equal key winning at the first one's place.
+    pub fn from_vec(alloc: Global, pairs: Vec<(Value, Value)>) -> Result<Pairs, AllocError>
+        ensures { IfOk result (λ t. t ≡ pairs_of pairs.items) }
+    {
+        let mut all = Pairs::new(alloc);
+        for (key, v) in pairs {
+            all.put(key, v)?;
+        }
+        Ok(all)
+    }
+
+    /// How many pairs are stored, dead keys included.
+    pub fn len(&self) -> usize
+        ensures value { result ≡ length self.now }
+        ensures small { result < 2 ^ 63 }
+    {
+        self.pairs.len()
+    }
+
+    /// The stored pair at a place, in order of insertion, from 0.
+    pub fn at(&self, i: usize) -> Option<(&Value, &Value)>
+        ensures { option_map deref_pair result ≡ slice_get self.now i }
+    {
+        self.pairs.get_index(i)
+    }
+
+    /// The value at a key, where the key is taken as it stands.
+    pub fn find(&self, key: &Value) -> Option<&Value>
+        ensures { option_copied result ≡ lookup (value_eq key.now) self.now }
+    {
+        self.pairs.get(key)
+    }
+
+    /// The value at a key as read, among the pairs that are there. Takes no memory.
+    #[tactic(auto, using(crate::proofs::MappingLemmas::find_part))]
+    pub fn find_read<L: Living>(&self, key: &Value, live: &L) -> Option<&Value>
+        ensures { option_copied result ≡ value_at_key (L.live live.now) self.now key.now }
+    {
+        match as_read(key, live) {
+            Some(key) => self.find(key),
+            None => self.find(&Value::Int(0)),
+        }
+    }
+
+    /// Puts a value at a key: at its place where the key is stored, else last.
+    pub fn put(&mut self, key: Value, v: Value) -> Result<(), AllocError>
+        ensures ok { OnOk result (self.new ≡ insert_entry value_eq self.old key v) }
+        ensures err { OnErr result (self.new ≡ self.old) }
+    {
+        self.pairs.insert(key, v)?;
+        Ok(())
+    }
+
+    /// Drops a key, taken as it stands, and tells whether it was stored. Takes no memory.
+    pub fn remove(&mut self, key: &Value) -> bool
+        ensures after { self.new ≡ remove_entry (value_eq key.now) self.old }
+        ensures found { result ≡ is_some (lookup (value_eq key.now) self.old) }
+    {
+        self.pairs.shift_remove(key).is_some()
+    }
+
+    /// How many pairs are there, as read. Takes no memory.
+    pub fn count_there<L: Living>(&self, live: &L) -> usize
+        ensures value { result ≡ length (pairs_there (L.live live.now) self.now) }
+        ensures within { result ≤ length self.now }
+        ensures small { result < 2 ^ 63 }
+    {
+        let mut count = 0;
+        for i in 0..self.len() {
+            if self.is_there_at(i, live) {
+                count += 1;
+            }
+        }
+        count
+    }
+
+    /// Whether the pair at a place is there, as read.
+    fn is_there_at<L: Living>(&self, i: usize, live: &L) -> bool
+        requires { i < length self.now }
+        ensures { length (pair_there (L.live live.now) self.now i) ≡ (if result then 1 else 0) }
+    {
+        match self.at(i) {
+            Some((key, _)) => as_read(key, live).is_some(),
+            None => false,
+        }
+    }
+
+    /// Drops a key as read, and tells whether it was there. Takes no memory.
+    #[tactic(auto, using(crate::proofs::MappingLemmas::find_part))]
+    pub fn remove_read<L: Living>(&mut self, key: &Value, live: &L) -> bool
+        ensures after { self.new ≡ pairs_dropped (L.live live.now) self.old key.now }
+        ensures found { result ≡ is_some (value_at_key (L.live live.now) self.old key.now) }
+    {
+        match as_read(key, live) {
+            Some(key) => self.remove(key),
+            None => self.remove(&Value::Int(0)),
+        }
+    }
+
+    /// Whether a put needs no sweep: the key is there, or there is room for one more pair.
+    fn has_room_for<L: Living>(&self, key: &Value, live: &L) -> bool
+        ensures { result ≡ has_room_for (L.live live.now) self.now key.now }
+    {
+        self.find_read(key, live).is_some() || self.len() < MAX_ITEMS
+    }
+
+    /// Puts a value at a key as read. A full mapping gives up its dead pairs for a new key.
+    pub fn put_read<L: Living>(&mut self, key: Value, v: Value, live: &L) -> Result<(), CellFault>
+        ensures { UnlessFull (IsFullFor (L.live live.now) self.old key) (λ _. self.new ≡ pairs_put (L.live live.now) self.old key v) (self.new ≡ self.old) result }
+    {
+        if self.has_room_for(&key, live) {
+            return Ok(self.put(key.into_read(live), v)?);
+        }
+        if self.count_there(live) >= MAX_ITEMS {
+            return Err(CellFault::TooLong);
+        }
+        Ok(self.put_swept(key.into_read(live), v, live)?)
+    }
+
+    /// Drops the dead pairs and puts a value at a key.
+    fn put_swept<L: Living>(&mut self, key: Value, v: Value, live: &L) -> Result<(), AllocError>
+        ensures ok { OnOk result (self.new ≡ insert_entry value_eq (pairs_there (L.live live.now) self.old) key v) }
+        ensures err { OnErr result (self.new ≡ self.old) }
+    {
+        self.pairs.reserve(1)?;
+        sweep(&mut self.pairs, live);
+        self.pairs.insert(key, v)?;
+        Ok(())
+    }
+
+    /// These pairs, and then those of `from` that are there, a later equal key winning at the first one's place.
+    pub fn with_there<L: Living>(self, from: &Pairs, live: &L) -> Result<Pairs, AllocError>
+        ensures { IfOk result (λ t. t ≡ insert_all value_eq self (pairs_there (L.live live.now) from.now)) }
+    {
+        let mut all = self;
+        for i in 0..from.len() {
+            all.put_from(from, i, live)?;
+        }
+        Ok(all)
+    }
+
+    /// Puts the pair of another mapping at a place, where it is there.
+    fn put_from<L: Living>(&mut self, from: &Pairs, i: usize, live: &L) -> Result<(), AllocError>
+        ensures { OnOk result (self.new ≡ insert_all value_eq self.old (pair_there (L.live live.now) from.now i)) }
+    {
+        if let Some((key, v)) = from.at(i) {
+            if as_read(key, live).is_some() {
+                self.put(key.copy()?, v.copy()?)?;
+            }
+        }
+        Ok(())
+    }
+}
+
+/// Drops the pairs whose keys are dead.
+fn sweep<L: Living>(pairs: &mut IndexMap<Value, Value>, live: &L)
+    ensures entries { pairs.new.entries ≡ pairs_there (L.live live.now) pairs.old.entries }
+    ensures room { spare pairs.old ≤ spare pairs.new }
+{
+    pairs.retain(
+        |k: &Value, v: &mut Value| -> bool
+            ensures { (result ≡ is_some (live_part (L.live live.entry.now) k.now)) × (v.new ≡ v.old) }
+        { as_read(k, live).is_some() },
+    );
+}

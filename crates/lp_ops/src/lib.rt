@@ -1,0 +1,16 @@
+//! The operators of LPC.
+#![tactic(auto)]
+
+pub mod binary;
+pub mod effect;
+pub mod end;
+pub mod fault;
+pub mod index;
+pub mod int;
+pub mod list;
+pub mod price;
+pub mod range;
+pub mod set;
+#[cfg(test)]
+mod tests;
+pub mod unary;
