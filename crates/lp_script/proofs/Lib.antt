@@ -1,3 +1,11 @@
+pub mod Ascii
 pub mod BlockLemmas
+pub mod Counted
+pub mod Exact
+pub mod Fields
+pub mod Sorts
+pub mod NumberCode
+pub mod Numbers
 pub mod Numerals
 pub mod PutLemmas
+pub mod ReadsLemmas

@@ -1,2 +1,6 @@
+pub mod Before
+pub mod Items
 pub mod Put
+pub mod Reading
+pub mod Reads
 pub mod Runs

@@ -1,11 +1,20 @@
 //! Scripts and transcripts as bytes: writers of items and of outputs.
 #![tactic(auto)]
 
+mod advance;
+pub mod before;
 mod block;
+pub mod connections;
+pub mod items;
+mod number;
 mod put;
+pub mod stop;
+mod word;
 mod writing;
 
+pub use advance::{before_first, pass_item};
 pub use block::write_outs;
+pub use items::{one_spelling, read_item};
 pub use writing::write_item;
 
 #[cfg(test)]
