@@ -1,4 +1,5 @@
 pub mod Ascii
+pub mod BehindLemmas
 pub mod BlockLemmas
 pub mod Counted
 pub mod Exact

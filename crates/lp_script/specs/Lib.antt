@@ -1,4 +1,5 @@
 pub mod Before
+pub mod Behind
 pub mod Items
 pub mod Put
 pub mod Reading

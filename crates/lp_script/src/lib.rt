@@ -1,8 +1,9 @@
-//! Scripts and transcripts as bytes: writers of items and of outputs.
+//! Scripts and transcripts as bytes: a reader of items, and writers of items and of outputs.
 #![tactic(auto)]
 
 mod advance;
 pub mod before;
+pub mod behind;
 mod block;
 pub mod connections;
 pub mod items;
