@@ -6,6 +6,7 @@ pub mod Exact
 pub mod Fields
 pub mod Sorts
 pub mod NumberCode
+pub mod GivenLemmas
 pub mod Numbers
 pub mod Numerals
 pub mod PutLemmas

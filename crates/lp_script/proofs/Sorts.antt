@@ -253,7 +253,7 @@ running_from c s (items.Event (Reload path bytes)) f = inr (inr (inl ((path, byt
 running_from c s (items.Event (Swap name)) f = inr (inl (name, f.1, refl))
 running_from c s items.End f = inr (inr (inr (inr (inr (inl (tt, tt, refl))))))
 
-over_none : (c : Context) → c.stage ≡ Over → (w : Item) → Fits c w → ⊥
+pub over_none : (c : Context) → c.stage ≡ Over → (w : Item) → Fits c w → ⊥
 over_none c s (items.Head seed moment) f = let e = sym s ∙ f.0 in cc
 over_none c s (items.File path bytes) f = let e = sym s ∙ f.0 in cc
 over_none c s items.Start f = let e = sym s ∙ f in cc

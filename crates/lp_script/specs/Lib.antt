@@ -1,5 +1,6 @@
 pub mod Before
 pub mod Behind
+pub mod Given
 pub mod Items
 pub mod Put
 pub mod Reading

@@ -7,6 +7,7 @@ pub mod behind;
 mod block;
 pub mod connections;
 pub mod items;
+mod laws;
 mod number;
 mod put;
 pub mod stop;
@@ -16,6 +17,7 @@ mod writing;
 pub use advance::{before_first, pass_item};
 pub use block::write_outs;
 pub use items::{one_spelling, read_item};
+pub use laws::{more_items, refusals};
 pub use writing::write_item;
 
 #[cfg(test)]
