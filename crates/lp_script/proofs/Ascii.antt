@@ -1,11 +1,11 @@
 -- Paths and names are text.
-use Rattle.std.proofs.Common.{◌≡◌, ap, sym, refl, ◌∙◌, subst, ℕ, zero, suc, ◌<◌, ◌≤◌, Bool, true, false, eqb, leb, ltb, ◌&&◌, List, [], ◌∷◌, ◌++◌, length, get_or, codes, arith, ◌⊎◌, inl, inr}
-use Rattle.std.specs.List.{list_all, AllPass}
-use Rattle.std.specs.Str.{IsUtf8, IsAscii}
+use Rattle.std.proofs.Common.{◌≡◌, ap, sym, refl, ◌∙◌, ℕ, zero, suc, ◌<◌, ◌≤◌, true, false, eqb, leb, ltb, List, [], ◌∷◌, ◌++◌, get_or, codes, arith, inl, inr}
+use Rattle.std.specs.List.{list_all}
+use Rattle.std.specs.Str.{IsUtf8}
 use Rattle.std.proofs.lemmas.Bool.{cases_lt, ne_eqb, lt-ltb, ltb-true, le-leb, leb-true}
 use Rattle.std.proofs.lemmas.List.Sums.{list_all-from_AllPass}
 use Rattle.std.proofs.lemmas.Str.{IsUtf8-from_ascii}
-use Rattle.lp_meaning.specs.Script.{numeral, is_part_byte, IsPart, AreParts, path_of, IsPath, IsObjectName}
+use Rattle.lp_meaning.specs.Script.{numeral, is_part_byte, AreParts, path_of, IsPath, IsObjectName}
 use Rattle.lp_words.specs.Paths.{is_path, is_name}
 use Rattle.lp_words.proofs.PathLaws.{is_path-yes, is_name-yes}
 use Rattle.lp_script.specs.Reading.{is_digit}
@@ -39,7 +39,7 @@ part_byte c e = elim (cases_lt c 128) as (λ _. c < 128) [
       let r : leb 48 c ≡ true = le-leb 48 c (omega arith) in
       let k : is_part_byte c ≡ false = rw (p, a, q, b, r, d, f, g, h) refl in
       let l : true ≡ false = sym e ∙ k in absurd cc
-  ]
+]
 
 small_part : (w : List ℕ) → list_all is_part_byte w ≡ true → Small w
 small_part [] e = refl
@@ -60,7 +60,7 @@ small_name : (w : List ℕ) → IsObjectName w → Small w
 small_name w f = elim f.spelled as (λ _. Small w) [
   | inl e ↦ ap (list_all (λ c. ltb c 128)) e ∙ small_path f.path f.is_path
   | inr (n, e) ↦ ap (list_all (λ c. ltb c 128)) e ∙ small_append (f.path ++ codes "#") (numeral n) (small_append f.path (codes "#") (small_path f.path f.is_path) refl) (small_digits (numeral n) (numeral_digits n))
-  ]
+]
 
 pub path_utf8 : (w : List ℕ) → IsPath w → IsUtf8 w
 path_utf8 w f = IsUtf8-from_ascii w (small_ascii w (small_path w f))

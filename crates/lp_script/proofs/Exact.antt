@@ -1,11 +1,11 @@
 -- What a reader of a field reads: exactly what is spelled so.
-use Rattle.std.proofs.Common.{◌≡◌, ap, sym, refl, ◌∙◌, subst, ℕ, zero, suc, ◌+◌, ◌<◌, ◌≤◌, Bool, true, false, cond, eqb, not, List, [], ◌∷◌, ◌++◌, Option, Some, None, Result, Ok, Err, length, take, drop, take_while, arith, append_assoc, ◌⊎◌, inl, inr}
+use Rattle.std.proofs.Common.{◌≡◌, ap, sym, refl, ◌∙◌, subst, ℕ, suc, ◌+◌, ◌<◌, ◌≤◌, Bool, true, false, cond, eqb, not, List, [], ◌∷◌, ◌++◌, Option, Some, None, Result, Ok, Err, length, take, drop, arith, append_assoc, ◌⊎◌, inl, inr}
 use Rattle.std.proofs.Math.Dec.{T, eqb_refl}
 use Rattle.std.specs.List.{prefix_len}
 use Rattle.std.proofs.Math.Numerals.{one-add, add-one}
 use Rattle.std.proofs.lemmas.Bool.{eqb-true, ne_eqb}
 use Rattle.std.proofs.lemmas.List.Folds.{length-prefix_len}
-use Rattle.std.proofs.lemmas.List.{append-nil, length-append}
+use Rattle.std.proofs.lemmas.List.{length-append}
 use Rattle.lp_script.specs.declared.stop.Stop.{Stop}
 use Rattle.lp_script.specs.declared.stop.Stop.TheVariants.{Short, Wrong}
 use Rattle.lp_script.specs.Reading.{◌>>=◌, text_at, before, word_at, stopped, found, pair_at, after, made, either, nothing, none_at}
@@ -101,11 +101,11 @@ module _ (A : Type 0) (fits : A → Type 0) (spell : A → List ℕ) (read : Lis
     short = λ bs e. elim (bind_err (text_at text bs) read Short e) as (λ _. Begun A fits (λ v. text ++ spell v) bs) [
       | inl d ↦ let s = text_short text bs d in record { value = some; fit = fit; others = s.0 ++ spell some; some = omega (arith, s.1, length-append s.0 (spell some)); spelled = ap (λ (t : List ℕ). t ++ spell some) s.2 ∙ append_assoc bs s.0 (spell some) }
       | inr (r, t, d) ↦ let s = x.short r d in record { value = s.value; fit = s.fit; others = s.others; some = s.some; spelled = ap (λ (t : List ℕ). text ++ t) s.spelled ∙ sym (append_assoc text r s.others) ∙ ap (λ (t : List ℕ). t ++ s.others) (sym (text_takes text bs r t)) }
-      ];
+    ];
     wrong = λ bs e v a b fit same. elim (bind_err (text_at text bs) read Wrong e) [
       | inl d ↦ text_wrong text bs d (spell v ++ a) b (sym (append_assoc text (spell v) a) ∙ same)
       | inr (r, t, d) ↦ x.wrong r d v a b fit (cancel text (spell v ++ a) (r ++ b) (sym (append_assoc text (spell v) a) ∙ same ∙ ap (λ (t : List ℕ). t ++ b) (text_takes text bs r t) ∙ append_assoc text r b))
-      ];
+    ];
     free = λ v w a b fit fit' same. x.free v w a b fit fit' (cancel text (spell v ++ a) (spell w ++ b) (sym (append_assoc text (spell v) a) ∙ same ∙ append_assoc text (spell w) b));
   }
 
@@ -122,11 +122,11 @@ module _ (A : Type 0) (fits : A → Type 0) (spell : A → List ℕ) (read : Lis
     short = λ bs e. elim (bind_err (read bs) (λ v. Ok (make v.0, v.1)) Short e) as (λ _. Begun B (λ w. (v : A) × fits v × (w ≡ make v)) spell' bs) [
       | inl d ↦ let s = x.short bs d in record { value = make s.value; fit = (s.value, s.fit, refl); others = s.others; some = s.some; spelled = law s.value s.fit ∙ s.spelled }
       | inr (v, t, d) ↦ absurd cc
-      ];
+    ];
     wrong = λ bs e w a b fit same. elim (bind_err (read bs) (λ v. Ok (make v.0, v.1)) Wrong e) [
       | inl d ↦ x.wrong bs d fit.0 a b fit.1 (ap (λ (r : List ℕ). r ++ a) (sym (law fit.0 fit.1) ∙ ap spell' (sym fit.2)) ∙ same)
       | inr (v, t, d) ↦ absurd cc
-      ];
+    ];
     free = λ v w a b fit fit' same. fit.2 ∙ ap make (x.free fit.0 fit'.0 a b fit.1 fit'.1 (ap (λ (r : List ℕ). r ++ a) (sym (law fit.0 fit.1) ∙ ap spell' (sym fit.2)) ∙ same ∙ ap (λ (r : List ℕ). r ++ b) (ap spell' fit'.2 ∙ law fit'.0 fit'.1))) ∙ sym fit'.2;
   }
 
@@ -143,18 +143,28 @@ module _ (A : Type 0) (fits : A → Type 0) (spell : A → List ℕ) (read : Lis
         let same : (t.0.0, u.0.0) ≡ p = ap (λ (q : (A × B) × List ℕ). q.0) k in
         let behind : u.0.1 ≡ rest = ap (λ (q : (A × B) × List ℕ). q.1) k in
         subst (λ (q : A × B). (fits q.0 × fits' q.1) × (bs ≡ (spell q.0 ++ spell' q.1) ++ rest)) same
-            ((f.0, g.0), f.1 ∙ ap (λ (r : List ℕ). spell t.0.0 ++ r) (g.1 ∙ ap (λ (r : List ℕ). spell' u.0.0 ++ r) behind) ∙ sym (append_assoc (spell t.0.0) (spell' u.0.0) rest));
+        ((f.0, g.0), f.1 ∙ ap (λ (r : List ℕ). spell t.0.0 ++ r) (g.1 ∙ ap (λ (r : List ℕ). spell' u.0.0 ++ r) behind) ∙ sym (append_assoc (spell t.0.0) (spell' u.0.0) rest));
     short = λ bs e. elim (bind_err (read bs) (λ v. read' v.1 >>= λ w. Ok ((v.0, w.0), w.1)) Short e) as (λ _. Begun (A × B) (λ p. fits p.0 × fits' p.1) (λ p. spell p.0 ++ spell' p.1) bs) [
       | inl d ↦ let s = x.short bs d in
-          record { value = (s.value, some); fit = (s.fit, fit); others = s.others ++ spell' some; some = omega (arith, s.some, length-append s.others (spell' some));
-            spelled = ap (λ (r : List ℕ). r ++ spell' some) s.spelled ∙ append_assoc bs s.others (spell' some) }
+          record {
+            value = (s.value, some);
+            fit = (s.fit, fit);
+            others = s.others ++ spell' some;
+            some = omega (arith, s.some, length-append s.others (spell' some));
+            spelled = ap (λ (r : List ℕ). r ++ spell' some) s.spelled ∙ append_assoc bs s.others (spell' some);
+          }
       | inr (v, t, d) ↦ elim (bind_err (read' v.1) (λ w. Ok ((v.0, w.0), w.1)) Short d) as (λ _. Begun (A × B) (λ p. fits p.0 × fits' p.1) (λ p. spell p.0 ++ spell' p.1) bs) [
         | inl k ↦ let f = x.takes bs v.0 v.1 t in let s = y.short v.1 k in
-            record { value = (v.0, s.value); fit = (f.0, s.fit); others = s.others; some = s.some;
-              spelled = ap (λ (r : List ℕ). spell v.0 ++ r) s.spelled ∙ sym (append_assoc (spell v.0) v.1 s.others) ∙ ap (λ (r : List ℕ). r ++ s.others) (sym f.1) }
+            record {
+              value = (v.0, s.value);
+              fit = (f.0, s.fit);
+              others = s.others;
+              some = s.some;
+              spelled = ap (λ (r : List ℕ). spell v.0 ++ r) s.spelled ∙ sym (append_assoc (spell v.0) v.1 s.others) ∙ ap (λ (r : List ℕ). r ++ s.others) (sym f.1);
+            }
         | inr (w, u, k) ↦ absurd cc
-        ]
-      ];
+      ]
+    ];
     wrong = λ bs e p a b fit same. elim (bind_err (read bs) (λ v. read' v.1 >>= λ w. Ok ((v.0, w.0), w.1)) Wrong e) [
       | inl d ↦ x.wrong bs d p.0 (spell' p.1 ++ a) b fit.0 (sym (append_assoc (spell p.0) (spell' p.1) a) ∙ same)
       | inr (v, t, d) ↦ elim (bind_err (read' v.1) (λ w. Ok ((v.0, w.0), w.1)) Wrong d) [
@@ -164,8 +174,8 @@ module _ (A : Type 0) (fits : A → Type 0) (spell : A → List ℕ) (read : Lis
             let one : p.0 ≡ v.0 = x.free p.0 v.0 (spell' p.1 ++ a) (v.1 ++ b) fit.0 f.0 parts in
             y.wrong v.1 k p.1 a b fit.1 (cancel (spell v.0) (spell' p.1 ++ a) (v.1 ++ b) (ap (λ (q : A). spell q ++ (spell' p.1 ++ a)) (sym one) ∙ parts))
         | inr (w, u, k) ↦ absurd cc
-        ]
-      ];
+      ]
+    ];
     free = λ p q a b fit fit' same.
         let parts : spell p.0 ++ (spell' p.1 ++ a) ≡ spell q.0 ++ (spell' q.1 ++ b) = sym (append_assoc (spell p.0) (spell' p.1) a) ∙ same ∙ append_assoc (spell q.0) (spell' q.1) b in
         let one : p.0 ≡ q.0 = x.free p.0 q.0 (spell' p.1 ++ a) (spell' q.1 ++ b) fit.0 fit'.0 parts in
@@ -196,6 +206,7 @@ module _ (A : Type 0) (fits : A → Type 0) (spell : A → List ℕ) (read : Lis
       long : (v : A) → (fits v ⊎ fits' v) → 0 < length (spell v)
       long v (inl f) = let h = head v f in omega (arith, ap length h.1)
       long v (inr f) = let h = head' v f in omega (arith, ap length h.2)
+
       takes : (bs : List ℕ) (v : A) (rest : List ℕ) → either first read read' bs ≡ Ok (v, rest) → (fits v ⊎ fits' v) × (bs ≡ spell v ++ rest)
       takes [] v rest e = absurd cc
       takes (b ∷ bs) v rest e = one (eqb b first) e
@@ -203,6 +214,7 @@ module _ (A : Type 0) (fits : A → Type 0) (spell : A → List ℕ) (read : Lis
           one : (t : Bool) → cond t (read (b ∷ bs)) (read' (b ∷ bs)) ≡ Ok (v, rest) → (fits v ⊎ fits' v) × (b ∷ bs ≡ spell v ++ rest)
           one true e = let f = x.takes (b ∷ bs) v rest e in (inl f.0, f.1)
           one false e = let f = y.takes (b ∷ bs) v rest e in (inr f.0, f.1)
+
       short : (bs : List ℕ) → either first read read' bs ≡ Err Short → Begun A (λ v. fits v ⊎ fits' v) spell bs
       short [] e = record { value = some; fit = fit; others = spell some; some = long some fit; spelled = refl }
       short (b ∷ bs) e = one (eqb b first) e
@@ -210,6 +222,7 @@ module _ (A : Type 0) (fits : A → Type 0) (spell : A → List ℕ) (read : Lis
           one : (t : Bool) → cond t (read (b ∷ bs)) (read' (b ∷ bs)) ≡ Err Short → Begun A (λ v. fits v ⊎ fits' v) spell (b ∷ bs)
           one true e = let s = x.short (b ∷ bs) e in record { value = s.value; fit = inl s.fit; others = s.others; some = s.some; spelled = s.spelled }
           one false e = let s = y.short (b ∷ bs) e in record { value = s.value; fit = inr s.fit; others = s.others; some = s.some; spelled = s.spelled }
+
       wrong : (bs : List ℕ) → either first read read' bs ≡ Err Wrong → (v : A) (a b : List ℕ) → (fits v ⊎ fits' v) → spell v ++ a ≡ bs ++ b → ⊥
       wrong [] e v a b f same = absurd cc
       wrong (c ∷ bs) e v a b f same = one (eqb c first) refl e f
@@ -220,9 +233,11 @@ module _ (A : Type 0) (fits : A → Type 0) (spell : A → List ℕ) (read : Lis
           one false is e (inl f) = let h = head v f in let k : first ∷ (h.0 ++ a) ≡ c ∷ (bs ++ b) = ap (λ (r : List ℕ). r ++ a) (sym h.1) ∙ same in
               let l : c ≡ first = cc in let m : true ≡ false = sym (eqb-same first) ∙ ap (λ (i : ℕ). eqb i first) (sym l) ∙ is in cc
           one false is e (inr f) = y.wrong (c ∷ bs) e v a b f same
+
       apart : (v w : A) (a b : List ℕ) → fits v → fits' w → spell v ++ a ≡ spell w ++ b → ⊥
       apart v w a b f g same = let h = head v f in let k = head' w g in
           let l : first ∷ (h.0 ++ a) ≡ k.0 ∷ (k.1 ++ b) = ap (λ (r : List ℕ). r ++ a) (sym h.1) ∙ same ∙ ap (λ (r : List ℕ). r ++ b) k.2 in k.3 cc
+
       free : (v w : A) (a b : List ℕ) → (fits v ⊎ fits' v) → (fits w ⊎ fits' w) → spell v ++ a ≡ spell w ++ b → v ≡ w
       free v w a b (inl f) (inl g) same = x.free v w a b f g same
       free v w a b (inl f) (inr g) same = absurd (apart v w a b f g same)
@@ -256,7 +271,7 @@ split end (b ∷ bs) = one (eqb b end) refl (split end bs)
         elim h as (λ _. ((before end (b ∷ bs) ≡ length (b ∷ bs)) × NotIn end (b ∷ bs)) ⊎ ((before end (b ∷ bs) < length (b ∷ bs)) × NotIn end (take (before end (b ∷ bs)) (b ∷ bs)) × (b ∷ bs ≡ take (before end (b ∷ bs)) (b ∷ bs) ++ end ∷ drop (before end (b ∷ bs) + 1) (b ∷ bs)))) [
           | inl (all, apart) ↦ inl (n ∙ ap suc all, (other, apart))
           | inr (some, apart, parts) ↦ inr (subst (λ (n : ℕ). (n < length (b ∷ bs)) × NotIn end (take n (b ∷ bs)) × (b ∷ bs ≡ take n (b ∷ bs) ++ end ∷ drop (n + 1) (b ∷ bs))) (sym n) (omega arith, (other, apart), ap (λ (r : List ℕ). b ∷ r) (parts ∙ ap (λ (i : ℕ). take (before end bs) bs ++ end ∷ drop i bs) (add-one (before end bs))) ∙ ap (λ (i : ℕ). take (suc (before end bs)) (b ∷ bs) ++ end ∷ drop i (b ∷ bs)) (sym (add-one (suc (before end bs))))))
-          ]
+        ]
 
 pub before-le : (end : ℕ) (bs : List ℕ) → before end bs ≤ length bs
 before-le end bs = elim (split end bs) [ inl f ↦ omega (arith, f.0) | inr f ↦ omega (arith, f.0) ]
@@ -292,15 +307,17 @@ word_exact A fits body end named begins x = record {
     -- which word it is
     whole : (v : A) (a : List ℕ) → (body v ++ end ∷ []) ++ a ≡ body v ++ end ∷ a
     whole v a = append_assoc (body v) (end ∷ []) a
+
     takes : (bs : List ℕ) (v : A) (rest : List ℕ) → word_at end named begins bs ≡ Ok (v, rest) → fits v × (bs ≡ (body v ++ end ∷ []) ++ rest)
     takes bs v rest e = elim (split end bs) [
       | inl (all, apart) ↦ none (begins bs) (sym (ap (λ (t : Bool). cond t (stopped (begins bs)) (found (named (take (before end bs) bs)) (drop (before end bs + 1) bs))) (eqb-of all)) ∙ e)
       | inr (some, apart, parts) ↦ one (named (take (before end bs) bs)) refl parts (sym (ap (λ (t : Bool). cond t (stopped (begins bs)) (found (named (take (before end bs) bs)) (drop (before end bs + 1) bs))) (ne_eqb _ _ (λ f. omega (arith, some, f)))) ∙ e)
-      ]
+    ]
       where
         none : (t : Bool) → stopped t ≡ Ok (v, rest) → fits v × (bs ≡ (body v ++ end ∷ []) ++ rest)
         none true e = absurd cc
         none false e = absurd cc
+
         one : (o : Option A) → named (take (before end bs) bs) ≡ o → bs ≡ take (before end bs) bs ++ end ∷ drop (before end bs + 1) bs → found o (drop (before end bs + 1) bs) ≡ Ok (v, rest) → fits v × (bs ≡ (body v ++ end ∷ []) ++ rest)
         one None is parts e = absurd cc
         one (Some w) is parts e =
@@ -309,33 +326,38 @@ word_exact A fits body end named begins x = record {
             let behind : drop (before end bs + 1) bs ≡ rest = ap (λ (q : A × List ℕ). q.1) g in
             let f = x.named_is (take (before end bs) bs) v (is ∙ ap Some same) in
             (f.0, parts ∙ ap (λ (r : List ℕ). r ++ end ∷ drop (before end bs + 1) bs) (sym f.1) ∙ ap (λ (r : List ℕ). body v ++ end ∷ r) behind ∙ sym (whole v rest))
+
     short : (bs : List ℕ) → word_at end named begins bs ≡ Err Short → Begun A fits (λ v. body v ++ end ∷ []) bs
     short bs e = elim (split end bs) [
       | inl (all, apart) ↦ none (begins bs) refl (sym (ap (λ (t : Bool). cond t (stopped (begins bs)) (found (named (take (before end bs) bs)) (drop (before end bs + 1) bs))) (eqb-of all)) ∙ e)
       | inr (some, apart, parts) ↦ one (named (take (before end bs) bs)) (sym (ap (λ (t : Bool). cond t (stopped (begins bs)) (found (named (take (before end bs) bs)) (drop (before end bs + 1) bs))) (ne_eqb _ _ (λ f. omega (arith, some, f)))) ∙ e)
-      ]
+    ]
       where
         none : (t : Bool) → begins bs ≡ t → stopped {A = A} t ≡ Err Short → Begun A fits (λ v. body v ++ end ∷ []) bs
         none true is e = let b = x.begins_is bs is in record { value = b.0; fit = b.1; others = b.2 ++ end ∷ []; some = omega (arith, length-append b.2 (end ∷ [])); spelled = ap (λ (r : List ℕ). r ++ end ∷ []) b.3 ∙ append_assoc bs b.2 (end ∷ []) }
         none false is e = absurd cc
+
         one : (o : Option A) → found o (drop (before end bs + 1) bs) ≡ Err Short → Begun A fits (λ v. body v ++ end ∷ []) bs
         one None e = absurd cc
         one (Some w) e = absurd cc
+
     wrong : (bs : List ℕ) → word_at end named begins bs ≡ Err Wrong → (v : A) (a b : List ℕ) → fits v → (body v ++ end ∷ []) ++ a ≡ bs ++ b → ⊥
     wrong bs e v a b f same = elim (split end bs) [
       | inl (all, apart) ↦ none (begins bs) refl apart (sym (ap (λ (t : Bool). cond t (stopped (begins bs)) (found (named (take (before end bs) bs)) (drop (before end bs + 1) bs))) (eqb-of all)) ∙ e)
       | inr (some, apart, parts) ↦ one (named (take (before end bs) bs)) refl apart parts (sym (ap (λ (t : Bool). cond t (stopped (begins bs)) (found (named (take (before end bs) bs)) (drop (before end bs + 1) bs))) (ne_eqb _ _ (λ f. omega (arith, some, f)))) ∙ e)
-      ]
+    ]
       where
         none : (t : Bool) → begins bs ≡ t → NotIn end bs → stopped {A = A} t ≡ Err Wrong → ⊥
         none true is apart e = cc
         none false is apart e = let g = front_word end (body v) bs a b apart (sym (whole v a) ∙ same) in let h : true ≡ false = sym (x.begins_again v bs g.0 f g.1) ∙ is in cc
+
         one : (o : Option A) → named (take (before end bs) bs) ≡ o → NotIn end (take (before end bs) bs) → bs ≡ take (before end bs) bs ++ end ∷ drop (before end bs + 1) bs → found o (drop (before end bs + 1) bs) ≡ Err Wrong → ⊥
         one None is apart parts e =
             let g : body v ≡ take (before end bs) bs = same_word end (body v) (take (before end bs) bs) a (drop (before end bs + 1) bs ++ b) (x.apart v f) apart
-                    (sym (whole v a) ∙ same ∙ ap (λ (r : List ℕ). r ++ b) parts ∙ append_assoc (take (before end bs) bs) (end ∷ drop (before end bs + 1) bs) b) in
+            (sym (whole v a) ∙ same ∙ ap (λ (r : List ℕ). r ++ b) parts ∙ append_assoc (take (before end bs) bs) (end ∷ drop (before end bs + 1) bs) b) in
             let h = sym (x.named_again v f) ∙ ap named g ∙ is in cc
         one (Some w) is apart parts e = cc
+
     free : (v w : A) (a b : List ℕ) → fits v → fits w → (body v ++ end ∷ []) ++ a ≡ (body w ++ end ∷ []) ++ b → v ≡ w
     free v w a b f g same =
         let h = same_word end (body v) (body w) a b (x.apart v f) (x.apart w g) (sym (whole v a) ∙ same ∙ whole w b) in

@@ -1,23 +1,16 @@
 -- What is read of an item is spelled so, and fits.
-use Rattle.std.proofs.Common.{◌≡◌, ap, sym, refl, ◌∙◌, subst, ℕ, zero, suc, ◌+◌, ◌<◌, ◌≤◌, Bool, true, false, cond, eqb, leb, ltb, not, ◌&&◌, List, [], ◌∷◌, ◌++◌, Option, Some, None, Result, Ok, Err, length, codes, arith, append_assoc, ◌⊎◌, inl, inr}
-use Rattle.std.specs.List.{list_all, list_any, AllPass}
+use Rattle.std.proofs.Common.{◌≡◌, ap, sym, refl, ◌∙◌, subst, ℕ, ◌<◌, ◌≤◌, Bool, true, false, cond, eqb, not, ◌&&◌, List, [], ◌∷◌, ◌++◌, Some, None, length, arith, ◌⊎◌, inl, inr}
+use Rattle.std.specs.List.{list_all}
 use Rattle.std.specs.Ordering.{nat_cmp, is_lt}
 use Rattle.std.specs.Cmp.Lexicographic.{slice_cmp}
 use Rattle.std.specs.declared.cmp.Ordering.{Ordering}
 use Rattle.std.specs.declared.cmp.Ordering.TheVariants.{Less, Equal, Greater}
-use Rattle.std.proofs.lemmas.Bool.{cases_lt, eqb-true, ltb-true, lt-ltb, le-ltb, le-leb, leb-true}
-use Rattle.std.proofs.lemmas.List.{append-nil, length-append}
-use Rattle.lp_meaning.specs.declared.event.Event.TheVariants.{Connect, Line, Gone, Tick, Reload, Swap}
-use Rattle.lp_meaning.specs.declared.item.Item.{Item}
-use Rattle.lp_meaning.specs.declared.item.Item.TheVariants as items
-use Rattle.lp_meaning.specs.Script.{numeral, counted, event_spelling, spelling, IsPath, IsObjectName, is_line_byte, Context, Stage, Beginning, Filing, Running, Over, Fits, FitsEvent}
-use Rattle.lp_script.specs.declared.stop.Stop.{Stop}
+use Rattle.lp_meaning.specs.Script.{numeral, counted, IsPath, IsObjectName}
 use Rattle.lp_words.specs.Paths.{is_path, begins_path, is_name, begins_name}
-use Rattle.lp_script.specs.Reading.{is_digit, is_empty, number_named, is_between, begins_between, begins_any, is_one_of, begins_one_of, passes, word_at, pair_at, after, made, either, nothing, none_at, counted_at}
-use Rattle.lp_script.specs.Items
-use Rattle.lp_script.specs.Items.{last_moment, last_seed, last_number, longest_line, between_at, count_at, one_of_at, path_named, path_at, name_named, name_at, file_bytes_at, line_bytes_at, head_at, file_at, start_at, connect_at, line_at, gone_at, tick_at, reload_at, swap_at, end_at, running_at, item_at}
-use Rattle.lp_script.proofs.Exact.{Words, Exact, Begun, NotIn, word_exact, after_exact, made_exact, pair_exact, either_exact, same_fits, nothing_exact, none_exact}
-use Rattle.lp_script.proofs.Numbers.{both, joins, any_words, between_words, one_of_words}
+use Rattle.lp_script.specs.Reading.{is_digit, is_between, is_one_of, passes}
+use Rattle.lp_script.specs.Items.{between_at, count_at, one_of_at, path_named, path_at, name_named, name_at, file_bytes_at, line_bytes_at}
+use Rattle.lp_script.proofs.Exact.{Words, Exact, NotIn, word_exact, same_fits}
+use Rattle.lp_script.proofs.Numbers.{both, any_words, between_words, one_of_words}
 use Rattle.lp_script.proofs.Counted.{counted_exact}
 use Rattle.lp_words.proofs.PathLaws.{is_path-yes, is_path-no, begins_path-yes, begins_path-no, is_name-yes, is_name-no, begins_name-yes, begins_name-no, path-bytes, name-bytes}
 
@@ -65,16 +58,18 @@ path_words last = record {
         one : (s : Bool) → (is_path w && is_lt (slice_cmp nat_cmp last w)) ≡ s → cond s (Some w) None ≡ Some p → (IsPath p × (slice_cmp nat_cmp last p ≡ Less)) × (p ≡ w)
         one true f e = let same : w ≡ p = cc in let h = both _ _ f in subst (λ (q : List ℕ). (IsPath q × (slice_cmp nat_cmp last q ≡ Less)) × (q ≡ w)) same ((is_path-yes w h.0, less _ h.1), refl)
         one false f e = absurd cc
+
     named_again : (p : List ℕ) → IsPath p × (slice_cmp nat_cmp last p ≡ Less) → path_named last p ≡ Some p
     named_again p f = elim (yes_no (is_path p)) as (λ _. path_named last p ≡ Some p) [
       | inl e ↦ ap (λ (s : Bool). cond (s && is_lt (slice_cmp nat_cmp last p)) (Some p) None) e ∙ ap (λ (o : Ordering). cond (is_lt o) (Some p) None) f.1
       | inr e ↦ absurd (is_path-no p e f.0)
-      ]
+    ]
+
     begins_again : (p w others : List ℕ) → IsPath p × (slice_cmp nat_cmp last p ≡ Less) → p ≡ w ++ others → begins_path last w ≡ true
     begins_again p w others f e = elim (yes_no (begins_path last w)) as (λ _. begins_path last w ≡ true) [
       | inl g ↦ g
       | inr g ↦ absurd (begins_path-no last w g p others f.0 f.1 e)
-      ]
+    ]
 
 name_words : Words (List ℕ) IsObjectName (λ p. p) 10 name_named begins_name
 name_words = record {
@@ -91,16 +86,18 @@ name_words = record {
         one : (s : Bool) → is_name w ≡ s → cond s (Some w) None ≡ Some p → IsObjectName p × (p ≡ w)
         one true f e = let same : w ≡ p = cc in subst (λ (q : List ℕ). IsObjectName q × (q ≡ w)) same (is_name-yes w f, refl)
         one false f e = absurd cc
+
     named_again : (p : List ℕ) → IsObjectName p → name_named p ≡ Some p
     named_again p f = elim (yes_no (is_name p)) as (λ _. name_named p ≡ Some p) [
       | inl e ↦ ap (λ (s : Bool). cond s (Some p) None) e
       | inr e ↦ absurd (is_name-no p e f)
-      ]
+    ]
+
     begins_again : (p w others : List ℕ) → IsObjectName p → p ≡ w ++ others → begins_name w ≡ true
     begins_again p w others f e = elim (yes_no (begins_name w)) as (λ _. begins_name w ≡ true) [
       | inl g ↦ g
       | inr g ↦ absurd (begins_name-no w g p others f e)
-      ]
+    ]
 
 pub path_exact : (last : List ℕ) → Exact (List ℕ) (λ p. IsPath p × (slice_cmp nat_cmp last p ≡ Less)) (λ p. p ++ 32 ∷ []) (path_at last)
 unfolding path_at

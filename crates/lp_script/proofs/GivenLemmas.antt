@@ -1,5 +1,5 @@
 -- What was read of a script, in the words of the definition.
-use Rattle.std.proofs.Common.{◌≡◌, ap, sym, refl, ◌∙◌, subst, ℕ, zero, suc, ◌+◌, ◌-◌, ◌<◌, ◌≤◌, Bool, true, false, leb, List, [], ◌∷◌, ◌++◌, Result, Ok, Err, length, take, drop, flat_map, arith, append_assoc, ◌⊎◌, inl, inr}
+use Rattle.std.proofs.Common.{◌≡◌, ap, sym, refl, ◌∙◌, subst, ℕ, ◌+◌, ◌<◌, ◌≤◌, true, false, leb, List, [], ◌∷◌, ◌++◌, Err, length, take, drop, arith, ◌⊎◌, inl, inr}
 use Rattle.std.proofs.lemmas.Bool.{leb-true, le-leb, cases_lt}
 use Rattle.std.proofs.lemmas.List.{take_all, take_at, length-append, length-take, length-drop, append-nil, take-take}
 use Rattle.std.proofs.lemmas.List.Concat.{flat_map-append}
@@ -7,7 +7,6 @@ use Rattle.std.proofs.Math.Seq.{take-add}
 use Rattle.lp_meaning.specs.declared.item.Item.{Item}
 use Rattle.lp_meaning.specs.declared.item.Item.TheVariants as items
 use Rattle.lp_meaning.specs.Script.{Context, Over, beginning, after_item, after_items, AllFit, Fits, spelling, spellings, BeginsWith, IsBegun, IsFront, IsScript, IsTooLarge, IsBadScript, longest_input}
-use Rattle.lp_script.specs.declared.behind.Refusal.{Refusal}
 use Rattle.lp_script.specs.declared.behind.Refusal.TheVariants.{Bad, Large}
 use Rattle.lp_script.specs.Behind.{Behind}
 use Rattle.lp_script.specs.Given.{Stands}
@@ -39,16 +38,16 @@ front_is m bytes taken xs cut c s = take-take cut m taken (omega (arith, s.withi
 pub stands_more : (m : ℕ) (bytes taken : List ℕ) (xs : List Item) (cut : ℕ) (c : Context) (x : Item) (n : ℕ) → Stands m bytes taken xs cut c → Fits c x → n ≤ length (take m taken) → drop cut (take m taken) ≡ spelling x ++ drop n (take m taken)
     → Stands m bytes taken (xs ++ x ∷ []) n (after_item c x)
 stands_more m bytes taken xs cut c x n s f within e =
-  let w = take m taken in
-  let long : n ≡ cut + length (spelling x) = omega (arith, ap length e, length-append (spelling x) (drop n w), length-drop cut w, length-drop n w, s.within) in
-  record {
-  input = s.input;
-  within = within;
-  spelled = sym (take-take n m taken (omega (arith, within, length-take m taken))) ∙ ap (λ (i : ℕ). take i w) long ∙ take-add cut (length (spelling x)) w ∙ ap (λ (r : List ℕ). take cut w ++ take (length (spelling x)) r) e ∙ ap (λ (r : List ℕ). take cut w ++ r) (take_at (spelling x) (drop n w) (length (spelling x)) refl)
-      ∙ ap (λ (r : List ℕ). r ++ spelling x) (front_is m bytes taken xs cut c s) ∙ sym (spellings-append xs x);
-  fit = AllFit-append beginning xs x s.fit (subst (λ (d : Context). Fits d x) s.before f);
-  before = ap (λ (d : Context). after_item d x) s.before ∙ sym (after_items-append beginning xs x);
-}
+    let w = take m taken in
+    let long : n ≡ cut + length (spelling x) = omega (arith, ap length e, length-append (spelling x) (drop n w), length-drop cut w, length-drop n w, s.within) in
+    record {
+      input = s.input;
+      within = within;
+      spelled = sym (take-take n m taken (omega (arith, within, length-take m taken))) ∙ ap (λ (i : ℕ). take i w) long ∙ take-add cut (length (spelling x)) w ∙ ap (λ (r : List ℕ). take cut w ++ take (length (spelling x)) r) e ∙ ap (λ (r : List ℕ). take cut w ++ r) (take_at (spelling x) (drop n w) (length (spelling x)) refl)
+          ∙ ap (λ (r : List ℕ). r ++ spelling x) (front_is m bytes taken xs cut c s) ∙ sym (spellings-append xs x);
+      fit = AllFit-append beginning xs x s.fit (subst (λ (d : Context). Fits d x) s.before f);
+      before = ap (λ (d : Context). after_item d x) s.before ∙ sym (after_items-append beginning xs x);
+    }
 
 -- where items end, and no other one follows
 front_of : (m : ℕ) (bytes taken : List ℕ) (xs : List Item) (cut : ℕ) (c : Context) → Stands m bytes taken xs cut c → ((x : Item) → BeginsWith c (drop cut (take m taken)) x → ⊥) → IsFront (take m bytes) xs cut
@@ -81,7 +80,7 @@ not_whole : (taken : List ℕ) (m : ℕ) → leb (length taken) m ≡ false → 
 not_whole taken m e = elim (cases_lt m (length taken)) as (λ _. m < length taken) [
   | inl lt ↦ lt
   | inr ge ↦ let f : true ≡ false = sym (le-leb (length taken) m ge) ∙ e in absurd cc
-  ]
+]
 
 -- nothing follows and nothing is begun, or the whole was read: then it is not too large
 not_large : (bytes taken : List ℕ) (xs : List Item) (cut : ℕ) (c : Context) → Stands longest_input bytes taken xs cut c → IsFront (take longest_input bytes) xs cut
@@ -90,7 +89,7 @@ not_large bytes taken xs cut c s front (inl is) (lt, cut', front', ends) = let a
 not_large bytes taken xs cut c s front (inr (more, none)) (lt, cut', front', inl e) = omega (arith, same_cut (take longest_input bytes) xs cut cut' front front', more, length-take longest_input taken, e)
 not_large bytes taken xs cut c s front (inr (more, none)) (lt, cut', front', inr b) =
     none (subst (λ (d : Context). IsBegun d (drop cut (take longest_input taken))) (sym s.before) (subst (λ (r : List ℕ). IsBegun (after_items beginning xs) (drop cut r)) (sym (window longest_input bytes taken xs cut c s))
-        (subst (λ (i : ℕ). IsBegun (after_items beginning xs) (drop i (take longest_input bytes))) (sym (same_cut (take longest_input bytes) xs cut cut' front front')) b)))
+    (subst (λ (i : ℕ). IsBegun (after_items beginning xs) (drop i (take longest_input bytes))) (sym (same_cut (take longest_input bytes) xs cut cut' front front')) b)))
 
 -- a fault
 pub bad_is : (bytes taken : List ℕ) (xs : List Item) (cut at : ℕ) (c : Context) → Stands longest_input bytes taken xs cut c → (c.stage ≡ Over → ⊥) → Behind c (take longest_input taken) (leb (length taken) longest_input) cut (Err (Bad at)) → IsBadScript bytes xs at
@@ -131,7 +130,8 @@ module _ (bytes taken : List ℕ) (xs : List Item) (n : ℕ) (c : Context) (s : 
 
   pub end_is_bad : n < length (take longest_input taken) → IsBadScript bytes (xs ++ items.End ∷ []) n
   end_is_bad more =
-      let front = front_of longest_input bytes taken _ n _ s nothing_more in
-      (front,
-       λ z. omega (arith, ap length z.spelled, ap length front.spelled, length-take n (take longest_input bytes), front.within, more, ap length (window longest_input bytes taken _ n _ s), length-take longest_input bytes),
-       not_large bytes taken _ n _ s front (inr (more, λ b. over_none (after_item c items.End) refl b.item b.fits)))
+      let front = front_of longest_input bytes taken _ n _ s nothing_more in (
+        front,
+        λ z. omega (arith, ap length z.spelled, ap length front.spelled, length-take n (take longest_input bytes), front.within, more, ap length (window longest_input bytes taken _ n _ s), length-take longest_input bytes),
+        not_large bytes taken _ n _ s front (inr (more, λ b. over_none (after_item c items.End) refl b.item b.fits)),
+      )

@@ -1,15 +1,14 @@
 -- What the code of numbers leaves to show.
-use Rattle.std.proofs.Common.{◌≡◌, ap, sym, refl, ◌∙◌, ℕ, zero, suc, ◌+◌, ◌-◌, ◌*◌, ◌^◌, ◌<◌, ◌≤◌, min, Bool, true, false, cond, eqb, leb, ltb, not, ◌&&◌, ◌||◌, List, [], ◌∷◌, ◌++◌, Option, Some, None, Result, Ok, Err, length, drop, take, get_or, arith, ◌⊎◌, inl, inr}
+use Rattle.std.proofs.Common.{◌≡◌, ap, sym, refl, ◌∙◌, ℕ, suc, ◌+◌, ◌-◌, ◌*◌, ◌^◌, ◌<◌, ◌≤◌, min, Bool, true, false, cond, eqb, leb, ltb, not, ◌&&◌, ◌||◌, List, [], ◌∷◌, Option, Some, None, Ok, Err, length, drop, take, get_or, arith, ◌⊎◌, inl, inr}
 use Rattle.std.specs.List.{list_all}
 use Rattle.std.specs.Cmp.Lexicographic.{pointwise}
 use Rattle.std.specs.Fmt.{decimal}
-use Rattle.std.proofs.lemmas.Bool.{cases_lt, eqb-true, ne_eqb, lt-ltb, le-ltb, le-leb, leb-true}
+use Rattle.std.proofs.lemmas.Bool.{eqb-true, ne_eqb, lt-ltb, le-leb, leb-true}
 use Rattle.std.proofs.lemmas.List.{take_more}
 use Rattle.lp_meaning.specs.Script.{numeral}
 use Rattle.lp_script.specs.Reading.{is_digit, is_empty, is_numeral, value_from, number_named, is_between, reaches, begins_between, is_front, is_one_of, begins_any, before, stopped, found}
 use Rattle.lp_script.specs.Items.{count_at, between_at}
-use Rattle.lp_script.specs.declared.stop.Stop.{Stop}
-use Rattle.lp_script.specs.declared.stop.Stop.TheVariants.{Short, Wrong}
+use Rattle.lp_script.specs.declared.stop.Stop.TheVariants.{Wrong}
 use Rattle.lp_script.proofs.Exact.{ok_is}
 use Rattle.lp_script.proofs.Numerals.{decimal-numeral}
 use Rattle.lp_script.proofs.Numbers.{both, joins, value_from-append, named_is}
@@ -40,6 +39,7 @@ no_between low high n (inr lt) = ap (λ (s : Bool). leb low n && s) (lt-leb n hi
         yes : (s : Bool) → leb m n ≡ s → leb m n ≡ false
         yes true e = let le : m ≤ n = leb-true m n e in absurd (omega arith)
         yes false e = e
+
     and_false : (s : Bool) → (s && false) ≡ false
     and_false true = refl
     and_false false = refl
@@ -72,9 +72,9 @@ begins_above low high v w t b some e f pos lt none =
     let z : eqb (value_from 0 w) 0 ≡ false = ne_eqb _ 0 (λ g. pos (omega (arith, f, g))) in
     let above : high < value_from 0 w = omega (arith, f) in
     none ∙ sym (ap (λ (s : Bool). s || (is_numeral w && cond (eqb (value_from 0 w) 0) (eqb low 0) (reaches 20 low high (value_from 0 w) (value_from 0 w + 1)))) some
-        ∙ ap (λ (s : Bool). s && cond (eqb (value_from 0 w) 0) (eqb low 0) (reaches 20 low high (value_from 0 w) (value_from 0 w + 1))) e
-        ∙ ap (λ (s : Bool). cond s (eqb low 0) (reaches 20 low high (value_from 0 w) (value_from 0 w + 1))) z
-        ∙ ap (λ (s : Bool). cond s false (cond (ltb low (value_from 0 w + 1)) true (reaches 19 low high (10 * value_from 0 w) (10 * (value_from 0 w + 1))))) (lt-ltb high _ above))
+    ∙ ap (λ (s : Bool). s && cond (eqb (value_from 0 w) 0) (eqb low 0) (reaches 20 low high (value_from 0 w) (value_from 0 w + 1))) e
+    ∙ ap (λ (s : Bool). cond s (eqb low 0) (reaches 20 low high (value_from 0 w) (value_from 0 w + 1))) z
+    ∙ ap (λ (s : Bool). cond s false (cond (ltb low (value_from 0 w + 1)) true (reaches 19 low high (10 * value_from 0 w) (10 * (value_from 0 w + 1))))) (lt-ltb high _ above))
 
 pub empty_is : (w : List ℕ) (s : Bool) → s ≡ eqb (length w) 0 → s ≡ false → is_empty w ≡ false
 empty_is [] s e f = let g : true ≡ false = sym e ∙ f in absurd cc
@@ -138,13 +138,16 @@ between_most low high end bs k rest e = one (eqb (before end bs) (length bs)) e
   where
     word : List ℕ
     word = take (before end bs) bs
+
     two : (o : Option ℕ) → number_named (is_between low high) (take (before end bs) bs) ≡ o → found o (drop (before end bs + 1) bs) ≡ Ok (k, rest) → k ≤ high
     two None is e = absurd cc
     two (Some n) is e = let g = ok_is (n, drop (before end bs + 1) bs) (k, rest) e in let same : n ≡ k = ap (λ (q : ℕ × List ℕ). q.0) g in
         let h = named_is (is_between low high) (take (before end bs) bs) n is in let b = both (leb low n) (leb n high) h.0 in let le : n ≤ high = leb-true n high b.1 in omega (arith, le, same)
+
     none : (t : Bool) → stopped t ≡ Ok (k, rest) → k ≤ high
     none true e = absurd cc
     none false e = absurd cc
+
     one : (s : Bool) → cond s (stopped (begins_between low high bs)) (found (number_named (is_between low high) (take (before end bs) bs)) (drop (before end bs + 1) bs)) ≡ Ok (k, rest) → k ≤ high
     one true e = none (begins_between low high bs) e
     one false e = two (number_named (is_between low high) (take (before end bs) bs)) refl e

@@ -1,9 +1,9 @@
 -- Numbers as words.
-use Rattle.std.proofs.Common.{◌≡◌, ap, sym, refl, ◌∙◌, subst, ℕ, zero, suc, ◌+◌, ◌-◌, ◌*◌, ◌/◌, ◌%◌, ◌^◌, ◌<◌, ◌≤◌, min, max, Bool, true, false, cond, eqb, leb, ltb, not, ◌&&◌, ◌||◌, List, [], ◌∷◌, ◌++◌, Option, Some, None, length, arith, append_assoc, ◌⊎◌, inl, inr}
+use Rattle.std.proofs.Common.{◌≡◌, ap, sym, refl, ◌∙◌, subst, ℕ, zero, suc, ◌+◌, ◌-◌, ◌*◌, ◌/◌, ◌%◌, ◌<◌, ◌≤◌, max, Bool, true, false, cond, eqb, leb, ltb, not, ◌&&◌, ◌||◌, List, [], ◌∷◌, ◌++◌, Some, None, length, arith, append_assoc, inl, inr}
 use Rattle.std.specs.List.{list_all, list_any}
-use Rattle.std.proofs.lemmas.Bool.{cases_lt, eqb-true, ne_eqb, lt-ltb, le-ltb, le-leb, leb-true}
+use Rattle.std.proofs.lemmas.Bool.{cases_lt, eqb-true, lt-ltb, le-ltb, le-leb, leb-true}
 use Rattle.std.proofs.Math.Nat.{mul-le-mul_right, mul-le-mul_left}
-use Rattle.std.proofs.lemmas.List.{append-nil, length-append}
+use Rattle.std.proofs.lemmas.List.{append-nil}
 use Rattle.lp_meaning.specs.Script.{numeral}
 use Rattle.lp_script.specs.Reading.{is_digit, is_empty, is_numeral, value_from, number_named, is_between, reaches, begins_between, begins_any, is_one_of, is_front, begins_one_of}
 use Rattle.lp_script.proofs.Numerals.{numeral_digit, numeral_step}
@@ -18,7 +18,7 @@ steps P one more n = go n n (omega arith)
     go (suc f) n le = elim (cases_lt n 10) as (λ _. P n (numeral n)) [
       | inl lt ↦ subst (P n) (sym (numeral_digit n lt)) (one n lt)
       | inr ge ↦ subst (P n) (sym (numeral_step n ge)) (more n (numeral (n / 10)) ge (go f (n / 10) (omega arith)))
-      ]
+    ]
 
 -- tests on a list that is joined
 all_digits-append : (a b : List ℕ) → list_all is_digit a ≡ true → list_all is_digit b ≡ true → list_all is_digit (a ++ b) ≡ true
@@ -106,7 +106,7 @@ numeral_value (b ∷ t) e =
     rest (c ∷ t) d z low high one = elim (cases_lt 48 b) as (λ _. numeral (value_from (b - 48) (c ∷ t)) ≡ b ∷ c ∷ t) [
       | inl lt ↦ grow (b - 48) (c ∷ t) (omega arith) d ∙ ap (λ (xs : List ℕ). xs ++ c ∷ t) one
       | inr ge ↦ let same : b ≡ 48 = omega arith in let f : false ≡ true = sym (ap (λ (s : Bool). not s || false) (eqb-of same)) ∙ z in absurd cc
-      ]
+    ]
 
 -- a front of a numeral, which has something, is one
 pub numeral_front : (n : ℕ) (b : ℕ) (w others : List ℕ) → numeral n ≡ (b ∷ w) ++ others → is_numeral (b ∷ w) ≡ true
@@ -145,6 +145,7 @@ named_is allowed w n e = one (is_numeral w) refl e
     two : (t : Bool) → allowed (value_from 0 w) ≡ t → is_numeral w ≡ true → cond t (Some (value_from 0 w)) None ≡ Some n → (allowed n ≡ true) × (numeral n ≡ w)
     two true f g e = let same : value_from 0 w ≡ n = cc in (sym (ap allowed same) ∙ f, ap numeral (sym same) ∙ numeral_value w g)
     two false f g e = absurd cc
+
     one : (s : Bool) → is_numeral w ≡ s → cond (s && allowed (value_from 0 w)) (Some (value_from 0 w)) None ≡ Some n → (allowed n ≡ true) × (numeral n ≡ w)
     one true f e = two (allowed (value_from 0 w)) refl f e
     one false f e = absurd cc
@@ -168,6 +169,7 @@ any_words end other = record {
     begins_is : (w : List ℕ) → begins_any w ≡ true → (n : ℕ) × Unit {0} × (others : List ℕ) × (numeral n ≡ w ++ others)
     begins_is [] e = (0, tt, numeral 0, refl)
     begins_is (b ∷ w) e = (value_from 0 (b ∷ w), tt, [], numeral_value (b ∷ w) e ∙ sym (append-nil (b ∷ w)))
+
     begins_again : (n : ℕ) (w others : List ℕ) → Unit {0} → numeral n ≡ w ++ others → begins_any w ≡ true
     begins_again n [] others f e = refl
     begins_again n (b ∷ w) others f e = numeral_front n b w others e
@@ -210,9 +212,11 @@ unfolding tens
 more_from zero v n low high = ([], refl, omega arith)
 more_from (suc j) v n low high =
     let p : tens (suc j) ≡ 10 * tens j = refl in
-    let h = more_from j v (n / 10) (omega (arith, p)) (omega (arith, p)) in
-    (h.0 ++ (48 + n % 10) ∷ [], all_digits-append h.0 ((48 + n % 10) ∷ []) h.1 (joins _ _ (digit (n % 10) (omega arith)) refl),
-     value_from-append v h.0 ((48 + n % 10) ∷ []) ∙ ap (λ (m : ℕ). 10 * m + (48 + n % 10 - 48)) h.2 ∙ omega arith)
+    let h = more_from j v (n / 10) (omega (arith, p)) (omega (arith, p)) in (
+      h.0 ++ (48 + n % 10) ∷ [],
+      all_digits-append h.0 ((48 + n % 10) ∷ []) h.1 (joins _ _ (digit (n % 10) (omega arith)) refl),
+      value_from-append v h.0 ((48 + n % 10) ∷ []) ∙ ap (λ (m : ℕ). 10 * m + (48 + n % 10 - 48)) h.2 ∙ omega arith,
+    )
 
 reaches_is : (f low high from to : ℕ) → reaches f low high from to ≡ true → (j : ℕ) × (from * tens j ≤ high) × (low < to * tens j)
 unfolding reaches tens
@@ -225,8 +229,8 @@ reaches_is (suc f) low high from to e = elim (cases_lt high from) [
         let k = sym (ap (λ (s : Bool). cond s false (cond (ltb low to) true (reaches f low high (10 * from) (10 * to)))) (le-ltb high from le) ∙ ap (λ (s : Bool). cond s true (reaches f low high (10 * from) (10 * to))) (le-ltb low to ge)) ∙ e in
         let h = reaches_is f low high (10 * from) (10 * to) k in
         (suc h.0, omega (arith, h.1), omega (arith, h.2))
-    ]
   ]
+]
 
 reaches_again : (f low high from to j : ℕ) → j < f → from * tens j ≤ high → low < to * tens j → reaches f low high from to ≡ true
 unfolding reaches tens
@@ -238,7 +242,7 @@ reaches_again (suc f) low high from to j lt le above =
     ∙ elim (cases_lt low to) as (λ _. cond (ltb low to) true (reaches f low high (10 * from) (10 * to)) ≡ true) [
       | inl l ↦ ap (λ (s : Bool). cond s true (reaches f low high (10 * from) (10 * to))) (lt-ltb low to l)
       | inr ge ↦ ap (λ (s : Bool). cond s true (reaches f low high (10 * from) (10 * to))) (le-ltb low to ge) ∙ later j lt le above ge (λ i. reaches_again f low high (10 * from) (10 * to) i)
-      ]
+    ]
   where
     later : (j : ℕ) → j < suc f → from * tens j ≤ high → low < to * tens j → to ≤ low → ((i : ℕ) → i < f → (10 * from) * tens i ≤ high → low < (10 * to) * tens i → reaches f low high (10 * from) (10 * to) ≡ true) → reaches f low high (10 * from) (10 * to) ≡ true
     later zero lt le above ge h = absurd (omega arith)
@@ -250,7 +254,7 @@ unfolding tens
 few_digits k n le lt = elim (cases_lt k 20) as (λ _. k < 20) [
   | inl l ↦ l
   | inr ge ↦ let m : 100000000000000000000 ≤ tens k = subst (λ (i : ℕ). 100000000000000000000 ≤ tens i) (let s : (k - 20) + 20 ≡ k = omega arith in s) (tens_mono (k - 20) 20) in absurd (omega (arith, m))
-  ]
+]
 
 -- a number between two numbers
 pub between_words : (low high end : ℕ) → low ≤ high → high < 100000000000000000000 → is_digit end ≡ false
@@ -266,6 +270,7 @@ between_words low high end some small other = record {
   where
     inside : (n : ℕ) → low ≤ n → n ≤ high → is_between low high n ≡ true
     inside n a b = joins _ _ (le-leb low n a) (le-leb n high b)
+
     zero_or : (w : List ℕ) (s : Bool) → is_numeral w ≡ true → eqb (value_from 0 w) 0 ≡ s → cond s (eqb low 0) (reaches 20 low high (value_from 0 w) (value_from 0 w + 1)) ≡ true
         → (n : ℕ) × (is_between low high n ≡ true) × (others : List ℕ) × (numeral n ≡ w ++ others)
     zero_or w true is z e =
@@ -285,11 +290,13 @@ between_words low high end some small other = record {
         not_zero : (v : ℕ) → eqb v 0 ≡ false → 0 < v
         not_zero zero z = let f : true ≡ false = z in absurd cc
         not_zero (suc v) z = omega arith
+
     begins_is : (w : List ℕ) → begins_between low high w ≡ true → (n : ℕ) × (is_between low high n ≡ true) × (others : List ℕ) × (numeral n ≡ w ++ others)
     begins_is [] e = (low, inside low (omega arith) some, numeral low, refl)
     begins_is (b ∷ w) e =
         let h = both (is_numeral (b ∷ w)) (cond (eqb (value_from 0 (b ∷ w)) 0) (eqb low 0) (reaches 20 low high (value_from 0 (b ∷ w)) (value_from 0 (b ∷ w) + 1))) e in
         zero_or (b ∷ w) (eqb (value_from 0 (b ∷ w)) 0) h.0 refl h.1
+
     begins_again : (n : ℕ) (w others : List ℕ) → is_between low high n ≡ true → numeral n ≡ w ++ others → begins_between low high w ≡ true
     begins_again n [] others f e = refl
     begins_again n (b ∷ w) others f e =
@@ -301,6 +308,7 @@ between_words low high end some small other = record {
       where
         v : ℕ
         v = value_from 0 (b ∷ w)
+
         cases : (s : Bool) → eqb (value_from 0 (b ∷ w)) 0 ≡ s → is_numeral (b ∷ w) ≡ true → low ≤ n → n ≤ high → cond s (eqb low 0) (reaches 20 low high (value_from 0 (b ∷ w)) (value_from 0 (b ∷ w) + 1)) ≡ true
         cases true z is a c =
             let v0 : value_from 0 (b ∷ w) ≡ 0 = eqb-true _ _ z in

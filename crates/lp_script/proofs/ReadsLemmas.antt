@@ -1,5 +1,5 @@
 -- What a reader of one item answers.
-use Rattle.std.proofs.Common.{◌≡◌, ap, sym, refl, ◌∙◌, ℕ, ◌<◌, List, [], ◌∷◌, ◌++◌, Result, Ok, Err, length, arith, append_assoc}
+use Rattle.std.proofs.Common.{◌≡◌, ap, sym, ◌∙◌, ℕ, List, [], ◌++◌, Result, Ok, Err, length, arith, append_assoc}
 use Rattle.std.specs.Borrow.{Bor}
 use Rattle.std.proofs.lemmas.List.{append-nil, length-append}
 use Rattle.lp_meaning.specs.declared.item.Item.{Item}
@@ -10,7 +10,7 @@ use Rattle.lp_script.specs.declared.stop.ReadError.TheVariants as errors
 use Rattle.lp_script.specs.Reading.{Gives}
 use Rattle.lp_script.specs.Items.{item_at}
 use Rattle.lp_script.specs.Reads.{ReadsItem}
-use Rattle.lp_script.proofs.Exact.{Exact, cancel}
+use Rattle.lp_script.proofs.Exact.{cancel}
 use Rattle.lp_script.proofs.Sorts.{item_exact}
 
 -- what is begun is no whole item: no spelling is a front of another
@@ -28,9 +28,10 @@ reads_item c bytes (Err (errors.Stop Short)) e =
     let s = (item_exact c).short bytes e in
     let b : IsBegun c bytes = record { item = s.value; fits = s.fit; others = s.others; some = s.some; spelled = s.spelled } in
     (b, begun_only c bytes b)
-reads_item c bytes (Err (errors.Stop Wrong)) e =
-    (λ s. (item_exact c).wrong bytes e s.item [] s.others s.fits (append-nil (spelling s.item) ∙ s.spelled),
-     λ x b. (item_exact c).wrong bytes e x b.others [] b.fits (sym b.spelled ∙ sym (append-nil bytes)))
+reads_item c bytes (Err (errors.Stop Wrong)) e = (
+  λ s. (item_exact c).wrong bytes e s.item [] s.others s.fits (append-nil (spelling s.item) ∙ s.spelled),
+  λ x b. (item_exact c).wrong bytes e x b.others [] b.fits (sym b.spelled ∙ sym (append-nil bytes)),
+)
 
 pub one_spelling_lem : (c : Context) (x y : Item) (a b : List ℕ) → Fits c x → Fits c y → spelling x ++ a ≡ spelling y ++ b → x ≡ y
 one_spelling_lem c x y a b f g e = (item_exact c).free x y a b f g e

@@ -1,27 +1,24 @@
 -- Each kind of item is read exactly.
-use Rattle.std.proofs.Common.{◌≡◌, ap, sym, refl, ◌∙◌, subst, ℕ, zero, suc, ◌+◌, ◌<◌, ◌≤◌, Bool, true, false, cond, eqb, leb, ltb, not, ◌&&◌, ◌||◌, List, [], ◌∷◌, ◌++◌, Option, Some, None, Result, Ok, Err, length, codes, arith, append_assoc, ◌⊎◌, inl, inr}
-use Rattle.std.specs.List.{list_all, list_any, AllPass, Contains}
-use Rattle.std.specs.Ordering.{nat_cmp, is_lt}
+use Rattle.std.proofs.Common.{◌≡◌, ap, sym, refl, ◌∙◌, subst, ℕ, ◌+◌, ◌<◌, ◌≤◌, Bool, true, false, cond, eqb, leb, ltb, ◌||◌, List, [], ◌∷◌, ◌++◌, length, codes, arith, append_assoc, ◌⊎◌, inl, inr}
+use Rattle.std.specs.List.{list_all, list_any, Contains}
+use Rattle.std.specs.Ordering.{nat_cmp}
 use Rattle.std.specs.Cmp.{nat_eq_equiv}
 use Rattle.std.specs.Cmp.Lexicographic.{slice_cmp}
-use Rattle.std.specs.declared.cmp.Ordering.{Ordering}
 use Rattle.std.specs.declared.cmp.Ordering.TheVariants.{Less}
-use Rattle.std.proofs.lemmas.Bool.{cases_lt, eqb-true, ltb-true, ltb-false, lt-ltb, le-ltb, le-leb, leb-true}
-use Rattle.std.proofs.lemmas.List.{append-nil, length-append}
+use Rattle.std.proofs.lemmas.Bool.{eqb-true, ltb-true, ltb-false, le-leb, leb-true}
 use Rattle.std.proofs.lemmas.List.Sums.{AllPass-from_list_all, list_all-from_AllPass}
 use Rattle.std.proofs.lemmas.Map.Views.{Contains-from_any, list_any-from_Contains}
-use Rattle.lp_meaning.specs.declared.event.Event.{Event}
 use Rattle.lp_meaning.specs.declared.event.Event.TheVariants.{Connect, Line, Gone, Tick, Reload, Swap}
 use Rattle.lp_meaning.specs.declared.item.Item.{Item}
 use Rattle.lp_meaning.specs.declared.item.Item.TheVariants as items
-use Rattle.lp_meaning.specs.Script.{numeral, counted, event_spelling, spelling, IsPath, IsObjectName, path_of, is_line_byte, Context, Stage, Beginning, Filing, Running, Over, Fits, FitsEvent}
-use Rattle.lp_words.specs.Paths.{is_path, begins_path, is_name, begins_name}
-use Rattle.lp_script.specs.Reading.{is_digit, is_empty, is_between, is_one_of, passes, pair_at, after, made, either, nothing, none_at}
-use Rattle.lp_script.specs.Items.{last_moment, last_seed, last_number, longest_line, between_at, one_of_at, path_at, name_at, file_bytes_at, line_bytes_at, head_at, file_at, start_at, connect_at, line_at, gone_at, tick_at, reload_at, swap_at, end_at, running_at, stage_at, item_at}
-use Rattle.lp_script.proofs.Exact.{Exact, Begun, after_exact, made_exact, pair_exact, either_exact, same_fits, nothing_exact, none_exact, eqb-same}
+use Rattle.lp_meaning.specs.Script.{numeral, event_spelling, spelling, IsPath, IsObjectName, path_of, is_line_byte, Context, Stage, Beginning, Filing, Running, Over, Fits}
+use Rattle.lp_words.specs.Paths.{begins_path}
+use Rattle.lp_script.specs.Reading.{is_between, is_one_of, passes, pair_at, after, made, either, none_at}
+use Rattle.lp_script.specs.Items.{last_moment, last_seed, last_number, between_at, path_at, file_bytes_at, head_at, file_at, start_at, connect_at, line_at, gone_at, tick_at, reload_at, swap_at, end_at, running_at, stage_at, item_at}
+use Rattle.lp_script.proofs.Exact.{Exact, after_exact, made_exact, pair_exact, either_exact, same_fits, nothing_exact, none_exact, eqb-same}
 use Rattle.lp_script.proofs.Numbers.{both, joins}
 use Rattle.lp_words.proofs.PathLaws.{begins_path-yes, begins_path-no}
-use Rattle.lp_script.proofs.Fields.{between_exact, one_of_exact, path_exact, name_exact, file_bytes_exact, line_bytes_exact, yes_no, some_path, some_name}
+use Rattle.lp_script.proofs.Fields.{between_exact, one_of_exact, path_exact, name_exact, file_bytes_exact, line_bytes_exact, some_path, some_name}
 
 -- what each kind of item has
 abbrev IsHead : Item → Type 0
@@ -66,7 +63,7 @@ file_exact last = one (begins_path last []) refl
     one : (b : Bool) → begins_path last [] ≡ b → Exact Item (IsFile last) spelling (λ bs. cond b (made (λ p. items.File p.0 p.1) (after (codes "file ") (pair_at (path_at last) file_bytes_at)) bs) (none_at bs))
     one true e = let s = begins_path-yes last [] e in
         made_exact _ _ _ _ (after_exact _ _ _ _ (pair_exact _ _ _ _ (path_exact last) _ _ _ _ file_bytes_exact [] (refl, refl)) (codes "file ") (s.0, []) ((s.1, s.2), (refl, refl))) Item (λ p. items.File p.0 p.1) spelling
-            (λ p f. ap (λ (r : List ℕ). codes "file " ++ r) refl)
+        (λ p f. ap (λ (r : List ℕ). codes "file " ++ r) refl)
     one false e = none_exact Item (IsFile last) spelling (λ w f. begins_path-no last [] e f.0.0 f.0.0 f.1.0.0 f.1.0.1 refl)
 
 start_exact : Exact Item IsStart spelling start_at
@@ -84,7 +81,7 @@ connect_exact highest = one (ltb highest last_number) refl
     one : (b : Bool) → ltb highest last_number ≡ b → Exact Item (IsConnect highest) spelling (λ bs. cond b (made (λ k. items.Event (Connect k)) (after (codes "connect ") (between_at (highest + 1) last_number 10)) bs) (none_at bs))
     one true e = let lt : highest < last_number = ltb-true _ _ e in
         made_exact _ _ _ _ (after_exact _ _ _ _ (between_exact (highest + 1) last_number 10 (omega arith) (omega arith) refl) (codes "connect ") last_number (joins _ _ (le-leb _ _ (omega arith)) (le-leb last_number last_number (omega arith)))) Item (λ k. items.Event (Connect k)) spelling
-            (λ k f. refl)
+        (λ k f. refl)
     one false e = none_exact Item (IsConnect highest) spelling (λ w f. let g = both (leb (highest + 1) f.0) (leb f.0 last_number) f.1 in let a : highest + 1 ≤ f.0 = leb-true _ _ g.0 in let b : f.0 ≤ last_number = leb-true _ _ g.1 in let c : last_number ≤ highest = ltb-false _ _ e in absurd (omega arith))
 
 line_exact : (connected : List ℕ) → Exact Item (IsLine connected) spelling (line_at connected)
@@ -92,7 +89,7 @@ unfolding line_at spelling event_spelling
 line_exact [] = none_exact Item (IsLine []) spelling (λ w f. let g : false ≡ true = f.1.0 in absurd cc)
 line_exact (k ∷ ks) =
     made_exact _ _ _ _ (after_exact _ _ _ _ (pair_exact _ _ _ _ (one_of_exact (k ∷ ks) 32 refl) _ _ _ _ line_bytes_exact [] (refl, refl)) (codes "line ") (k, []) (ap (λ (b : Bool). b || list_any (eqb k) ks) (eqb-same k), (refl, refl))) Item (λ p. items.Event (Line p.0 p.1)) spelling
-        (λ p f. refl)
+    (λ p f. refl)
 
 gone_exact : (connected : List ℕ) → Exact Item (IsGone connected) spelling (gone_at connected)
 unfolding gone_at spelling event_spelling
@@ -120,14 +117,19 @@ swap_exact = made_exact _ _ _ _ (after_exact _ _ _ _ name_exact (codes "swap ") 
 
 abbrev Is1 : Context → Item → Type 0
 Is1 c w = IsEnd w ⊎ IsConnect c.highest w
+
 abbrev Is2 : Context → Item → Type 0
 Is2 c w = IsGone c.connected w ⊎ Is1 c w
+
 abbrev Is3 : Context → Item → Type 0
 Is3 c w = IsLine c.connected w ⊎ Is2 c w
+
 abbrev Is4 : Context → Item → Type 0
 Is4 c w = IsReload w ⊎ Is3 c w
+
 abbrev Is5 : Context → Item → Type 0
 Is5 c w = IsSwap w ⊎ Is4 c w
+
 abbrev Is6 : Context → Item → Type 0
 Is6 c w = IsTick c.moment w ⊎ Is5 c w
 

@@ -1,5 +1,4 @@
 -- What stands before an item, in the words of the definition.
-use Rattle.std.specs.Prelude.{List, ℕ}
 use Rattle.lp_meaning.specs.Script.{Context}
 use Rattle.lp_meaning.specs.Script as script
 use Rattle.lp_script.specs.declared.before.Before.{Before}

@@ -1,6 +1,6 @@
 -- Reading the items that may stand at a place.
 use Rattle.std.specs.Borrow.{Bor}
-use Rattle.std.specs.Prelude.{◌≡◌, ◌-◌, ◌^◌, min, Ok, Err, ℕ, ◌+◌, List, [], Bool, true, false, ◌&&◌, nat_le, nat_lt, Option, Some, None, Result, if◌then◌else◌, codes}
+use Rattle.std.specs.Prelude.{◌≡◌, ◌-◌, ◌^◌, min, Ok, Err, ℕ, ◌+◌, List, [], true, false, ◌&&◌, nat_le, nat_lt, Option, Some, None, Result, if◌then◌else◌, codes}
 use Rattle.std.specs.Ordering.{nat_cmp, is_lt}
 use Rattle.std.specs.Cmp.Lexicographic.{slice_cmp}
 use Rattle.lp_meaning.specs.declared.event.Event.TheVariants.{Connect, Line, Gone, Tick, Reload, Swap}

@@ -21,7 +21,13 @@ pub enum Refusal {
 
 /// The item that stands at `cut`, and where it ends. The bytes are the `whole` input, or as many as
 /// a script may have, where the input goes on behind them.
-pub fn item_behind(alloc: Global, before: &Before, bytes: &[u8], whole: bool, cut: usize) -> Result<(Item, usize), Refusal>
+pub fn item_behind(
+    alloc: Global,
+    before: &Before,
+    bytes: &[u8],
+    whole: bool,
+    cut: usize,
+) -> Result<(Item, usize), Refusal>
     requires { cut ≤ length bytes.now }
     ensures { Behind (context_of before.now) bytes.now whole cut result }
 {

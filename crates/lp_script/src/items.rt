@@ -12,18 +12,17 @@ ghost use Rattle.lp_script.specs.Items.{between_at as between_at_lem, count_at a
 use crate::before::{Before, Stage};
 use crate::connections::Connections;
 use crate::number::{begins_any, begins_between, is_numeral, number_between, value};
-use lp_words::path::{begins_name, begins_path, is_above, is_name, is_path};
 use crate::stop::{ReadError, Stop};
 use crate::word::{bytes_at, split_word, text_at};
 use lp_meaning::event::Event;
 use lp_meaning::item::Item;
 use lp_meaning::octets::{ObjectName, Octets};
 use lp_tree::path::FilePath;
+use lp_words::path::{begins_name, begins_path, is_above, is_name, is_path};
 use std::alloc::{AllocError, Global};
 
 /// The most seconds of a moment.
 pub(crate) const LAST_MOMENT: u64 = 1_000_000_000_000;
-
 
 #[tactic(auto, unfolding(crate::specs::Items::between_at))]
 fn between_at(low: u64, high: u64, end: u8, bytes: &[u8]) -> Result<(u64, &[u8]), ReadError>
@@ -75,7 +74,11 @@ fn line_bytes_at(alloc: Global, bytes: &[u8]) -> Result<(Octets, &[u8]), ReadErr
 
 // A connection that is not gone.
 #[tactic(auto, unfolding(crate::specs::Items::one_of_at))]
-fn connection_at<'a>(connections: &Connections, end: u8, bytes: &'a [u8]) -> Result<(u32, &'a [u8]), ReadError>
+fn connection_at<'a>(
+    connections: &Connections,
+    end: u8,
+    bytes: &'a [u8],
+) -> Result<(u32, &'a [u8]), ReadError>
     ensures { Gives (λ x. (x.0, x.1.now)) result (one_of_at_lem connections.now end bytes.now) }
 {
     match split_word(end, bytes) {
@@ -127,7 +130,11 @@ fn connect_at(highest: u32, bytes: &[u8]) -> Result<(Item, &[u8]), ReadError>
 }
 
 #[tactic(auto, unfolding(crate::specs::Items::line_at))]
-fn line_at<'a>(alloc: Global, connections: &Connections, bytes: &'a [u8]) -> Result<(Item, &'a [u8]), ReadError>
+fn line_at<'a>(
+    alloc: Global,
+    connections: &Connections,
+    bytes: &'a [u8],
+) -> Result<(Item, &'a [u8]), ReadError>
     ensures { Gives (λ x. (x.0, x.1.now)) result (line_at_lem connections.now bytes.now) }
 {
     if connections.is_empty() {
@@ -248,7 +255,11 @@ fn swap_at(alloc: Global, bytes: &[u8]) -> Result<(Item, &[u8]), ReadError>
 
 // An event that may stand here, or the end of a script.
 #[tactic(auto, unfolding(crate::specs::Items::running_at))]
-fn running_at<'a>(alloc: Global, before: &Before, bytes: &'a [u8]) -> Result<(Item, &'a [u8]), ReadError>
+fn running_at<'a>(
+    alloc: Global,
+    before: &Before,
+    bytes: &'a [u8],
+) -> Result<(Item, &'a [u8]), ReadError>
     ensures { Gives (λ x. (x.0, x.1.now)) result (running_at_lem (context_of before.now) bytes.now) }
 {
     match bytes {
@@ -265,7 +276,11 @@ fn running_at<'a>(alloc: Global, before: &Before, bytes: &'a [u8]) -> Result<(It
 
 // An item that may stand here.
 #[tactic(auto, unfolding(crate::specs::Items::item_at, crate::specs::Items::stage_at))]
-fn item_at<'a>(alloc: Global, before: &Before, bytes: &'a [u8]) -> Result<(Item, &'a [u8]), ReadError>
+fn item_at<'a>(
+    alloc: Global,
+    before: &Before,
+    bytes: &'a [u8],
+) -> Result<(Item, &'a [u8]), ReadError>
     ensures { Gives (λ x. (x.0, x.1.now)) result (item_at_lem (context_of before.now) bytes.now) }
 {
     match before.stage {
@@ -286,7 +301,11 @@ fn item_at<'a>(alloc: Global, before: &Before, bytes: &'a [u8]) -> Result<(Item,
 /// - `Wrong`: no item that may stand there begins so.
 /// - `NoMemory`: there is no memory for the item.
 #[tactic(auto, using(crate::proofs::ReadsLemmas::reads_item))]
-pub fn read_item<'a>(alloc: Global, before: &Before, bytes: &'a [u8]) -> Result<(Item, &'a [u8]), ReadError>
+pub fn read_item<'a>(
+    alloc: Global,
+    before: &Before,
+    bytes: &'a [u8],
+) -> Result<(Item, &'a [u8]), ReadError>
     ensures { ReadsItem (context_of before.now) bytes.now result }
 {
     item_at(alloc, before, bytes)
@@ -297,5 +316,4 @@ pub fn read_item<'a>(alloc: Global, before: &Before, bytes: &'a [u8]) -> Result<
 #[tactic(auto, using(crate::proofs::ReadsLemmas::one_spelling_lem))]
 pub fn one_spelling()
     ensures { (c : Context) (x y : I) (a b : List ℕ) → Fits c x → Fits c y → spelling x ++ a ≡ spelling y ++ b → x ≡ y }
-{
-}
+{}

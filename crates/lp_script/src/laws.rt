@@ -13,8 +13,7 @@ pub fn refusals()
         → Behind c (take longest_input taken) (nat_le (length taken) longest_input) cut (Err (Bad at)) → IsBadScript bytes xs at }
     ensures large { (bytes taken : List ℕ) (xs : List I) (cut : ℕ) (c : Context) → Stands longest_input bytes taken xs cut c
         → Behind c (take longest_input taken) (nat_le (length taken) longest_input) cut (Err Large) → IsTooLarge bytes xs }
-{
-}
+{}
 
 /// One more item, and where it is the last one.
 pub fn more_items()
@@ -26,5 +25,4 @@ pub fn more_items()
         → n ≡ length (take longest_input taken) → nat_le (length taken) longest_input ≡ false → IsTooLarge bytes (xs ++ the_end ∷ []) }
     ensures bad { (bytes taken : List ℕ) (xs : List I) (n : ℕ) (c : Context) → Stands longest_input bytes taken (xs ++ the_end ∷ []) n (after_item c the_end)
         → n < length (take longest_input taken) → IsBadScript bytes (xs ++ the_end ∷ []) n }
-{
-}
+{}

@@ -18,9 +18,7 @@ pub(crate) fn is_numeral(word: &[u8]) -> bool
 {
     match word {
         [] => false,
-        [first, rest @ ..] => {
-            all_digits(word) && (*first != 48 || rest.is_empty())
-        }
+        [first, rest @ ..] => { all_digits(word) && (*first != 48 || rest.is_empty()) }
     }
 }
 
@@ -30,7 +28,9 @@ pub(crate) fn value(word: &[u8]) -> u128
 {
     let mut value: u128 = 0;
     for b in word {
-        value = value.saturating_mul(10).saturating_add(u128::from(b.saturating_sub(48)));
+        value = value
+            .saturating_mul(10)
+            .saturating_add(u128::from(b.saturating_sub(48)));
     }
     value
 }

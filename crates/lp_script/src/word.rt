@@ -7,7 +7,6 @@ use crate::stop::{ReadError, Stop};
 use lp_meaning::octets::Octets;
 use std::alloc::Global;
 
-
 /// The text, and what is behind it.
 #[tactic(auto, unfolding(crate::specs::Reading::text_at))]
 pub(crate) fn text_at<'a>(text: &[u8], bytes: &'a [u8]) -> Result<&'a [u8], ReadError>
@@ -55,11 +54,20 @@ fn all_pass(line: bool, bytes: &[u8]) -> bool
 
 /// So many bytes and a newline, where a number past the most of its type stands for any above it.
 #[tactic(auto, unfolding(crate::specs::Reading::bytes_at))]
-pub(crate) fn bytes_at(alloc: Global, line: bool, n: u128, bytes: &[u8]) -> Result<(Octets, &[u8]), ReadError>
+pub(crate) fn bytes_at(
+    alloc: Global,
+    line: bool,
+    n: u128,
+    bytes: &[u8],
+) -> Result<(Octets, &[u8]), ReadError>
     ensures { (m : ℕ) → n ≡ min m (2 ^ 128 - 1) → Gives (λ x. (x.0, x.1.now)) result (bytes_at_lem line m bytes.now) }
 {
     if (bytes.len() as u128) < n {
-        return Err(ReadError::Stop(if all_pass(line, bytes) { Stop::Short } else { Stop::Wrong }));
+        return Err(ReadError::Stop(if all_pass(line, bytes) {
+            Stop::Short
+        } else {
+            Stop::Wrong
+        }));
     }
     let (counted, rest) = bytes.split_at(n as usize);
     if !all_pass(line, counted) {

@@ -1,4 +1,3 @@
-use Rattle.std.proofs.Common.{◌≡◌}
 use Rattle.lp_script.specs.declared.stop.Stop.TheVariants.{Short, Wrong}
 use Rattle.lp_script.specs.Before.{context_of}
 use Rattle.lp_script.proofs.BehindLemmas.{bad_at_end, large_at_end, found_item, wrong_item, short_item, large_item, as_stop}

@@ -1,4 +1,4 @@
-use Rattle.std.proofs.Common.{◌≡◌, ◌≤◌, ◌+◌, arith, refl}
+use Rattle.std.proofs.Common.{arith}
 use Rattle.lp_script.proofs.NumberCode.{between_most}
 use Rattle.lp_script.proofs.items.connect_at.Goals as goal
 

@@ -1,4 +1,4 @@
-use Rattle.std.proofs.Common.{◌≡◌, ◌∙◌, ap, sym, refl}
+use Rattle.std.proofs.Common.{◌∙◌, sym}
 use Rattle.lp_script.specs.Reading.{value_from}
 use Rattle.lp_script.proofs.NumberCode.{count_found, count_wrong}
 use Rattle.lp_script.proofs.items.count_at.Goals as goal

@@ -1,4 +1,4 @@
-use Rattle.std.proofs.Common.{◌≡◌, ◌<◌, ◌∙◌, sym, arith}
+use Rattle.std.proofs.Common.{◌∙◌, sym, arith}
 use Rattle.lp_script.proofs.NumberCode.{begins_above, empty_is, leb-of}
 use Rattle.lp_script.proofs.number.begins_between.Goals as goal
 

@@ -1,4 +1,4 @@
-use Rattle.std.proofs.Common.{◌≡◌, ◌<◌, ◌∙◌, arith}
+use Rattle.std.proofs.Common.{◌∙◌, arith}
 use Rattle.lp_script.proofs.NumberCode.{front_code}
 use Rattle.lp_script.proofs.number.begins_number.Goals as goal
 

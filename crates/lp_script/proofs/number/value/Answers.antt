@@ -1,4 +1,4 @@
-use Rattle.std.proofs.Common.{◌≡◌, ℕ, ◌+◌, ◌-◌, ◌*◌, ◌^◌, min, ap, ◌∙◌, get_or, take}
+use Rattle.std.proofs.Common.{ℕ, ◌+◌, ◌-◌, ◌*◌, ◌^◌, min, ap, ◌∙◌}
 use Rattle.lp_script.proofs.NumberCode.{value_more}
 use Rattle.lp_script.proofs.number.value.Goals as goal
 

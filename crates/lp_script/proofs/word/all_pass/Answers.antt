@@ -1,4 +1,4 @@
-use Rattle.std.proofs.Common.{◌≡◌, ap, sym, ◌∙◌, Bool}
+use Rattle.std.proofs.Common.{ap, sym, ◌∙◌, Bool}
 use Rattle.std.specs.List.{list_all}
 use Rattle.lp_script.specs.Reading.{passes}
 use Rattle.lp_script.proofs.Sorts.{all_pass}

@@ -1,4 +1,4 @@
-use Rattle.std.proofs.Common.{◌≡◌, ◌≤◌, ◌+◌, ◌-◌, ◌∙◌, refl, arith, length, drop, length-drop}
+use Rattle.std.proofs.Common.{◌+◌, refl, arith, drop, length-drop}
 use Rattle.std.proofs.lemmas.List.{take_all}
 use Rattle.lp_script.proofs.Exact.{before-le}
 use Rattle.lp_script.proofs.word.split_word.Goals as goal

@@ -1,4 +1,4 @@
-use Rattle.std.proofs.Common.{◌≡◌, ◌<◌, ◌∙◌, sym, arith}
+use Rattle.std.proofs.Common.{◌∙◌, sym, arith}
 use Rattle.lp_script.proofs.NumberCode.{named_none, one_of_none, one_of_some}
 use Rattle.lp_script.proofs.connections.Connections.named.Goals as goal
 
