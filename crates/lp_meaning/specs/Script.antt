@@ -127,7 +127,7 @@ Fits c items.End = c.stage ≡ Running
 
 -- what stands before the item after an event
 abbrev pub after_event : Context → Event → Context
-after_event c (Connect k) = record c { highest = k; connected = k ∷ c.connected }
+after_event c (Connect k) = record c { highest = k; connected = c.connected ++ k ∷ [] }
 after_event c (Line k bytes) = c
 after_event c (Gone k) = record c { connected = filter (λ j. not (j == k)) c.connected }
 after_event c (Tick moment) = record c { moment = moment }
@@ -183,14 +183,13 @@ pub record IsScript (bytes : List ℕ) (xs : List Item) : Type 0 where
 abbrev pub longest_input : ℕ
 longest_input = 67108864
 
--- The input has more bytes than a script may have, and where the items end there is nothing, or an item is begun.
-abbrev pub IsTooLarge : List ℕ → Type 0
-IsTooLarge bytes = (longest_input < length bytes) × (xs : List Item) × (cut : ℕ) × IsFront (take longest_input bytes) xs cut
-    × ((cut ≡ longest_input) ⊎ IsBegun (after_items beginning xs) (drop cut (take longest_input bytes)))
+-- The input has more bytes than a script may have, and where these items end there is nothing, or an item is begun.
+abbrev pub IsTooLarge : List ℕ → List Item → Type 0
+IsTooLarge bytes xs = (longest_input < length bytes) × (cut : ℕ) × IsFront (take longest_input bytes) xs cut × ((cut ≡ longest_input) ⊎ IsBegun (after_items beginning xs) (drop cut (take longest_input bytes)))
 
 -- The items end here, and neither is the whole a script nor is it too large.
 abbrev pub IsBadScript : List ℕ → List Item → ℕ → Type 0
-IsBadScript bytes xs at = IsFront (take longest_input bytes) xs at × (IsScript bytes xs → ⊥) × (IsTooLarge bytes → ⊥)
+IsBadScript bytes xs at = IsFront (take longest_input bytes) xs at × (IsScript bytes xs → ⊥) × (IsTooLarge bytes xs → ⊥)
 
 -- the seed of the generator
 abbrev pub seed_of : List Item → ℕ

@@ -1,0 +1,13 @@
+pub mod Ascii
+pub mod BehindLemmas
+pub mod BlockLemmas
+pub mod Counted
+pub mod Exact
+pub mod Fields
+pub mod Sorts
+pub mod NumberCode
+pub mod GivenLemmas
+pub mod Numbers
+pub mod Numerals
+pub mod PutLemmas
+pub mod ReadsLemmas

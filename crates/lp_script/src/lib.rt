@@ -1,0 +1,24 @@
+//! Scripts and transcripts as bytes: a reader of items, and writers of items and of outputs.
+#![tactic(auto)]
+
+mod advance;
+pub mod before;
+pub mod behind;
+mod block;
+pub mod connections;
+pub mod items;
+mod laws;
+mod number;
+mod put;
+pub mod stop;
+mod word;
+mod writing;
+
+pub use advance::{before_first, pass_item};
+pub use block::write_outs;
+pub use items::{one_spelling, read_item};
+pub use laws::{more_items, refusals};
+pub use writing::write_item;
+
+#[cfg(test)]
+mod tests;
