@@ -11,3 +11,5 @@ pub mod Numbers
 pub mod Numerals
 pub mod PutLemmas
 pub mod ReadsLemmas
+pub mod ReaderLemmas
+pub mod TakingLemmas

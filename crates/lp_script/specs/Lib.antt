@@ -4,5 +4,7 @@ pub mod Given
 pub mod Items
 pub mod Put
 pub mod Reading
+pub mod Reader
 pub mod Reads
 pub mod Runs
+pub mod Taking

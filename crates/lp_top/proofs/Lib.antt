@@ -1,0 +1,6 @@
+pub mod Texts
+pub mod Reading
+pub mod Filing
+pub mod Going
+pub mod Beginning
+pub mod Completeness

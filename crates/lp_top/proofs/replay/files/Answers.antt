@@ -1,0 +1,40 @@
+use Rattle.std.proofs.Common.{◌∙◌, ◌<◌, ◌≤◌, sym, subst, arith, ◌++◌, ◌∷◌, []}
+use Rattle.std.proofs.Math.Nat.{le_trans}
+use Rattle.lp_meaning.specs.Script.{longest_input}
+use Rattle.lp_script.specs.Reader.{HasGiven}
+use Rattle.lp_top.proofs.Reading.{goes_on, cut_within}
+use Rattle.lp_top.proofs.Filing.{IsFiling, filing-more, filing-ends, end-not-early, end-is, inner-is}
+use Rattle.lp_top.proofs.replay.files.Goals as goal
+
+pub loop-item-smaller : goal.loop-item-smaller
+loop-item-smaller g c =
+    let f = c.loop-item.invariant.files in
+    let v = c.in-Ok.ensures.given f.read f.goes f.given in
+    let more : c.loop-item.reader.cut < c.next_item.new.reader.cut = goes_on c.loop-item.reader c.next_item.new.reader f.read c.in-Ok.item f.given v in
+    let within : c.next_item.new.reader.cut ≤ longest_input = cut_within c.next_item.new.reader _ v in
+    omega arith
+
+pub loop-item-preserved : goal.loop-item-preserved
+loop-item-preserved g c =
+    let f = c.loop-item.invariant.files in
+    let v = c.in-Ok.ensures.given f.read f.goes f.given in
+    let i = inner-is c.in-Ok.item (sym c.is_start.ensures ∙ c.if-is_start.false) (sym c.is_end.ensures ∙ c.if-is_end.false) in
+    record {
+      files = subst (IsFiling c.next_item.new.reader) (sym c.source_after-source.ensures) (filing-more c.loop-item.reader c.next_item.new.reader c.loop-item.source c.in-Ok.item f v c.in-Ok.ensures.yet i c.in-Ok.ensures.phase);
+      reads = λ b h. c.in-Ok.ensures.reads b (c.loop-item.invariant.reads b h);
+      no_fall = le_trans c.loop-item.invariant.no_fall c.in-Ok.ensures.no_fall;
+    }
+
+pub returns-in-Err-clause-end : goal.returns-in-Err-clause-end
+returns-in-Err-clause-end g c = λ b h.
+    let f = c.loop-item.invariant.files in
+    filing-ends b f.read c.in-Err.status f.not_started (c.in-Err.ensures.fault b f.read f.goes f.given f.yet (c.loop-item.invariant.reads b h))
+
+pub returns-then-is_start-clause-reads : goal.returns-then-is_start-clause-reads
+returns-then-is_start-clause-reads g c = λ b h. c.in-Ok.ensures.reads b (c.loop-item.invariant.reads b h)
+
+pub unreachable-requires : goal.unreachable-requires
+unreachable-requires g c =
+    let f = c.loop-item.invariant.files in
+    end-not-early c.next_item.new.reader f.read f.not_started
+    (subst (λ x. HasGiven c.next_item.new.reader (f.read ++ x ∷ [])) (end-is c.in-Ok.item (sym c.is_end.ensures ∙ c.if-is_end.true)) (c.in-Ok.ensures.given f.read f.goes f.given))

@@ -1,0 +1,11 @@
+//! The top call of the driver.
+#![tactic(auto)]
+
+pub mod replay;
+pub mod status;
+#[cfg(test)]
+mod tests;
+pub mod words;
+
+pub use replay::run;
+pub use status::{Faults, Status, code};

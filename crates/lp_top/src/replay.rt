@@ -1,0 +1,309 @@
+//! The command `replay`: reads a script, and writes its transcript.
+ghost use Rattle.std.specs.Prelude.{◌≡◌, ◌≢◌, ℕ, ◌≤◌, List, [], ◌∷◌, ◌++◌, Some, true, false, IfOk, IfErr, OnOk, OnErr, ◌⊎◌, ◌↔◌, length};
+ghost use Rattle.lp_io.specs.Counts.{Counts, Rose};
+ghost use Rattle.lp_meaning.specs.declared.item.Item.{Item as I};
+ghost use Rattle.lp_meaning.specs.declared.item.Item.TheVariants.{End as the_end};
+ghost use Rattle.lp_meaning.specs.Script.{IsScript, longest_input};
+ghost use Rattle.lp_io.specs.Told.{after_adding};
+ghost use Rattle.lp_meaning.specs.Script.{events_of, files_of};
+ghost use Rattle.lp_meaning.specs.Transcript.{block};
+ghost use Rattle.lp_meaning.specs.World.{World, master_path};
+ghost use Rattle.lp_meaning.specs.Run.{is_run_yet as run_yet, has_started, turn, Starts};
+ghost use Rattle.lp_small.specs.Running.{world_of};
+ghost use Rattle.lp_script.specs.Reader.{fresh, GoesOn, HasGiven, Reads, IsAfter};
+ghost use Rattle.std.specs.Option.{option_copied};
+ghost use Rattle.lp_top.specs.Words.{AreReplay};
+ghost use Rattle.lp_top.specs.Replay.{AreRunYet, EndsReading, IsReadingEnd, IsAtStart, IsGoing, IsReplayEnd, IsNoMaster, Interrupts, Finishes, Replays, Ends, status_of_fault, source_with, is_start as start_item, is_end as end_item};
+
+use crate::status::{Faults, Status};
+use crate::words::are_replay;
+use lp_io::{Sink, Source, put_all};
+use lp_meaning::event::Event;
+use lp_meaning::item::Item;
+use lp_meaning::octets::Octets;
+use lp_script::{Reader, ScriptFault, one_spelling, write_outs};
+use lp_small::live::{Live, StartFault, start};
+use lp_tree::fault::{Fault, FaultKind};
+use lp_tree::path::FilePath;
+use std::alloc::Global;
+
+/// The most bytes that the master's file may have until the whole language runs.
+const MOST_BYTES: usize = 65536;
+
+// Whether an item is one that a replay carries out until the whole language runs.
+fn is_run_yet(item: &Item) -> bool
+    ensures { result ≡ run_yet item.now }
+{
+    match item {
+        Item::Head(_, _) | Item::Start | Item::End => true,
+        Item::File(path, bytes) => {
+            path.as_str() == "/secure/master.c" && bytes.as_slice().len() <= MOST_BYTES
+        }
+        Item::Event(event) => matches!(event, Event::Connect(_) | Event::Line(_, _)),
+    }
+}
+
+fn status_of(fault: ScriptFault) -> Status
+    ensures { result ≡ status_of_fault fault }
+{
+    match fault {
+        ScriptFault::BadScript { at } => Status::BadScript { at },
+        ScriptFault::TooLarge => Status::TooLarge,
+        ScriptFault::InputFault => Status::InputFault,
+        ScriptFault::NoMemory => Status::NoMemory,
+    }
+}
+
+// The next item, if it is one that a replay carries out.
+fn next_item<S: Source>(reader: &mut Reader, input: &mut S) -> Result<Item, Status>
+    ensures given { (xs : List I) → GoesOn reader.old.phase → HasGiven reader.old xs → IfOk result (λ x. HasGiven reader.new (xs ++ x ∷ [])) }
+    ensures yet { IfOk result (λ x. run_yet x ≡ true) }
+    ensures phase { IfOk result (λ x. IsAfter (Ok x) reader.new.phase) }
+    ensures reads { (b : List ℕ) → Reads b reader.old (S.remaining input.old) → Reads b reader.new (S.remaining input.new) }
+    ensures end { (b : List ℕ) (xs : List I) → GoesOn reader.old.phase → HasGiven reader.old xs → Reads b reader.old (S.remaining input.old)
+        → IfOk result (λ x. x ≡ the_end → IsScript b (xs ++ x ∷ []) × (length b ≤ longest_input)) }
+    ensures fault { (b : List ℕ) (xs : List I) → GoesOn reader.old.phase → HasGiven reader.old xs → AreRunYet xs → Reads b reader.old (S.remaining input.old)
+        → IfErr result (EndsReading b xs) }
+    ensures kind { IfErr result IsReadingEnd }
+    ensures cause { GoesOn reader.old.phase → IfErr result (λ s. s ≡ Status.InputFault → Rose (S.faults input.old) (S.faults input.new)) }
+    ensures no_fall { S.faults input.old ≤ S.faults input.new }
+{
+    match reader.next(input) {
+        Ok(item) => {
+            if is_run_yet(&item) {
+                return Ok(item);
+            }
+            Err(Status::BadScript { at: reader.at() })
+        }
+        Err(fault) => Err(status_of(fault)),
+    }
+}
+
+fn source_after(source: Option<Octets>, item: Item) -> Option<Octets>
+    ensures { result ≡ source_with source item }
+{
+    match source {
+        Some(bytes) => Some(bytes),
+        None => match item {
+            Item::File(_path, bytes) => Some(bytes),
+            Item::Head(_, _) => None,
+            Item::Start => None,
+            Item::Event(_event) => None,
+            Item::End => None,
+        },
+    }
+}
+
+fn is_start(item: &Item) -> bool
+    ensures { result ≡ start_item item.now }
+{
+    matches!(item, Item::Start)
+}
+
+fn is_end(item: &Item) -> bool
+    ensures { result ≡ end_item item.now }
+{
+    matches!(item, Item::End)
+}
+
+// Reads up to the item `start`, and gives the source of the master if there is one.
+fn files<S: Source>(reader: &mut Reader, input: &mut S) -> Result<Option<Octets>, Status>
+    requires { reader.old ≡ fresh }
+    ensures start { IfOk result (IsAtStart reader.new) }
+    ensures reads { (b : List ℕ) → S.remaining input.old ≡ Some b → OnOk result (Reads b reader.new (S.remaining input.new)) }
+    ensures end { (b : List ℕ) → S.remaining input.old ≡ Some b → IfErr result (λ s. (xs : List I) × (has_started xs ≡ false) × Ends b xs s) }
+    ensures kind { IfErr result IsReadingEnd }
+    ensures cause { IfErr result (λ s. s ≡ Status.InputFault → Rose (S.faults input.old) (S.faults input.new)) }
+    ensures no_fall { S.faults input.old ≤ S.faults input.new }
+{
+    let mut source = None;
+    loop {
+        let item = match next_item(reader, input) {
+            Ok(item) => item,
+            Err(status) => return Err(status),
+        };
+        if is_start(&item) {
+            return Ok(source);
+        }
+        if is_end(&item) {
+            unreachable!();
+        }
+        source = source_after(source, item);
+    }
+}
+
+// Carries out one event and writes its block.
+fn carry_out<K: Sink>(
+    alloc: Global,
+    live: &mut Live,
+    event: &Event,
+    out: &mut K,
+) -> Result<(), Status>
+    ensures world { OnOk result (world_of live.new ≡ (turn (world_of live.old) event.now).world) }
+    ensures written { OnOk result (K.written out.new ≡ after_adding (K.written out.old) (block (turn (world_of live.old) event.now).outputs)) }
+    ensures end { IfErr result (Interrupts (K.written out.old) (K.written out.new) (block (turn (world_of live.old) event.now).outputs)) }
+    ensures cause { IfErr result (λ s. s ≡ Status.OutputFault → Rose (K.faults out.old) (K.faults out.new) ⊎ Rose (K.zeros out.old) (K.zeros out.new)) }
+    ensures no_fall { K.faults out.old ≤ K.faults out.new }
+    ensures zeros_no_fall { K.zeros out.old ≤ K.zeros out.new }
+{
+    let outs = match live.turn(alloc, event) {
+        Ok(outs) => outs,
+        Err(_) => return Err(Status::NoMemory),
+    };
+    match write_outs(out, &outs) {
+        Ok(()) => Ok(()),
+        Err(_) => Err(Status::OutputFault),
+    }
+}
+
+// Writes the line at the end of a transcript, and hands on what the sink may hold back.
+fn finish<K: Sink>(out: &mut K) -> Status
+    ensures end { Finishes (K.written out.old) (K.written out.new) result }
+    ensures cause { result ≡ Status.OutputFault → Rose (K.faults out.old) (K.faults out.new) ⊎ Rose (K.zeros out.old) (K.zeros out.new) }
+    ensures no_fall { K.faults out.old ≤ K.faults out.new }
+    ensures zeros_no_fall { K.zeros out.old ≤ K.zeros out.new }
+{
+    match put_all(out, b"end\n") {
+        Ok(()) => {}
+        Err(_) => return Status::OutputFault,
+    }
+    match out.flush() {
+        Ok(()) => Status::Done,
+        Err(_) => Status::OutputFault,
+    }
+}
+
+// Carries out the events up to the end.
+fn events<S: Source, K: Sink>(
+    alloc: Global,
+    reader: &mut Reader,
+    input: &mut S,
+    out: &mut K,
+    live: Live,
+) -> Status
+    requires { (xs : List I) × (w : World) × IsGoing reader.old live xs w × (events_of xs ≡ []) }
+    ensures replays { (b : List ℕ) → Reads b reader.old (S.remaining input.old) → Replays b result (K.written out.old) (K.written out.new) }
+    ensures whole { result ≡ Status.Done → (b : List ℕ) → Reads b reader.old (S.remaining input.old) → S.remaining input.new ≡ Some [] }
+    ensures kind { IsReplayEnd result }
+    ensures input_cause { result ≡ Status.InputFault → Rose (S.faults input.old) (S.faults input.new) }
+    ensures output_cause { result ≡ Status.OutputFault → Rose (K.faults out.old) (K.faults out.new) ⊎ Rose (K.zeros out.old) (K.zeros out.new) }
+{
+    let mut live = live;
+    loop {
+        let item = match next_item(reader, input) {
+            Ok(item) => item,
+            Err(status) => return status,
+        };
+        match item {
+            Item::Event(event) => match carry_out(alloc, &mut live, &event, out) {
+                Ok(()) => {}
+                Err(status) => return status,
+            },
+            Item::End => return finish(out),
+            Item::Head(_, _) => unreachable!(),
+            Item::File(_path, _bytes) => unreachable!(),
+            Item::Start => unreachable!(),
+        }
+    }
+}
+
+// The end of a replay whose master is not made.
+fn no_master(alloc: Global, line: u32, kind: FaultKind) -> Status
+    ensures { IsNoMaster (record { file = master_path; line = line; kind = kind }) result }
+{
+    let file = match FilePath::from_str(alloc, "/secure/master.c") {
+        Ok(file) => file,
+        Err(_) => return Status::NoMemory,
+    };
+    let mut faults = Vec::new(alloc);
+    if faults.push(Fault { file, line, kind }).is_err() {
+        return Status::NoMemory;
+    }
+    Status::NoMaster {
+        faults: Faults::from_vec(faults),
+    }
+}
+
+fn as_source(source: &Option<Octets>) -> Option<&[u8]>
+    ensures { option_copied result ≡ source.now }
+{
+    match source {
+        Some(bytes) => Some(bytes.as_slice()),
+        None => None,
+    }
+}
+
+// Makes the master, and carries out the events.
+fn begin<S: Source, K: Sink>(
+    alloc: Global,
+    source: &Option<Octets>,
+    reader: &mut Reader,
+    input: &mut S,
+    out: &mut K,
+) -> Status
+    requires { IsAtStart reader.old source.now }
+    ensures replays { (b : List ℕ) → Reads b reader.old (S.remaining input.old) → Replays b result (K.written out.old) (K.written out.new) }
+    ensures whole { result ≡ Status.Done → (b : List ℕ) → Reads b reader.old (S.remaining input.old) → S.remaining input.new ≡ Some [] }
+    ensures kind { IsReplayEnd result }
+    ensures input_cause { result ≡ Status.InputFault → Rose (S.faults input.old) (S.faults input.new) }
+    ensures output_cause { result ≡ Status.OutputFault → Rose (K.faults out.old) (K.faults out.new) ⊎ Rose (K.zeros out.old) (K.zeros out.new) }
+{
+    match start(alloc, as_source(source)) {
+        Ok(live) => events(alloc, reader, input, out, live),
+        Err(StartFault::NoFile) => no_master(alloc, 0, FaultKind::NoFile),
+        Err(StartFault::Unexpected { line }) => no_master(alloc, line, FaultKind::Unexpected),
+        Err(StartFault::NoMemory) => Status::NoMemory,
+    }
+}
+
+// Carries out a script whose words were right.
+fn replay<S: Source, K: Sink>(alloc: Global, input: &mut S, out: &mut K) -> Status
+    ensures replays { (b : List ℕ) → S.remaining input.old ≡ Some b → Replays b result (K.written out.old) (K.written out.new) }
+    ensures whole { result ≡ Status.Done → (b : List ℕ) → S.remaining input.old ≡ Some b → S.remaining input.new ≡ Some [] }
+    ensures kind { IsReplayEnd result }
+    ensures input_cause { result ≡ Status.InputFault → Rose (S.faults input.old) (S.faults input.new) }
+    ensures output_cause { result ≡ Status.OutputFault → Rose (K.faults out.old) (K.faults out.new) ⊎ Rose (K.zeros out.old) (K.zeros out.new) }
+{
+    let mut reader = Reader::new(alloc);
+    let source = match files(&mut reader, input) {
+        Ok(source) => source,
+        Err(status) => return status,
+    };
+    begin(alloc, &source, &mut reader, input, out)
+}
+
+/// Carries out the command that the words name: `replay` reads a script from `input` and writes its
+/// transcript to `out`.
+///
+/// - `Done`: the input was read to its end and is a script, and the bytes written are its transcript.
+/// - `BadWords`: the words are not the one word `replay`; nothing was read or written.
+/// - `BadScript`: at this offset stands no item that fits there and that a replay carries out; the
+///   blocks of the events before were written.
+/// - `NoMaster`: the files make no master, with these faults; nothing was written.
+/// - `TooLarge`: the input goes on past 67108864 bytes, and is no script within them.
+/// - `InputFault`: a read failed, and the source's count of faults rose.
+/// - `OutputFault`: a write failed or took nothing, and one of the sink's counts rose.
+/// - `NoMemory`: the blocks of the events before were written.
+pub fn run<S: Source, K: Sink>(
+    alloc: Global,
+    words: &[String],
+    input: &mut S,
+    out: &mut K,
+) -> Status
+    ensures words { (result ≡ Status.BadWords) ↔ (AreReplay words.now → ⊥) }
+    ensures untouched { result ≡ Status.BadWords → (input.new ≡ input.old) × (out.new ≡ out.old) }
+    ensures replays { AreReplay words.now → (b : List ℕ) → S.remaining input.old ≡ Some b → Replays b result (K.written out.old) (K.written out.new) }
+    ensures whole { result ≡ Status.Done → (b : List ℕ) → S.remaining input.old ≡ Some b → S.remaining input.new ≡ Some [] }
+    ensures input_fault { result ≡ Status.InputFault → Rose (S.faults input.old) (S.faults input.new) }
+    ensures output_fault { result ≡ Status.OutputFault → Rose (K.faults out.old) (K.faults out.new) ⊎ Rose (K.zeros out.old) (K.zeros out.new) }
+    // A script whose master is made, over devices that do not fail, is carried out to its end.
+    ensures complete { (b : List ℕ) (xs : List I) (w : World) → AreReplay words.now → S.remaining input.old ≡ Some b → length b ≤ longest_input → IsScript b xs → AreRunYet xs → Starts (files_of xs) w
+        → (Rose (S.faults input.old) (S.faults input.new) → ⊥) → (Rose (K.faults out.old) (K.faults out.new) → ⊥) → (Rose (K.zeros out.old) (K.zeros out.new) → ⊥)
+        → (result ≡ Status.Done) ⊎ (result ≡ Status.NoMemory) }
+{
+    one_spelling();
+    if !are_replay(words) {
+        return Status::BadWords;
+    }
+    replay(alloc, input, out)
+}
