@@ -9,7 +9,8 @@ const HELLO: &str =
     "object connect() { return this_object(); }\nint logon() { write(\"Hello\\n\"); return 1; }\n";
 
 /// A script of a master and items, run; its status and what it wrote.
-struct Ran {
+#[derive(Drop)]
+struct Replayed {
     status: u8,
     at: Option<u64>,
     reads: u64,
@@ -27,7 +28,7 @@ fn ran(
     script: &[u8],
     failing: &[u64],
     takes: usize,
-) -> Result<Ran, AllocError> {
+) -> Result<Replayed, AllocError> {
     let mut all = Vec::new(rt.alloc());
     for word in words {
         all.push(String::from_str(rt.alloc(), word)?)?;
@@ -36,7 +37,7 @@ fn ran(
     let mut input = MemSource::new(bytes, failing.to_vec(rt.alloc())?);
     let mut out = MemSink::new(rt.alloc(), Vec::new(rt.alloc()), takes);
     let status = run(rt.alloc(), all.as_slice(), &mut input, &mut out);
-    Ok(Ran {
+    Ok(Replayed {
         status: code(&status),
         at: match status {
             Status::BadScript { at } => Some(at),
