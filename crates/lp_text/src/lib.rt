@@ -1,0 +1,10 @@
+//! The text functions of LPC, over code points.
+#![tactic(auto)]
+
+pub mod fault;
+pub mod items;
+pub mod letters;
+pub mod pieces;
+pub mod search;
+#[cfg(test)]
+mod tests;
