@@ -2,9 +2,11 @@
 #![tactic(auto)]
 
 pub mod fault;
+pub mod form;
 pub mod items;
 pub mod letters;
 pub mod pieces;
+pub mod scan;
 pub mod search;
 #[cfg(test)]
 mod tests;

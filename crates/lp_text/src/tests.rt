@@ -1,7 +1,9 @@
 use crate::fault::TextFault;
+use crate::form::wanted;
 use crate::items::{at, join, part, text_of};
 use crate::letters::{lower, trim, upper};
 use crate::pieces::{explode, implode};
+use crate::scan::{Scanned, scan};
 use crate::search::find;
 use lp_values::text::{Text, code_points};
 use std::alloc::Global;
@@ -175,6 +177,135 @@ fn too_long_together(rt: HostRuntime) -> Result<(), Fail> {
     assert_eq!(rt;
         implode(alloc, parts.as_slice(), &['x']).err(),
         Some(TextFault::TooLong)
+    );
+    Ok(())
+}
+
+/// What a scan gave, in a line: each value with `;` behind it, a text in quotes.
+fn spelled(alloc: Global, found: &[Scanned]) -> Result<String, Fail> {
+    let mut all = String::new(alloc);
+    for value in found {
+        match value {
+            Scanned::Int(n) => all.push_str(format!(in alloc; "{n};")?.as_str())?,
+            Scanned::Text(text) => {
+                all.push('"')?;
+                for c in text.as_slice() {
+                    all.push(*c)?;
+                }
+                all.push_str("\";")?;
+            }
+        }
+    }
+    Ok(all)
+}
+
+/// Checks what scanning a text by a form gives.
+fn scans(rt: &impl Abort, alloc: Global, s: &str, form: &str, wanted: &str) -> Result<(), Fail> {
+    let text = code_points(alloc, s)?;
+    let parts = code_points(alloc, form)?;
+    let found = scan(alloc, text.as_slice(), parts.as_slice())?;
+    assert_eq!(rt;
+        spelled(alloc, found.as_slice())?.as_str(),
+        wanted,
+        "{s} by {form}"
+    );
+    Ok(())
+}
+
+#[test]
+fn scanned_texts(rt: HostRuntime) -> Result<(), Fail> {
+    let alloc = rt.alloc();
+    scans(
+        &rt,
+        alloc,
+        "give 3 coins",
+        "%s %d %s",
+        "\"give\";3;\"coins\";",
+    )?;
+    scans(&rt, alloc, "ä ö ü", "%s ö%s", "\"ä\";\" ü\";")?;
+    scans(&rt, alloc, "5 apples", "%*d %s", "\"apples\";")?;
+    scans(&rt, alloc, "a-b-c", "%*s-%s", "\"b-c\";")?;
+    scans(&rt, alloc, "50% off", "%d%% %s", "50;\"off\";")?;
+    scans(&rt, alloc, "x", "x%s", "\"\";")?;
+    Ok(())
+}
+
+#[test]
+fn scanned_integers(rt: HostRuntime) -> Result<(), Fail> {
+    let alloc = rt.alloc();
+    scans(&rt, alloc, "-007x", "%dx%s", "-7;\"\";")?;
+    scans(
+        &rt,
+        alloc,
+        "9223372036854775807",
+        "%d",
+        "9223372036854775807;",
+    )?;
+    scans(&rt, alloc, "9223372036854775808", "%d", "")?;
+    scans(
+        &rt,
+        alloc,
+        "-9223372036854775808",
+        "%d",
+        "-9223372036854775808;",
+    )?;
+    scans(&rt, alloc, "-9223372036854775809", "%d", "")?;
+    scans(&rt, alloc, "99999999999999999999999", "%d", "")?;
+    scans(&rt, alloc, "- 1", "%d", "")?;
+    scans(&rt, alloc, "+1", "%d", "")?;
+    Ok(())
+}
+
+#[test]
+fn scans_that_stop(rt: HostRuntime) -> Result<(), Fail> {
+    let alloc = rt.alloc();
+    scans(&rt, alloc, "1 2,3", "%d,%d", "1;")?;
+    scans(&rt, alloc, "1 x 3", "%d %d %d", "1;")?;
+    scans(&rt, alloc, "abc", "%s,%s", "")?;
+    scans(&rt, alloc, "abc", "", "")?;
+    scans(&rt, alloc, "", "%s", "\"\";")?;
+    scans(&rt, alloc, "", "%d", "")?;
+    Ok(())
+}
+
+/// Checks how many parts of a form are assigned, or the place of its fault.
+fn wants(
+    rt: &impl Abort,
+    alloc: Global,
+    form: &str,
+    count: Result<u64, TextFault>,
+) -> Result<(), Fail> {
+    let parts = code_points(alloc, form)?;
+    assert_eq!(rt; wanted(parts.as_slice()), count, "{form}");
+    Ok(())
+}
+
+#[test]
+fn forms(rt: HostRuntime) -> Result<(), Fail> {
+    let alloc = rt.alloc();
+    wants(&rt, alloc, "ä%d%%%s %*d%*s", Ok(2))?;
+    wants(&rt, alloc, "ä%s%d", Err(TextFault::BadFormat { at: 1 }))?;
+    wants(&rt, alloc, "%s%%", Err(TextFault::BadFormat { at: 0 }))?;
+    wants(&rt, alloc, "%d%*s%s", Err(TextFault::BadFormat { at: 2 }))?;
+    wants(&rt, alloc, "ä %q %s%d", Err(TextFault::BadFormat { at: 2 }))?;
+    wants(&rt, alloc, "%*", Err(TextFault::BadFormat { at: 0 }))?;
+    wants(&rt, alloc, "abc%", Err(TextFault::BadFormat { at: 3 }))?;
+    Ok(())
+}
+
+#[test]
+fn bad_forms_first(rt: HostRuntime) -> Result<(), Fail> {
+    let alloc = rt.alloc();
+    let mut all = longest(alloc)?;
+    assert_eq!(rt; scan(alloc, all.as_slice(), &['%', 's'])?.len(), 1);
+    all.push('x')?;
+    assert_eq!(rt;
+        scan(alloc, all.as_slice(), &['%', 's']).err(),
+        Some(TextFault::TooLong)
+    );
+    assert_eq!(rt;
+        scan(alloc, all.as_slice(), &['ä', '%']).err(),
+        Some(TextFault::BadFormat { at: 1 })
     );
     Ok(())
 }
