@@ -1,5 +1,5 @@
 -- Forms of scanning.
-use Rattle.std.specs.Prelude.{ℕ, zero, suc, ◌≡◌, ◌+◌, ◌-◌, List, [], ◌∷◌, Bool, true, false, Option, Some, None, nat_eq, drop, slice_index, if◌then◌else◌, Result, Ok, Err}
+use Rattle.std.specs.Prelude.{ℕ, zero, suc, ◌≡◌, ◌+◌, ◌-◌, List, [], ◌∷◌, ◌++◌, Bool, true, false, Option, Some, None, nat_eq, drop, slice_index, if◌then◌else◌, Result, Ok, Err}
 use Rattle.lp_text.specs.declared.form.Item.{Item}
 use Rattle.lp_text.specs.declared.form.Item.TheVariants.{Bad, Number, Percent, Plain, Words}
 use Rattle.lp_text.specs.declared.fault.TextFault.{TextFault}
@@ -27,6 +27,16 @@ width (Plain c) = 1
 width (Words true) = 2
 width (Words false) = 3
 
+-- the code points of a part
+abbrev pub spelling : Item → List ℕ
+spelling Bad = []
+spelling (Number true) = 37 ∷ 100 ∷ []
+spelling (Number false) = 37 ∷ 42 ∷ 100 ∷ []
+spelling Percent = 37 ∷ 37 ∷ []
+spelling (Plain c) = c ∷ []
+spelling (Words true) = 37 ∷ 115 ∷ []
+spelling (Words false) = 37 ∷ 42 ∷ 115 ∷ []
+
 -- a part with its place, and what follows it in the form
 pub record Part : Type 0 where
   pub item : Item
@@ -42,6 +52,11 @@ parts_after at zero (c ∷ cs) = record { item = item (c ∷ cs); at = at; rest 
 -- the parts of a form
 abbrev pub parts : List ℕ → List Part
 parts form = parts_after 0 0 form
+
+-- the code points of parts, one after another
+abbrev pub spelled : List Part → List ℕ
+spelled [] = []
+spelled (p ∷ ps) = spelling p.item ++ spelled ps
 
 -- a `%` that begins no part, or a text that stands directly before a `%`
 abbrev pub is_fault : Item → List ℕ → Bool

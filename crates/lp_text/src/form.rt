@@ -1,6 +1,6 @@
 //! The parts of a form of scanning.
-ghost use Rattle.std.specs.Prelude.{◌≡◌, ◌≤◌, ◌<◌, drop, slice_index, if◌then◌else◌};
-ghost use Rattle.lp_text.specs.Forms.{GivesCount, count_of, fault_of, is_fault, is_kept, item, lettered_item, marked_item, parts, width};
+ghost use Rattle.std.specs.Prelude.{ℕ, List, None, ◌≡◌, ◌≤◌, ◌<◌, drop, slice_index, if◌then◌else◌};
+ghost use Rattle.lp_text.specs.Forms.{GivesCount, count_of, fault_of, is_fault, is_kept, item, lettered_item, marked_item, parts, spelled, width};
 
 use crate::fault::TextFault;
 
@@ -39,6 +39,11 @@ pub fn wanted(form: &[char]) -> Result<u64, TextFault>
     }
     Ok(count)
 }
+
+/// Law: the parts of a form without a fault, one after another, spell the form.
+pub fn law_spelled()
+    ensures { (form : List ℕ) → fault_of (parts form) ≡ None → spelled (parts form) ≡ form }
+{}
 
 /// What follows the first code points.
 pub(crate) fn rest_of(s: &[char], from: usize) -> &[char]
