@@ -1,0 +1,4 @@
+pub mod FindLemmas
+pub mod FormLemmas
+pub mod PieceLemmas
+pub mod ScanLemmas

@@ -1,0 +1,5 @@
+pub mod Forms
+pub mod Gives
+pub mod Pieces
+pub mod Scans
+pub mod Texts

@@ -1,0 +1,12 @@
+//! The text functions of LPC, over code points.
+#![tactic(auto)]
+
+pub mod fault;
+pub mod form;
+pub mod items;
+pub mod letters;
+pub mod pieces;
+pub mod scan;
+pub mod search;
+#[cfg(test)]
+mod tests;
