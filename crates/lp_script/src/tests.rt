@@ -1,5 +1,5 @@
 use super::*;
-use lp_io::{MemSink, PutFault};
+use lp_io::{MemSink, MemSource, PutFault};
 use lp_meaning::event::Event;
 use lp_meaning::item::Item;
 use lp_meaning::octets::{ObjectName, Octets};
@@ -48,6 +48,68 @@ fn items(alloc: Global) -> Result<[Item; 10], Fail> {
 
 const SPELLED: &str =
     "mudscript 1 18446744073709551615 1000\nfile /secure/master.c 7\nint x;\n\nstart\nconnect 4294967295\nline 4294967295 7\nsay h\u{e9}\ntick 1000000000000\nreload /a.c 0\n\nswap /obj/coin#7\ngone 4294967295\nend\n";
+
+fn source(alloc: Global, text: &str, failing: &[u64]) -> Result<MemSource, Fail> {
+    let bytes = lp_io::Octets::from_vec(text.as_bytes().to_vec(alloc)?);
+    Ok(MemSource::new(bytes, failing.to_vec(alloc)?))
+}
+
+#[test]
+fn items_are_read_and_written_back(rt: HostRuntime) -> Result<(), Fail> {
+    let mut input = source(rt.alloc(), SPELLED, &[])?;
+    let mut out = sink(rt.alloc(), 5);
+    let mut reader = Reader::new(rt.alloc());
+    for _ in 0..10 {
+        let item = reader.next(&mut input).ok().ok_or("an item stands here")?;
+        assert_eq!(rt; write_item(&mut out, &item), Ok(()));
+    }
+    assert_eq!(rt; out.as_slice(), SPELLED.as_bytes());
+    // The last item is answered again, and stands where it stood.
+    assert_eq!(rt; reader.at(), SPELLED.len() as u64 - 4);
+    assert!(rt; matches!(reader.next(&mut input), Ok(Item::End)));
+    assert_eq!(rt; reader.at(), SPELLED.len() as u64 - 4);
+    Ok(())
+}
+
+/// Inputs, and the offset of the item that is not spelled or does not fit.
+const BAD: [(&str, u64); 9] = [
+    ("", 0),
+    ("mudscript 1 0 0", 0),
+    ("mudscript 1 00 0\n", 0),
+    ("mudscript 1 0 0\n", 16),
+    ("mudscript 1 0 0\nend\n", 16),
+    ("mudscript 1 0 0\nfile /a/../b 0\n\n", 16),
+    ("mudscript 1 0 0\nfile /b 0\n\nfile /a 0\n\n", 27),
+    ("mudscript 1 0 5\nstart\ntick 4\nend\n", 22),
+    ("mudscript 1 0 0\nstart\nend\n\n", 26),
+];
+
+#[test]
+fn bad_items_are_named_by_their_offset(rt: HostRuntime) -> Result<(), Fail> {
+    for (text, at) in BAD {
+        let mut input = source(rt.alloc(), text, &[])?;
+        let mut reader = Reader::new(rt.alloc());
+        let mut fault = None;
+        for _ in 0..4 {
+            if let Err(e) = reader.next(&mut input) {
+                fault = Some(e);
+            }
+        }
+        assert_eq!(rt; fault, Some(ScriptFault::BadScript { at }), "{text}");
+    }
+    Ok(())
+}
+
+#[test]
+fn a_failed_read_is_answered_again(rt: HostRuntime) -> Result<(), Fail> {
+    let mut input = source(rt.alloc(), SPELLED, &[1])?;
+    let mut reader = Reader::new(rt.alloc());
+    for _ in 0..3 {
+        assert!(rt; matches!(reader.next(&mut input), Err(ScriptFault::InputFault)));
+    }
+    assert_eq!(rt; input.calls(), 1);
+    Ok(())
+}
 
 #[test]
 fn items_have_one_spelling(rt: HostRuntime) -> Result<(), Fail> {
