@@ -5,3 +5,4 @@ pub mod Shallow
 pub mod Viable
 pub mod Lists
 pub mod Nodes
+pub mod Stacks

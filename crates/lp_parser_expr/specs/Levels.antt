@@ -1,5 +1,5 @@
 -- The levels that open productions add, kept beside each of them.
-use Rattle.std.specs.Prelude.{◌≡◌, ℕ, ◌+◌, suc, max, List, [], ◌∷◌, Bool, true, false, not, ◌&&◌, if◌then◌else◌, ⊤}
+use Rattle.std.specs.Prelude.{◌≡◌, ℕ, ◌+◌, suc, max, List, [], ◌∷◌, Bool, true, false, not, ◌&&◌, if◌then◌else◌, ⊤, Option, Some, None}
 use Rattle.std.specs.Coded.{×_prop, Π_prop, Unit-prop}
 use Rattle.std.proofs.Math.Nat.{ℕ_set}
 use Rattle.lp_tree.specs.Trees.{height, end_height}
@@ -63,3 +63,13 @@ IsRight-prop s o = ×_prop (Π_prop (λ h. ℕ_set _ _)) (×_prop (Π_prop (λ h
 pub AllRight-prop : (s : Stack) (os : List Open) → IsProp (AllRight s os)
 AllRight-prop s [] = Unit-prop
 AllRight-prop s (o ∷ os) = ×_prop (IsRight-prop (frame_of o.frame ∷ s) o) (AllRight-prop (frame_of o.frame ∷ s) os)
+
+-- the levels of a production that may end where its next part could begin
+abbrev pub ended : Frame → Option ℕ
+ended (InArgs c w done) = Some (suc (max (callee_height c) (tallest done)))
+ended (InArray line done) = Some (suc (tallest done))
+ended (AtKey line done) = Some (suc (tallest_pair done))
+ended (ScanPlaces line t f done) = Some (suc (max (height t) (max (height f) (tallest done))))
+-- behind `(` the shallowest is `({ })`
+ended (InParen line) = Some 1
+ended _ = None

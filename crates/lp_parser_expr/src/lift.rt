@@ -1,8 +1,8 @@
 //! What open productions add to the levels of their open part.
-ghost use Rattle.std.specs.Prelude.{◌≡◌, ℕ};
+ghost use Rattle.std.specs.Prelude.{◌≡◌, ℕ, option_map};
 ghost use Rattle.lp_parser_expr.specs.Capped.{capped};
 ghost use Rattle.lp_parser_expr.specs.Depth.{callee_height, makes, up};
-ghost use Rattle.lp_parser_expr.specs.Levels.{IsLift, beside as levels_beside, wants_place as part_is_place, is_alone as is_no_frame};
+ghost use Rattle.lp_parser_expr.specs.Levels.{IsLift, beside as levels_beside, wants_place as part_is_place, is_alone as is_no_frame, ended};
 ghost use Rattle.lp_parser_expr.specs.View.{callee_of, frame_of};
 
 use crate::frame::{Callee, Frame};
@@ -102,4 +102,16 @@ pub fn lifted(lift: Lift, height: u32) -> u32
     ensures { (f : ℕ → ℕ) (n : ℕ) → IsLift lift f → height ≡ capped n → result ≡ capped (f n) }
 {
     lift.floor.max(height.saturating_add(lift.rise))
+}
+
+/// The levels of a production that may end where its next part could begin.
+pub fn levels_ended(frame: &Frame) -> Option<u32>
+    ensures { result ≡ option_map capped (ended (frame_of frame.now)) }
+{
+    match frame {
+        Frame::InArgs(_, _, _) | Frame::InArray(_, _) | Frame::ScanPlaces(_, _, _, _) => Some(deeper(beside(frame))),
+        Frame::AtKey(_, done) => Some(deeper(done.tallest)),
+        Frame::InParen(_) => Some(1),
+        _ => None,
+    }
 }
