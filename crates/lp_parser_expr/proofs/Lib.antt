@@ -6,3 +6,4 @@ pub mod Viable
 pub mod Lists
 pub mod Nodes
 pub mod Stacks
+pub mod Settles

@@ -4,3 +4,4 @@ pub mod Capped
 pub mod View
 pub mod Levels
 pub mod StackView
+pub mod Moves
