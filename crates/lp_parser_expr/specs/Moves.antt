@@ -5,6 +5,7 @@ use Rattle.lp_tree.specs.declared.seen.Seen.{Seen}
 use Rattle.lp_tree.specs.Trees.{Tree}
 use Rattle.lp_tree.specs.TreeView.{tree_of}
 use Rattle.lp_parser_expr.specs.declared.tall.Tall.{Tall}
+use Rattle.lp_parser_expr.specs.declared.frame.Frame.{Frame as CodeFrame}
 use Rattle.lp_parser_expr.specs.declared.focus.Focus.{Focus}
 use Rattle.lp_parser_expr.specs.declared.focus.Focus.TheVariants as focus
 use Rattle.lp_parser_expr.specs.declared.focus.Acted.{Acted}
@@ -45,3 +46,8 @@ abbrev pub Moves : State → Seen → Stack → Result Moved AllocError → Type
 Moves st x s' (Ok (moved.Goes f)) = step st x ≡ Some (state_of f s')
 Moves st x s' (Ok (moved.Ends o)) = (step st x ≡ None) × (tree_in o ≡ finished st)
 Moves st x s' (Err e) = Unit {0}
+
+-- a stack with what was taken from it
+abbrev pub restored : Option CodeFrame → Stack → Stack
+restored None s = s
+restored (Some f) s = frame_of f ∷ s

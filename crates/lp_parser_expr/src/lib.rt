@@ -1,12 +1,14 @@
 //! Expressions of LPC sources.
 #![tactic(auto)]
 
+pub mod behind;
 pub mod build;
+pub mod ending;
 pub mod focus;
 pub mod frame;
 pub mod infix;
 pub mod lift;
 pub mod open;
-pub mod ending;
+pub mod operand;
 pub mod stack;
 pub mod tall;
