@@ -13,7 +13,7 @@ use Rattle.lp_parser_expr.specs.declared.focus.Acted.TheVariants as acted
 use Rattle.lp_parser_expr.specs.declared.focus.Moved.{Moved}
 use Rattle.lp_parser_expr.specs.declared.focus.Moved.TheVariants as moved
 use Rattle.lp_parser_expr.specs.View.{callee_of, frame_of, tree_in}
-use Rattle.lp_parser_expr.specs.Machine.{Stack, State, Need, Have, EndCast, EndLiteral, NeedName, NeedParen, settle, step, finished}
+use Rattle.lp_parser_expr.specs.Machine.{Frame, ScanText, ScanForm, ScanPlaces, Stack, State, Need, Have, EndCast, EndLiteral, NeedName, NeedParen, settle, step, finished, next_place, begun_sequence}
 
 -- the state of the machine
 abbrev pub state_of : Focus → Stack → State
@@ -51,3 +51,16 @@ Moves st x s' (Err e) = Unit {0}
 abbrev pub restored : Option CodeFrame → Stack → Stack
 restored None s = s
 restored (Some f) s = frame_of f ∷ s
+
+-- a production goes on with its next part
+abbrev pub OpensTo : Frame → Stack → Stack → Result Acted AllocError → Type 0
+OpensTo f s s' (Ok (acted.Goes focus.Need)) = s' ≡ f ∷ s
+OpensTo f s s' (Ok a) = ⊥
+OpensTo f s s' (Err e) = Unit {0}
+
+-- a comma in a scan, or where a sequence may begin
+abbrev pub comma_scanned : Tree → Stack → Option State
+comma_scanned t (ScanText line ∷ s) = Some (Need (ScanForm line t ∷ s))
+comma_scanned t (ScanForm line x ∷ s) = Some (Need (ScanPlaces line x t [] ∷ s))
+comma_scanned t (ScanPlaces line x f done ∷ s) = next_place line x f done t s
+comma_scanned t s = begun_sequence t s
