@@ -1,7 +1,7 @@
 //! Tokens behind an operand.
 ghost use Rattle.std.specs.Prelude.{◌≡◌, ◌∷◌, ◌++◌, [], IfOk, OnOk, Ok, Some, map, codes, bytes_eq};
 ghost use Rattle.lp_tree.specs.TreeView.{tree_of};
-ghost use Rattle.lp_parser_expr.specs.Machine.{act as acted, act_mark as mark_acted, after_colon as colon_acted, after_comma as comma_acted, after_dots as dots_acted, assigned as assign_acted, begun_sequence as sequence_begun, closed as paren_closed, ended_brace as brace_ended, ended_bracket as bracket_ended, infixed as infix_acted, next_place as place_read, opened as paren_opened, scanned as scan_ended, scoped as scope_acted, stepped as step_acted, tested as test_acted, Have, InArgs, InRange, ScanPlaces, Stack as Frames};
+ghost use Rattle.lp_parser_expr.specs.Machine.{act as acted, act_mark as mark_acted, after_colon as colon_acted, after_comma as comma_acted, after_dots as dots_acted, assigned as assign_acted, begun_sequence as sequence_begun, closed as paren_closed, ended_brace as brace_ended, ended_bracket as bracket_ended, infixed as infix_acted, next_place as place_read, opened as paren_opened, scanned as scan_ended, scoped as scope_acted, stepped as step_acted, tested as test_acted, InArgs, InRange, ScanPlaces, Stack as Frames};
 ghost use Rattle.lp_parser_expr.specs.Moves.{Acts, OpensTo, comma_scanned, restored};
 ghost use Rattle.lp_parser_expr.specs.Capped.{end_of};
 ghost use Rattle.lp_parser_expr.specs.View.{callee_of, frame_of};
@@ -180,7 +180,7 @@ fn ended_bracket(alloc: Global, stack: &mut Stack, tree: Tall) -> Result<Acted, 
     match stack.pop() {
         Some(Frame::AtValue(line, done, key)) => Ok(Acted::Goes(Focus::EndLiteral(mapping(line, done.with(key, tree)?)))),
         Some(Frame::InIndex(of, edge)) => Ok(Acted::Goes(Focus::Have(index(alloc, of, edge, tree)?))),
-        Some(Frame::InRange(of, from, edge)) => end_range(alloc, of, from, edge, tree),
+        Some(Frame::InRange(of, from, edge)) => Ok(Acted::Goes(Focus::Have(end_range(alloc, of, from, edge, tree)?))),
         other => Ok(Acted::Refuses(restore(stack, other, tree)?)),
     }
 }
@@ -332,9 +332,9 @@ fn begin_end(alloc: Global, stack: &mut Stack, of: Tall, edge: Edge, tree: Tall)
 }
 
 // A range whose last end is this operand.
-fn end_range(alloc: Global, of: Tall, from: TallEnd, edge: Edge, tree: Tall) -> Result<Acted, AllocError>
-    ensures { (s : Frames) → Acts (Some (Have (Range (line_of (tree_of of.expr)) (tree_of of.expr) (end_of from.bound) (At edge (tree_of tree.expr))) s)) (tree_of tree.expr) s s result }
+fn end_range(alloc: Global, of: Tall, from: TallEnd, edge: Edge, tree: Tall) -> Result<Tall, AllocError>
+    ensures { IfOk result (λ t. tree_of t.expr ≡ Range (line_of (tree_of of.expr)) (tree_of of.expr) (end_of from.bound) (At edge (tree_of tree.expr))) }
 {
     let to = TallEnd::at(alloc, edge, tree)?;
-    Ok(Acted::Goes(Focus::Have(range(alloc, of, from, to)?)))
+    range(alloc, of, from, to)
 }
