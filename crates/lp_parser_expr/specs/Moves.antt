@@ -41,11 +41,15 @@ Acts o t s s' (Ok (acted.Goes f)) = o ≡ Some (state_of f s')
 Acts o t s s' (Ok (acted.Refuses u)) = (o ≡ None) × ((tree_of u.expr ≡ t) × (s' ≡ s))
 Acts o t s s' (Err e) = Unit {0}
 
--- one token: the state that is next, or none, and then what was read is finished
+-- the state that is next, or none, and then what was read is finished
+abbrev pub MovesOn : Option State → Option Tree → Stack → Result Moved AllocError → Type 0
+MovesOn o t s' (Ok (moved.Goes f)) = o ≡ Some (state_of f s')
+MovesOn o t s' (Ok (moved.Ends u)) = (o ≡ None) × (tree_in u ≡ t)
+MovesOn o t s' (Err e) = Unit {0}
+
+-- one token
 abbrev pub Moves : State → Seen → Stack → Result Moved AllocError → Type 0
-Moves st x s' (Ok (moved.Goes f)) = step st x ≡ Some (state_of f s')
-Moves st x s' (Ok (moved.Ends o)) = (step st x ≡ None) × (tree_in o ≡ finished st)
-Moves st x s' (Err e) = Unit {0}
+Moves st x s' r = MovesOn (step st x) (finished st) s' r
 
 -- a stack with what was taken from it
 abbrev pub restored : Option CodeFrame → Stack → Stack

@@ -8,6 +8,7 @@ pub mod focus;
 pub mod frame;
 pub mod infix;
 pub mod lift;
+pub mod machine;
 pub mod open;
 pub mod operand;
 pub mod stack;
