@@ -7,3 +7,4 @@ pub mod Lists
 pub mod Nodes
 pub mod Stacks
 pub mod Settles
+pub mod Main

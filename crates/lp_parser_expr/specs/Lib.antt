@@ -5,3 +5,4 @@ pub mod View
 pub mod Levels
 pub mod StackView
 pub mod Moves
+pub mod Theorem
