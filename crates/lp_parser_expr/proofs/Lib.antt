@@ -8,3 +8,4 @@ pub mod Nodes
 pub mod Stacks
 pub mod Settles
 pub mod Main
+pub mod Readings

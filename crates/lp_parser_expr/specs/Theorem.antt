@@ -60,16 +60,19 @@ line_in (Some t) = t.line
 abbrev pub last_line : List Token → ℕ
 last_line ts = line_in (slice_get ts (length ts - 1))
 
--- the line is that of the token at this place, or of the last token of all where it is behind the last
-pub record IsLineAt (all ts : List Token) (at line : ℕ) : Type 0 where
-  pub inside : (d : Token) → at < length ts → line ≡ (get_or ts at d).line
-  pub end : at ≡ length ts → line ≡ last_line all
+abbrev pub line_or : Option Token → ℕ → ℕ
+line_or None l = l
+line_or (Some t) l = t.line
+
+-- the line of the token at a place, or of the last token of all where the place is behind the last
+abbrev pub line_of_place : List Token → List Token → ℕ → ℕ
+line_of_place all ts at = line_or (slice_get ts at) (last_line all)
 
 -- a fault of reading from a place, for an expression of this depth
 abbrev pub IsFault : List Token → ℕ → ℕ → ParseFault → Type 0
 IsFault all from depth NoMemory = Unit {0}
-IsFault all from depth (Unexpected line) = (at : ℕ) × IsUnexpected (levels_at depth) (drop from all) at × IsLineAt all (drop from all) at line
-IsFault all from depth (TooNested line) = (at : ℕ) × IsTooNested (levels_at depth) (drop from all) at × IsLineAt all (drop from all) at line
+IsFault all from depth (Unexpected line) = (at : ℕ) × IsUnexpected (levels_at depth) (drop from all) at × (line ≡ line_of_place all (drop from all) at)
+IsFault all from depth (TooNested line) = (at : ℕ) × IsTooNested (levels_at depth) (drop from all) at × (line ≡ line_of_place all (drop from all) at)
 
 -- the answer is this tree, unless memory ran out
 abbrev pub IsUnlessMemory : Tree → ℕ → Result (Expr × ℕ) ParseFault → Type 0
