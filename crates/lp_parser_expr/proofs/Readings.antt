@@ -50,3 +50,6 @@ no_more_than limit n k e w h = omega arith
 pub at_end : (limit : ℕ) (ts : List Token) (i : ℕ) (st : State) → i ≡ length ts → walk (Need []) (sight (take i ts)) ≡ Some st → (0 < i → least st ≤ limit) → Stands limit ts (length ts) st × (length ts < length ts → walk (Need []) (sight (take (length ts + 1) ts)) ≡ None)
 at_end limit ts i st e w k =
   (record { within = omega arith; walked = ap (λ n. walk (Need []) (sight (take n ts))) (sym e) ∙ w; shallow = λ h. k (omega arith) }, λ h. absurd (omega arith))
+
+pub same_tree : (a b : Tall) → a ≡ b → Some (tree_of a.expr) ≡ Some (tree_of b.expr)
+same_tree a b e = ap (λ t. Some (tree_of t.expr)) e
