@@ -9,3 +9,4 @@ pub mod Stacks
 pub mod Settles
 pub mod Main
 pub mod Readings
+pub mod Replies

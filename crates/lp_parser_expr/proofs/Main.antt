@@ -91,21 +91,21 @@ front_of (suc m) zero ts h = absurd (omega arith)
 front_of (suc m) (suc n) [] h = ([], refl)
 front_of (suc m) (suc n) (x ∷ ts) h = let r = front_of m n ts (omega arith) in (r.0, ap (λ xs. seen x ∷ xs) r.1)
 
-shorter : (m n : ℕ) (ts : List Token) → m ≤ n → Begins (take n ts) → Begins (take m ts)
+pub shorter : (m n : ℕ) (ts : List Token) → m ≤ n → Begins (take n ts) → Begins (take m ts)
 shorter m n ts h b =
   let r = front_of m n ts h in
   (r.0 ++ b.0, b.1, subst (λ xs. Spells b.1 xs []) (ap (λ xs. xs ++ b.0) r.1 ∙ append_assoc (sight (take m ts)) r.0 b.0) b.2)
 
-whole_begins : (m n : ℕ) (ts : List Token) (t : Tree) → m ≤ n → Spells t (sight (take n ts)) [] → (w : List Seen) × Spells t (sight (take m ts) ++ w) []
+pub whole_begins : (m n : ℕ) (ts : List Token) (t : Tree) → m ≤ n → Spells t (sight (take n ts)) [] → (w : List Seen) × Spells t (sight (take m ts) ++ w) []
 whole_begins m n ts t h d = let r = front_of m n ts h in (r.0, subst (λ xs. Spells t xs []) r.1 d)
 
-stands_begins : (limit : ℕ) (ts : List Token) (n : ℕ) (st : State) → Stands limit ts n st → Begins (take n ts)
+pub stands_begins : (limit : ℕ) (ts : List Token) (n : ℕ) (st : State) → Stands limit ts n st → Begins (take n ts)
 stands_begins limit ts n st s = let w = begun false (sight (take n ts)) st s.walked in (w.0, w.1, w.2)
 
 stands_within : (limit : ℕ) (ts : List Token) (n : ℕ) (st : State) → Stands limit ts n st → 0 < n → BeginsWithin limit (take n ts)
 stands_within limit ts n st s h = let w = begun false (sight (take n ts)) st s.walked in (w.0, w.1, w.2, omega (arith, w.4, s.shallow h))
 
-stuck_not : (ts : List Token) (n : ℕ) → IsStuck ts n → n < length ts → Begins (take (n + 1) ts) → ⊥
+pub stuck_not : (ts : List Token) (n : ℕ) → IsStuck ts n → n < length ts → Begins (take (n + 1) ts) → ⊥
 stuck_not ts n k h b = refused false (sight (take (n + 1) ts)) b.0 b.1 (k h) b.2 (omega arith)
 
 no_tree : (st : State) (t : Tree) → Some (Need []) ≡ Some st → finished st ≡ Some t → ⊥
@@ -122,7 +122,7 @@ found limit ts t n st s k f = record {
   shallow = omega (arith, finished-height st t f, s.shallow (positive ts n st t s.walked f));
   longest = stuck_not ts n k }
 
-not_finished : (ts : List Token) (n : ℕ) (st : State) (t : Tree) → walk (Need []) (sight (take n ts)) ≡ Some st → finished st ≡ None → Spells t (sight (take n ts)) [] → ⊥
+pub not_finished : (ts : List Token) (n : ℕ) (st : State) (t : Tree) → walk (Need []) (sight (take n ts)) ≡ Some st → finished st ≡ None → Spells t (sight (take n ts)) [] → ⊥
 not_finished ts n st t e f d = let g = run_end (sight (take n ts)) st None e f in let k = complete_all false t (sight (take n ts)) d (omega arith) in cc
 
 pub unexpected_at : (limit : ℕ) (ts : List Token) (at : ℕ) (st : State) → Stands limit ts at st → IsStuck ts at → finished st ≡ None → IsUnexpected limit ts at
@@ -140,10 +140,10 @@ nested_at limit ts at st next s h e k = record {
   not_within = λ b. absurd (omega (arith, b.3, k, deep false (sight (take (at + 1) ts)) b.0 b.1 next e b.2 (omega arith))) }
 
 -- two readings of the same tokens are one
-not_longer : (limit : ℕ) (ts : List Token) (n m : ℕ) (t : Tree) → IsRead limit ts n t → m ≤ length ts → Begins (take m ts) → n < m → ⊥
+pub not_longer : (limit : ℕ) (ts : List Token) (n m : ℕ) (t : Tree) → IsRead limit ts n t → m ≤ length ts → Begins (take m ts) → n < m → ⊥
 not_longer limit ts n m t r w b h = r.longest (omega (arith, w)) (shorter (n + 1) m ts (omega arith) b)
 
-read_begins : (limit : ℕ) (ts : List Token) (n : ℕ) (t : Tree) → IsRead limit ts n t → Begins (take n ts)
+pub read_begins : (limit : ℕ) (ts : List Token) (n : ℕ) (t : Tree) → IsRead limit ts n t → Begins (take n ts)
 read_begins limit ts n t r = let w = whole_begins n n ts t (omega arith) r.spelled in (w.0, t, w.1)
 
 pub same_place : (limit : ℕ) (ts : List Token) (n m : ℕ) (t u : Tree) → IsRead limit ts n t → IsRead limit ts m u → (n < m → ⊥) × (m < n → ⊥)
