@@ -35,21 +35,21 @@ sound_all b t ts e = sound (start b) t ts ts (started b ts) e
 
 pub begun : (b : Bool) (front : List Seen) (st : State) → walk (start b) front ≡ Some st → (others : List Seen) × (t : Tree) × Spells t (front ++ others) [] × (floor b ≤ rank t) × (height t ≤ least st)
 begun b front st e =
-  let w = some_end (walked (start b) front front st (started b front) e) in
-  let d = sound_all b w.1.0 (front ++ w.0) (run-append (start b) front w.0 ∙ ap (option_and_then (λ next. run next w.0)) e ∙ w.1.1) in
-  (w.0, w.1.0, d.0, d.1, omega (arith, w.1.2))
+    let w = some_end (walked (start b) front front st (started b front) e) in
+    let d = sound_all b w.1.0 (front ++ w.0) (run-append (start b) front w.0 ∙ ap (option_and_then (λ next. run next w.0)) e ∙ w.1.1) in
+    (w.0, w.1.0, d.0, d.1, omega (arith, w.1.2))
 
 pub refused : (b : Bool) (front others : List Seen) (t : Tree) → walk (start b) front ≡ None → Spells t (front ++ others) [] → floor b ≤ rank t → ⊥
 refused b front others t e d h =
-  let f = complete_all b t (front ++ others) d h in
-  let g = run-append (start b) front others ∙ ap (option_and_then (λ next. run next others)) e in
-  cc
+    let f = complete_all b t (front ++ others) d h in
+    let g = run-append (start b) front others ∙ ap (option_and_then (λ next. run next others)) e in
+    cc
 
 pub deep : (b : Bool) (front others : List Seen) (t : Tree) (st : State) → walk (start b) front ≡ Some st → Spells t (front ++ others) [] → floor b ≤ rank t → least st ≤ height t
 deep b front others t st e d h =
-  let f = complete_all b t (front ++ others) d h in
-  let g = run-append (start b) front others ∙ ap (option_and_then (λ next. run next others)) e in
-  run-least st others t (sym g ∙ f)
+    let f = complete_all b t (front ++ others) d h in
+    let g = run-append (start b) front others ∙ ap (option_and_then (λ next. run next others)) e in
+    run-least st others t (sym g ∙ f)
 
 pub spells_one : (t u : Tree) (ts : List Seen) → Spells t ts [] → Spells u ts [] → t ≡ u
 spells_one t u ts d e = some_same (sym (complete_all false t ts d (omega arith)) ∙ complete_all false u ts e (omega arith))
@@ -68,10 +68,10 @@ walk-push st (y ∷ ys) x = push-step (step st y) x ys (λ next. walk-push next 
 
 pub walk_more : (ts : List Token) (i : ℕ) (d : Token) (st : State) (o : Option State) → i < length ts → walk (Need []) (sight (take i ts)) ≡ Some st → step st (seen (get_or ts i d)) ≡ o → walk (Need []) (sight (take (i + 1) ts)) ≡ o
 walk_more ts i d st o h e f =
-  ap (λ xs. walk (Need []) (sight xs)) (take_more ts i d h)
-  ∙ ap (walk (Need [])) (map-push seen (take i ts) (get_or ts i d))
-  ∙ walk-push (Need []) (sight (take i ts)) (seen (get_or ts i d))
-  ∙ ap (option_and_then (λ s. step s (seen (get_or ts i d)))) e ∙ f
+    ap (λ xs. walk (Need []) (sight xs)) (take_more ts i d h)
+    ∙ ap (walk (Need [])) (map-push seen (take i ts) (get_or ts i d))
+    ∙ walk-push (Need []) (sight (take i ts)) (seen (get_or ts i d))
+    ∙ ap (option_and_then (λ s. step s (seen (get_or ts i d)))) e ∙ f
 
 then_finish : (o : Option State) (xs : List Seen) → ((next : State) → run next xs ≡ option_and_then finished (walk next xs)) → option_and_then (λ next. run next xs) o ≡ option_and_then finished (option_and_then (λ next. walk next xs) o)
 then_finish None xs ih = refl
@@ -93,8 +93,8 @@ front_of (suc m) (suc n) (x ∷ ts) h = let r = front_of m n ts (omega arith) in
 
 pub shorter : (m n : ℕ) (ts : List Token) → m ≤ n → Begins (take n ts) → Begins (take m ts)
 shorter m n ts h b =
-  let r = front_of m n ts h in
-  (r.0 ++ b.0, b.1, subst (λ xs. Spells b.1 xs []) (ap (λ xs. xs ++ b.0) r.1 ∙ append_assoc (sight (take m ts)) r.0 b.0) b.2)
+    let r = front_of m n ts h in
+    (r.0 ++ b.0, b.1, subst (λ xs. Spells b.1 xs []) (ap (λ xs. xs ++ b.0) r.1 ∙ append_assoc (sight (take m ts)) r.0 b.0) b.2)
 
 pub whole_begins : (m n : ℕ) (ts : List Token) (t : Tree) → m ≤ n → Spells t (sight (take n ts)) [] → (w : List Seen) × Spells t (sight (take m ts) ++ w) []
 whole_begins m n ts t h d = let r = front_of m n ts h in (r.0, subst (λ xs. Spells t xs []) r.1 d)
@@ -120,7 +120,8 @@ found limit ts t n st s k f = record {
   within = s.within;
   spelled = (sound_all false t (sight (take n ts)) (run_end (sight (take n ts)) st (Some t) s.walked f)).0;
   shallow = omega (arith, finished-height st t f, s.shallow (positive ts n st t s.walked f));
-  longest = stuck_not ts n k }
+  longest = stuck_not ts n k;
+}
 
 pub not_finished : (ts : List Token) (n : ℕ) (st : State) (t : Tree) → walk (Need []) (sight (take n ts)) ≡ Some st → finished st ≡ None → Spells t (sight (take n ts)) [] → ⊥
 not_finished ts n st t e f d = let g = run_end (sight (take n ts)) st None e f in let k = complete_all false t (sight (take n ts)) d (omega arith) in cc
@@ -130,14 +131,16 @@ unexpected_at limit ts at st s k f = record {
   within = s.within;
   before = stands_within limit ts at st s;
   not_so = stuck_not ts at k;
-  not_whole = λ t d. not_finished ts at st t s.walked f d }
+  not_whole = λ t d. not_finished ts at st t s.walked f d;
+}
 
 pub nested_at : (limit : ℕ) (ts : List Token) (at : ℕ) (st next : State) → Stands limit ts at st → at < length ts → walk (Need []) (sight (take (at + 1) ts)) ≡ Some next → limit < least next → IsTooNested limit ts at
 nested_at limit ts at st next s h e k = record {
   within = h;
   before = stands_within limit ts at st s;
   so = let w = begun false (sight (take (at + 1) ts)) next e in (w.0, w.1, w.2);
-  not_within = λ b. absurd (omega (arith, b.3, k, deep false (sight (take (at + 1) ts)) b.0 b.1 next e b.2 (omega arith))) }
+  not_within = λ b. absurd (omega (arith, b.3, k, deep false (sight (take (at + 1) ts)) b.0 b.1 next e b.2 (omega arith)));
+}
 
 -- two readings of the same tokens are one
 pub not_longer : (limit : ℕ) (ts : List Token) (n m : ℕ) (t : Tree) → IsRead limit ts n t → m ≤ length ts → Begins (take m ts) → n < m → ⊥

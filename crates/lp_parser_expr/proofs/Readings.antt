@@ -32,13 +32,13 @@ at_token : (st : State) (x : Seen) (ts : List Token) (i : ℕ) (d : Token) (o : 
 at_token st x ts i d o e w h = ap (λ y. step st (seen y)) (sym w) ∙ ap (step st) (sym e) ∙ h
 
 pub stop_ended : (limit : ℕ) (ts : List Token) (i : ℕ) (d : Token) (st : State) (x : Seen) (s' : Stack) (m : Moved) (u : Option Tall) → i < length ts → walk (Need []) (sight (take i ts)) ≡ Some st → (0 < i → least st ≤ limit) → x ≡ seen d → d ≡ get_or ts i d → MovesOn (step st x) (finished st) s' (Ok m) → m ≡ moved.Ends u
-  → Stands limit ts i st × (i < length ts → walk (Need []) (sight (take (i + 1) ts)) ≡ None) × (finished st ≡ tree_in u)
+    → Stands limit ts i st × (i < length ts → walk (Need []) (sight (take (i + 1) ts)) ≡ None) × (finished st ≡ tree_in u)
 stop_ended limit ts i d st x s' m u h w k e f n g =
-  let r = moved_ends st x s' m u n g in
-  (record { within = omega (arith, h); walked = w; shallow = k }, (λ _. walk_more ts i d st None h w (at_token st x ts i d None e f r.0)), sym r.1)
+    let r = moved_ends st x s' m u n g in
+    (record { within = omega (arith, h); walked = w; shallow = k }, (λ _. walk_more ts i d st None h w (at_token st x ts i d None e f r.0)), sym r.1)
 
 pub stop_goes : (ts : List Token) (i : ℕ) (d : Token) (st : State) (x : Seen) (s' : Stack) (m : Moved) (f : Focus) → i < length ts → walk (Need []) (sight (take i ts)) ≡ Some st → x ≡ seen d → d ≡ get_or ts i d → MovesOn (step st x) (finished st) s' (Ok m) → m ≡ moved.Goes f
-  → walk (Need []) (sight (take (i + 1) ts)) ≡ Some (state_of f s')
+    → walk (Need []) (sight (take (i + 1) ts)) ≡ Some (state_of f s')
 stop_goes ts i d st x s' m f h w e k n g = walk_more ts i d st (Some (state_of f s')) h w (at_token st x ts i d (Some (state_of f s')) e k (moved_goes st x s' m f n g))
 
 pub more_than : (limit n k : ℕ) → n ≡ capped k → limit < n → limit < k
@@ -49,7 +49,7 @@ no_more_than limit n k e w h = omega arith
 
 pub at_end : (limit : ℕ) (ts : List Token) (i : ℕ) (st : State) → i ≡ length ts → walk (Need []) (sight (take i ts)) ≡ Some st → (0 < i → least st ≤ limit) → Stands limit ts (length ts) st × (length ts < length ts → walk (Need []) (sight (take (length ts + 1) ts)) ≡ None)
 at_end limit ts i st e w k =
-  (record { within = omega arith; walked = ap (λ n. walk (Need []) (sight (take n ts))) (sym e) ∙ w; shallow = λ h. k (omega arith) }, λ h. absurd (omega arith))
+    (record { within = omega arith; walked = ap (λ n. walk (Need []) (sight (take n ts))) (sym e) ∙ w; shallow = λ h. k (omega arith) }, λ h. absurd (omega arith))
 
 pub same_tree : (a b : Tall) → a ≡ b → Some (tree_of a.expr) ≡ Some (tree_of b.expr)
 same_tree a b e = ap (λ t. Some (tree_of t.expr)) e

@@ -35,8 +35,8 @@ done-part p s (Some u) ih = ih u
 done-if : (p : ℕ) (t : Tree) (f : Frame) (s : Stack) (b : Bool) → nat_le (needs f) p ≡ b → ((u : Tree) → Done p u s) → option_and_then whole_held (settle 0 t (f ∷ s)) ≡ option_and_then (λ h. finished (Have h.tree h.stack)) (cond b (Some (held t (f ∷ s))) (option_and_then (λ u. settle p u s) (plug f t)))
 done-if p t f s true e ih = refl
 done-if p t f s false e ih =
-  let goes : settle 0 t (f ∷ s) ≡ option_and_then (λ u. settle 0 u s) (plug f t) = ap (λ b. cond b (Some (held t (f ∷ s))) (option_and_then (λ u. settle 0 u s) (plug f t))) (lt-leb (needs f) 0 (omega (arith, leb-false (needs f) p e))) in
-  ap (option_and_then whole_held) goes ∙ done-part p s (plug f t) ih
+    let goes : settle 0 t (f ∷ s) ≡ option_and_then (λ u. settle 0 u s) (plug f t) = ap (λ b. cond b (Some (held t (f ∷ s))) (option_and_then (λ u. settle 0 u s) (plug f t))) (lt-leb (needs f) 0 (omega (arith, leb-false (needs f) p e))) in
+    ap (option_and_then whole_held) goes ∙ done-part p s (plug f t) ih
 
 pub settled_done : (p : ℕ) (s : Stack) (t : Tree) → Done p t s
 settled_done p [] t = refl
@@ -44,8 +44,8 @@ settled_done p (f ∷ s) t = done-if p t f s (nat_le (needs f) p) refl (settled_
 
 pub behind_moves : (x : Seen) (t u : Tree) (s s1 s' : Stack) (r : Result Moved AllocError) → settle (binds x.sort) t s ≡ Some (held u s1) → MovesOn (act x.sort u s1) (finished (Have u s1)) s' r → Moves (Have t s) x s' r
 behind_moves x t u s s1 s' r e m =
-  let done : finished (Have t s) ≡ finished (Have u s1) = settled_done (binds x.sort) s t ∙ ap (option_and_then (λ h. finished (Have h.tree h.stack))) e in
-  subst (λ o. MovesOn o (finished (Have t s)) s' r) (sym (ap (option_and_then (act_held x.sort)) e)) (subst (λ w. MovesOn (act x.sort u s1) w s' r) (sym done) m)
+    let done : finished (Have t s) ≡ finished (Have u s1) = settled_done (binds x.sort) s t ∙ ap (option_and_then (λ h. finished (Have h.tree h.stack))) e in
+    subst (λ o. MovesOn o (finished (Have t s)) s' r) (sym (ap (option_and_then (act_held x.sort)) e)) (subst (λ w. MovesOn (act x.sort u s1) w s' r) (sym done) m)
 
 pub behind_fails : (x : Seen) (t : Tree) (s : Stack) → settle (binds x.sort) t s ≡ None → (step (Have t s) x ≡ None) × (None ≡ finished (Have t s))
 behind_fails x t s e = (ap (option_and_then (act_held x.sort)) e, sym (settled_done (binds x.sort) s t ∙ ap (option_and_then (λ h. finished (Have h.tree h.stack))) e))

@@ -135,8 +135,8 @@ settle-if p t (LeftOf Or l) s false e ih = ih (OrElse (line_of l) l t)
 settle-if p t (Choosing c y) s false e ih = ih (Cond (line_of c) c y t)
 settle-if p t (Assigning op q) s false e ih = ih (Assign (line_of q) op q t)
 settle-if p t (InSequence line done) s false e ih =
-  let u = Sequence line (trees (done ++ t ∷ [])) in
-  levels-as (settle p u s) _ _ (ap (total s false) (sequence-levels line done t)) (ih u)
+    let u = Sequence line (trees (done ++ t ∷ [])) in
+    levels-as (settle p u s) _ _ (ap (total s false) (sequence-levels line done t)) (ih u)
 settle-if p t f s false e ih = absurd (omega (arith, leb-false 0 p e))
 
 pub settle-levels : (p : ℕ) (s : Stack) (t : Tree) → HasLevels (settle p t s) (total s (is_place t) (height t))

@@ -37,20 +37,20 @@ use Rattle.lp_parser_expr.proofs.Complete.{joined, joined-none, joined-last, pai
 pub data Done : List Tree → List Seen → List Seen → Type 0 where
   nothing : {ts : List Seen} → Done [] ts ts
   one : {t : Tree} {us : List Tree} {l : ℕ} {ts rest rest' : List Seen}
-    → Spells t ts (mark Comma l ∷ rest) → 2 ≤ rank t → Done us rest rest' → Done (t ∷ us) ts rest'
+      → Spells t ts (mark Comma l ∷ rest) → 2 ≤ rank t → Done us rest rest' → Done (t ∷ us) ts rest'
 
 -- pairs that were read, each with the comma behind it
 pub data DonePairs : List (Tree × Tree) → List Seen → List Seen → Type 0 where
   no_pairs : {ts : List Seen} → DonePairs [] ts ts
   one_pair : {k v : Tree} {ps : List (Tree × Tree)} {l l' : ℕ} {ts us vs rest : List Seen}
-    → Spells k ts (mark Colon l ∷ us) → 2 ≤ rank k → Spells v us (mark Comma l' ∷ vs) → 2 ≤ rank v
-    → DonePairs ps vs rest → DonePairs ((k, v) ∷ ps) ts rest
+      → Spells k ts (mark Colon l ∷ us) → 2 ≤ rank k → Spells v us (mark Comma l' ∷ vs) → 2 ≤ rank v
+      → DonePairs ps vs rest → DonePairs ((k, v) ∷ ps) ts rest
 
 -- places that were read, each with the comma before it
 pub data DonePlaces : List Tree → List Seen → List Seen → Type 0 where
   no_places : {ts : List Seen} → DonePlaces [] ts ts
   done_place : {p : Tree} {ps : List Tree} {l : ℕ} {ts us rest : List Seen}
-    → Spells p ts us → IsTrue (is_place p) → DonePlaces ps us rest → DonePlaces (p ∷ ps) (mark Comma l ∷ ts) rest
+      → Spells p ts us → IsTrue (is_place p) → DonePlaces ps us rest → DonePlaces (p ∷ ps) (mark Comma l ∷ ts) rest
 
 -- the tokens before the name of a function
 pub data IsScope : Callee → List Seen → List Seen → Type 0 where
@@ -70,61 +70,61 @@ pub data Opened : ℕ → Stack → List Seen → List Seen → Type 0 where
   alone : {ts : List Seen} → Opened 2 (Alone ∷ []) ts ts
   in_paren : {g : ℕ} {s : Stack} {line : ℕ} {ts rest : List Seen} → Opened g s ts (mark OpenParen line ∷ rest) → Opened g (InParen line ∷ s) ts rest
   in_array : {g : ℕ} {s : Stack} {line l : ℕ} {done : List Tree} {ts us rest : List Seen}
-    → Opened g s ts (mark OpenParen line ∷ mark OpenBrace l ∷ us) → Done done us rest → Opened g (InArray line done ∷ s) ts rest
+      → Opened g s ts (mark OpenParen line ∷ mark OpenBrace l ∷ us) → Done done us rest → Opened g (InArray line done ∷ s) ts rest
   at_key : {g : ℕ} {s : Stack} {line l : ℕ} {done : List (Tree × Tree)} {ts us rest : List Seen}
-    → Opened g s ts (mark OpenParen line ∷ mark OpenBracket l ∷ us) → DonePairs done us rest → Opened g (AtKey line done ∷ s) ts rest
+      → Opened g s ts (mark OpenParen line ∷ mark OpenBracket l ∷ us) → DonePairs done us rest → Opened g (AtKey line done ∷ s) ts rest
   at_value : {g : ℕ} {s : Stack} {line l l' : ℕ} {done : List (Tree × Tree)} {k : Tree} {ts us vs rest : List Seen}
-    → Opened g s ts (mark OpenParen line ∷ mark OpenBracket l ∷ us) → DonePairs done us vs
-    → Spells k vs (mark Colon l' ∷ rest) → 2 ≤ rank k → Opened g (AtValue line done k ∷ s) ts rest
+      → Opened g s ts (mark OpenParen line ∷ mark OpenBracket l ∷ us) → DonePairs done us vs
+      → Spells k vs (mark Colon l' ∷ rest) → 2 ≤ rank k → Opened g (AtValue line done k ∷ s) ts rest
   in_args : {g : ℕ} {s : Stack} {c : Callee} {w : List ℕ} {l : ℕ} {done : List Tree} {ts us vs rest : List Seen}
-    → Opened g s ts us → IsNamed c w us (mark OpenParen l ∷ vs) → Done done vs rest → Opened g (InArgs c w done ∷ s) ts rest
+      → Opened g s ts us → IsNamed c w us (mark OpenParen l ∷ vs) → Done done vs rest → Opened g (InArgs c w done ∷ s) ts rest
   in_catch : {g : ℕ} {s : Stack} {line l : ℕ} {ts rest : List Seen}
-    → Opened g s ts (reserved words.Catch line ∷ mark OpenParen l ∷ rest) → Opened g (InCatch line ∷ s) ts rest
+      → Opened g s ts (reserved words.Catch line ∷ mark OpenParen l ∷ rest) → Opened g (InCatch line ∷ s) ts rest
   scan_text : {g : ℕ} {s : Stack} {line l : ℕ} {ts rest : List Seen}
-    → Opened g s ts (reserved words.Sscanf line ∷ mark OpenParen l ∷ rest) → Opened g (ScanText line ∷ s) ts rest
+      → Opened g s ts (reserved words.Sscanf line ∷ mark OpenParen l ∷ rest) → Opened g (ScanText line ∷ s) ts rest
   scan_form : {g : ℕ} {s : Stack} {line l l' : ℕ} {t : Tree} {ts us rest : List Seen}
-    → Opened g s ts (reserved words.Sscanf line ∷ mark OpenParen l ∷ us) → Spells t us (mark Comma l' ∷ rest) → 2 ≤ rank t
-    → Opened g (ScanForm line t ∷ s) ts rest
+      → Opened g s ts (reserved words.Sscanf line ∷ mark OpenParen l ∷ us) → Spells t us (mark Comma l' ∷ rest) → 2 ≤ rank t
+      → Opened g (ScanForm line t ∷ s) ts rest
   scan_places : {g : ℕ} {s : Stack} {line l l' l'' : ℕ} {t f : Tree} {done : List Tree} {ts us vs ws rest : List Seen}
-    → Opened g s ts (reserved words.Sscanf line ∷ mark OpenParen l ∷ us) → Spells t us (mark Comma l' ∷ vs) → 2 ≤ rank t
-    → Spells f vs ws → 2 ≤ rank f → DonePlaces done ws (mark Comma l'' ∷ rest) → Opened g (ScanPlaces line t f done ∷ s) ts rest
+      → Opened g s ts (reserved words.Sscanf line ∷ mark OpenParen l ∷ us) → Spells t us (mark Comma l' ∷ vs) → 2 ≤ rank t
+      → Spells f vs ws → 2 ≤ rank f → DonePlaces done ws (mark Comma l'' ∷ rest) → Opened g (ScanPlaces line t f done ∷ s) ts rest
   in_index : {g : ℕ} {s : Stack} {t : Tree} {e : Edge} {l : ℕ} {ts us vs rest : List Seen}
-    → Opened g s ts us → Spells t us (mark OpenBracket l ∷ vs) → 15 ≤ rank t → SpellsEdge e vs rest → Opened g (InIndex t e ∷ s) ts rest
+      → Opened g s ts us → Spells t us (mark OpenBracket l ∷ vs) → 15 ≤ rank t → SpellsEdge e vs rest → Opened g (InIndex t e ∷ s) ts rest
   in_range : {g : ℕ} {s : Stack} {t : Tree} {a : End} {e : Edge} {l l' : ℕ} {ts us vs ws rest : List Seen}
-    → Opened g s ts us → Spells t us (mark OpenBracket l ∷ vs) → 15 ≤ rank t → SpellsEnd a vs (mark DotDot l' ∷ ws)
-    → SpellsEdge e ws rest → Opened g (InRange t a e ∷ s) ts rest
+      → Opened g s ts us → Spells t us (mark OpenBracket l ∷ vs) → 15 ≤ rank t → SpellsEnd a vs (mark DotDot l' ∷ ws)
+      → SpellsEdge e ws rest → Opened g (InRange t a e ∷ s) ts rest
   stepping_on : {g : ℕ} {s : Stack} {line : ℕ} {st : Step} {ts rest : List Seen}
-    → Opened g s ts (mark (marks.Step st) line ∷ rest) → wants_of s ≤ 14 → Opened g (Stepping line st ∷ s) ts rest
+      → Opened g s ts (mark (marks.Step st) line ∷ rest) → wants_of s ≤ 14 → Opened g (Stepping line st ∷ s) ts rest
   unary_of : {g : ℕ} {s : Stack} {m : Mark} {op : UnOp} {line : ℕ} {ts rest : List Seen}
-    → IsUnary m op → Opened g s ts (mark m line ∷ rest) → wants_of s ≤ 14 → Opened g (UnaryOf line op ∷ s) ts rest
+      → IsUnary m op → Opened g s ts (mark m line ∷ rest) → wants_of s ≤ 14 → Opened g (UnaryOf line op ∷ s) ts rest
   casting : {g : ℕ} {s : Stack} {line l : ℕ} {ty : TypeName} {ts us rest : List Seen}
-    → Opened g s ts (mark OpenParen line ∷ us) → SpellsType ty us (mark CloseParen l ∷ rest) → wants_of s ≤ 14 → Opened g (Casting line ty ∷ s) ts rest
+      → Opened g s ts (mark OpenParen line ∷ us) → SpellsType ty us (mark CloseParen l ∷ rest) → wants_of s ≤ 14 → Opened g (Casting line ty ∷ s) ts rest
   left_of : {g : ℕ} {s : Stack} {op : Infix} {t : Tree} {at : ℕ} {ts us rest : List Seen}
-    → Opened g s ts us → wants_of s ≤ infix_level op → Spells t us (mark (infix_mark op) at ∷ rest) → infix_level op ≤ rank t
-    → Opened g (LeftOf op t ∷ s) ts rest
+      → Opened g s ts us → wants_of s ≤ infix_level op → Spells t us (mark (infix_mark op) at ∷ rest) → infix_level op ≤ rank t
+      → Opened g (LeftOf op t ∷ s) ts rest
   testing : {g : ℕ} {s : Stack} {t : Tree} {at : ℕ} {ts us rest : List Seen}
-    → Opened g s ts us → wants_of s ≤ 3 → Spells t us (mark Question at ∷ rest) → 4 ≤ rank t → Opened g (Testing t ∷ s) ts rest
+      → Opened g s ts us → wants_of s ≤ 3 → Spells t us (mark Question at ∷ rest) → 4 ≤ rank t → Opened g (Testing t ∷ s) ts rest
   choosing : {g : ℕ} {s : Stack} {t y : Tree} {at colon : ℕ} {ts us vs rest : List Seen}
-    → Opened g s ts us → wants_of s ≤ 3 → Spells t us (mark Question at ∷ vs) → 4 ≤ rank t → Spells y vs (mark Colon colon ∷ rest)
-    → Opened g (Choosing t y ∷ s) ts rest
+      → Opened g s ts us → wants_of s ≤ 3 → Spells t us (mark Question at ∷ vs) → 4 ≤ rank t → Spells y vs (mark Colon colon ∷ rest)
+      → Opened g (Choosing t y ∷ s) ts rest
   assigning : {g : ℕ} {s : Stack} {p : Tree} {op : AssignOp} {at : ℕ} {ts us rest : List Seen}
-    → Opened g s ts us → wants_of s ≤ 2 → Spells p us (mark (marks.Assign op) at ∷ rest) → IsTrue (is_place p) → Opened g (Assigning op p ∷ s) ts rest
+      → Opened g s ts us → wants_of s ≤ 2 → Spells p us (mark (marks.Assign op) at ∷ rest) → IsTrue (is_place p) → Opened g (Assigning op p ∷ s) ts rest
   in_sequence : {g : ℕ} {s : Stack} {t : Tree} {done : List Tree} {l : ℕ} {ts us vs rest : List Seen}
-    → Opened g s ts us → wants_of s ≤ 0 → Spells t us (mark Comma l ∷ vs) → 2 ≤ rank t → Done done vs rest → Opened g (InSequence (line_of t) (t ∷ done) ∷ s) ts rest
+      → Opened g s ts us → wants_of s ≤ 0 → Spells t us (mark Comma l ∷ vs) → 2 ≤ rank t → Done done vs rest → Opened g (InSequence (line_of t) (t ∷ done) ∷ s) ts rest
 
 -- a literal of which only its last parenthesis is missing
 pub data Closes : Tree → List Seen → List Seen → Type 0 where
   array_closes : {line l : ℕ} {items : Trees} {us rest : List Seen}
-    → SpellsItems CloseBrace items us rest → Closes (Array line items) (mark OpenParen line ∷ mark OpenBrace l ∷ us) rest
+      → SpellsItems CloseBrace items us rest → Closes (Array line items) (mark OpenParen line ∷ mark OpenBrace l ∷ us) rest
   mapping_closes : {line l : ℕ} {ps : Pairs} {us rest : List Seen}
-    → SpellsPairs ps us rest → Closes (Mapping line ps) (mark OpenParen line ∷ mark OpenBracket l ∷ us) rest
+      → SpellsPairs ps us rest → Closes (Mapping line ps) (mark OpenParen line ∷ mark OpenBracket l ∷ us) rest
 
 -- what a state has read: the tokens of ts before rest
 pub data Reads : ℕ → State → List Seen → List Seen → Type 0 where
   needs_more : {g : ℕ} {s : Stack} {ts rest : List Seen} → Opened g s ts rest → Reads g (Need s) ts rest
   has : {g : ℕ} {t : Tree} {s : Stack} {ts us rest : List Seen} → Opened g s ts us → Spells t us rest → rank t ≡ 15 → Reads g (Have t s) ts rest
   cast_end : {g : ℕ} {s : Stack} {line : ℕ} {ty : TypeName} {ts us rest : List Seen}
-    → Opened g s ts (mark OpenParen line ∷ us) → SpellsType ty us rest → wants_of s ≤ 14 → Reads g (EndCast line ty s) ts rest
+      → Opened g s ts (mark OpenParen line ∷ us) → SpellsType ty us rest → wants_of s ≤ 14 → Reads g (EndCast line ty s) ts rest
   literal_end : {g : ℕ} {t : Tree} {s : Stack} {ts us rest : List Seen} → Opened g s ts us → Closes t us rest → Reads g (EndLiteral t s) ts rest
   name_next : {g : ℕ} {c : Callee} {s : Stack} {ts us rest : List Seen} → Opened g s ts us → IsScope c us rest → Reads g (NeedName c s) ts rest
   args_next : {g : ℕ} {c : Callee} {w : List ℕ} {s : Stack} {ts us rest : List Seen} → Opened g s ts us → IsNamed c w us rest → Reads g (NeedParen (InArgs c w []) s) ts rest
@@ -135,7 +135,7 @@ pub data Reads : ℕ → State → List Seen → List Seen → Type 0 where
 pub data Fitting : ℕ → Option Held → ℕ → List Seen → List Seen → Type 0 where
   misfit : {g p : ℕ} {ts rest : List Seen} → Fitting g None p ts rest
   fitting : {g : ℕ} {t : Tree} {s : Stack} {p : ℕ} {ts us rest : List Seen}
-    → Opened g s ts us → Spells t us rest → wants_of s ≤ rank t → needs_of s ≤ p → p ≤ rank t → Fitting g (Some (held t s)) p ts rest
+      → Opened g s ts us → Spells t us rest → wants_of s ≤ rank t → needs_of s ≤ p → p ≤ rank t → Fitting g (Some (held t s)) p ts rest
 
 abbrev pub Settles : ℕ → ℕ → Stack → List Seen → List Seen → Type 0
 Settles g p s ts rest = (t : Tree) (us : List Seen) → Opened g s ts us → Spells t us rest → wants_of s ≤ rank t → p ≤ rank t → Fitting g (settle p t s) p ts rest

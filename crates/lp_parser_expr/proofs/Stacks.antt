@@ -32,18 +32,18 @@ right-last s (x ∷ os) o a = right-last (frame_of x.frame ∷ s) os o a.1
 
 split_last : (os : List Open) (i : ℕ) (x : Open) → i ≡ length os → 0 < i → x ≡ get_or os (i - 1) x → os ≡ take (i - 1) os ++ x ∷ []
 split_last os i x e h w =
-  let all : os ≡ take (i - 1) os ++ get_or os (i - 1) x ∷ [] = sym (take-length os) ∙ ap (λ m. take m os) (omega arith) ∙ take_more os (i - 1) x (omega arith) in
-  all ∙ ap (λ y. take (i - 1) os ++ y ∷ []) (sym w)
+    let all : os ≡ take (i - 1) os ++ get_or os (i - 1) x ∷ [] = sym (take-length os) ∙ ap (λ m. take m os) (omega arith) ∙ take_more os (i - 1) x (omega arith) in
+    all ∙ ap (λ y. take (i - 1) os ++ y ∷ []) (sym w)
 
 pub top_right : (os : List Open) (i : ℕ) (x : Open) → i ≡ length os → 0 < i → x ≡ get_or os (i - 1) x → AllRight [] os → IsRight (above [] os) x
 top_right os i x e h w a =
-  let all = split_last os i x e h w in
-  subst (λ l. IsRight (above [] l) x) (sym all) (right-last [] (take (i - 1) os) x (subst (λ l. AllRight [] l) all a))
+    let all = split_last os i x e h w in
+    subst (λ l. IsRight (above [] l) x) (sym all) (right-last [] (take (i - 1) os) x (subst (λ l. AllRight [] l) all a))
 
 pub top_wants : (os : List Open) (i : ℕ) (x : Open) (n : ℕ) → i ≡ length os → 0 < i → x ≡ get_or os (i - 1) x → n ≡ wants (frame_of x.frame) → n ≡ wants_of (above [] os)
 top_wants os i x n e h w k =
-  let all = split_last os i x e h w in
-  k ∙ ap wants_of (sym (ap (above []) all ∙ above-push [] (take (i - 1) os) x))
+    let all = split_last os i x e h w in
+    k ∙ ap wants_of (sym (ap (above []) all ∙ above-push [] (take (i - 1) os) x))
 
 pub popped_view : (r : Option Open) (old new : List Open) → old ≡ new ++ option_to_list r → IfSome r (λ o. above [] old ≡ frame_of o.frame ∷ above [] new)
 popped_view None old new e = tt

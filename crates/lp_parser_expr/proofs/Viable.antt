@@ -159,70 +159,70 @@ ends (Alone ∷ []) t b e w = (t, refl, refl)
 ends (Alone ∷ f ∷ s) t b e w = absurd w
 ends (InParen line ∷ s) t b e w = by (run-stays t (InParen line ∷ s) (mark CloseParen 0) (tail s false) (omega arith)) (ends s (Paren line t) false refl w)
 ends (InArray line done ∷ s) t b e w =
-  let u = Array line (trees (done ++ t ∷ [])) in
-  by (run-stays t (InArray line done ∷ s) (mark CloseBrace 0) (mark CloseParen 0 ∷ tail s false) (omega arith))
-  (found_as (ap (λ n. total s false (suc n)) (heights-trees (done ++ t ∷ []) ∙ tallest-push done t)) (ends s u false refl w))
+    let u = Array line (trees (done ++ t ∷ [])) in
+    by (run-stays t (InArray line done ∷ s) (mark CloseBrace 0) (mark CloseParen 0 ∷ tail s false) (omega arith))
+    (found_as (ap (λ n. total s false (suc n)) (heights-trees (done ++ t ∷ []) ∙ tallest-push done t)) (ends s u false refl w))
 ends (AtKey line done ∷ s) t b e w =
-  let u = Mapping line (pairs (done ++ (t, some_place) ∷ [])) in
-  by (run-stays t (AtKey line done ∷ s) (mark Colon 0) (some_name ∷ mark CloseBracket 0 ∷ mark CloseParen 0 ∷ tail s false) (omega arith))
-  (by (run-stays some_place (AtValue line done t ∷ s) (mark CloseBracket 0) (mark CloseParen 0 ∷ tail s false) (omega arith))
-  (found_as (ap (λ n. total s false (suc n)) (heights-pairs (done ++ (t, some_place) ∷ []) ∙ tallest_pair-push done t some_place)) (ends s u false refl w)))
+    let u = Mapping line (pairs (done ++ (t, some_place) ∷ [])) in
+    by (run-stays t (AtKey line done ∷ s) (mark Colon 0) (some_name ∷ mark CloseBracket 0 ∷ mark CloseParen 0 ∷ tail s false) (omega arith))
+    (by (run-stays some_place (AtValue line done t ∷ s) (mark CloseBracket 0) (mark CloseParen 0 ∷ tail s false) (omega arith))
+    (found_as (ap (λ n. total s false (suc n)) (heights-pairs (done ++ (t, some_place) ∷ []) ∙ tallest_pair-push done t some_place)) (ends s u false refl w)))
 ends (AtValue line done k ∷ s) t b e w =
-  let u = Mapping line (pairs (done ++ (k, t) ∷ [])) in
-  by (run-stays t (AtValue line done k ∷ s) (mark CloseBracket 0) (mark CloseParen 0 ∷ tail s false) (omega arith))
-  (found_as (ap (λ n. total s false (suc n)) (heights-pairs (done ++ (k, t) ∷ []) ∙ tallest_pair-push done k t)) (ends s u false refl w))
+    let u = Mapping line (pairs (done ++ (k, t) ∷ [])) in
+    by (run-stays t (AtValue line done k ∷ s) (mark CloseBracket 0) (mark CloseParen 0 ∷ tail s false) (omega arith))
+    (found_as (ap (λ n. total s false (suc n)) (heights-pairs (done ++ (k, t) ∷ []) ∙ tallest_pair-push done k t)) (ends s u false refl w))
 ends (InArgs c n done ∷ s) t b e w =
-  let u = called c n (trees (done ++ t ∷ [])) in
-  by (run-stays t (InArgs c n done ∷ s) (mark CloseParen 0) (tail s false) (omega arith))
-  (found_as (ap (total s false) (called-tallest c n (done ++ t ∷ []) ∙ ap (λ k. suc (max (callee_height c) k)) (tallest-push done t))) (ends s u false (called-no-place c n (trees (done ++ t ∷ []))) w))
+    let u = called c n (trees (done ++ t ∷ [])) in
+    by (run-stays t (InArgs c n done ∷ s) (mark CloseParen 0) (tail s false) (omega arith))
+    (found_as (ap (total s false) (called-tallest c n (done ++ t ∷ []) ∙ ap (λ k. suc (max (callee_height c) k)) (tallest-push done t))) (ends s u false (called-no-place c n (trees (done ++ t ∷ []))) w))
 ends (InCatch line ∷ s) t b e w = by (run-stays t (InCatch line ∷ s) (mark CloseParen 0) (tail s false) (omega arith)) (ends s (Catch line t) false refl w)
 ends (ScanText line ∷ s) t b e w =
-  by (run-stays t (ScanText line ∷ s) (mark Comma 0) (some_name ∷ mark CloseParen 0 ∷ tail s false) (omega arith))
-  (by (run-stays some_place (ScanForm line t ∷ s) (mark CloseParen 0) (tail s false) (omega arith))
-  (found_as (ap (total s false) (omega arith)) (ends s (Sscanf line t some_place NoTree) false refl w)))
+    by (run-stays t (ScanText line ∷ s) (mark Comma 0) (some_name ∷ mark CloseParen 0 ∷ tail s false) (omega arith))
+    (by (run-stays some_place (ScanForm line t ∷ s) (mark CloseParen 0) (tail s false) (omega arith))
+    (found_as (ap (total s false) (omega arith)) (ends s (Sscanf line t some_place NoTree) false refl w)))
 ends (ScanForm line x ∷ s) t b e w =
-  by (run-stays t (ScanForm line x ∷ s) (mark CloseParen 0) (tail s false) (omega arith))
-  (found_as (ap (total s false) (omega arith)) (ends s (Sscanf line x t NoTree) false refl w))
+    by (run-stays t (ScanForm line x ∷ s) (mark CloseParen 0) (tail s false) (omega arith))
+    (found_as (ap (total s false) (omega arith)) (ends s (Sscanf line x t NoTree) false refl w))
 ends (ScanPlaces line x f done ∷ s) t true e w =
-  by (run-stays t (ScanPlaces line x f done ∷ s) (mark CloseParen 0) (tail s false) (omega arith)
+    by (run-stays t (ScanPlaces line x f done ∷ s) (mark CloseParen 0) (tail s false) (omega arith)
     ∙ ap (λ b. option_and_then (λ next. run next (tail s false)) (cond b (Some (Have (Sscanf line x f (trees (done ++ t ∷ []))) s)) None)) e)
-  (found_as (ap (total s false) (scan-tallest line x f done t)) (ends s (Sscanf line x f (trees (done ++ t ∷ []))) false refl w))
+    (found_as (ap (total s false) (scan-tallest line x f done t)) (ends s (Sscanf line x f (trees (done ++ t ∷ []))) false refl w))
 ends (ScanPlaces line x f done ∷ s) t false e w =
-  let i = Index (line_of t) t Front some_place in
-  by (run-stays t (ScanPlaces line x f done ∷ s) (mark OpenBracket 0) (some_name ∷ mark CloseBracket 0 ∷ mark CloseParen 0 ∷ tail s false) (omega arith))
-  (by (run-stays some_place (InIndex t Front ∷ ScanPlaces line x f done ∷ s) (mark CloseBracket 0) (mark CloseParen 0 ∷ tail s false) (omega arith))
-  (by (run-stays i (ScanPlaces line x f done ∷ s) (mark CloseParen 0) (tail s false) (omega arith))
-  (found_as (ap (total s false) (scan-tallest line x f done i)) (ends s (Sscanf line x f (trees (done ++ i ∷ []))) false refl w))))
+    let i = Index (line_of t) t Front some_place in
+    by (run-stays t (ScanPlaces line x f done ∷ s) (mark OpenBracket 0) (some_name ∷ mark CloseBracket 0 ∷ mark CloseParen 0 ∷ tail s false) (omega arith))
+    (by (run-stays some_place (InIndex t Front ∷ ScanPlaces line x f done ∷ s) (mark CloseBracket 0) (mark CloseParen 0 ∷ tail s false) (omega arith))
+    (by (run-stays i (ScanPlaces line x f done ∷ s) (mark CloseParen 0) (tail s false) (omega arith))
+    (found_as (ap (total s false) (scan-tallest line x f done i)) (ends s (Sscanf line x f (trees (done ++ i ∷ []))) false refl w))))
 ends (InIndex of x ∷ s) t b e w = by (run-stays t (InIndex of x ∷ s) (mark CloseBracket 0) (tail s true) (omega arith)) (ends s (Index (line_of of) of x t) true refl w)
 ends (InRange of a x ∷ s) t b e w = by (run-stays t (InRange of a x ∷ s) (mark CloseBracket 0) (tail s false) (omega arith)) (ends s (Range (line_of of) of a (At x t)) false refl w)
 ends (Stepping line st ∷ s) t true e w =
-  by (run-ends t (PreStep line st t) (Stepping line st) s (tail s false) (omega (arith, (follow-tail s false w.1 w.0).0)) (stepped_place line st t e)) (ends s (PreStep line st t) false refl w.1)
+    by (run-ends t (PreStep line st t) (Stepping line st) s (tail s false) (omega (arith, (follow-tail s false w.1 w.0).0)) (stepped_place line st t e)) (ends s (PreStep line st t) false refl w.1)
 ends (Stepping line st ∷ s) t false e w =
-  let i = Index (line_of t) t Front some_place in
-  by (run-stays t (Stepping line st ∷ s) (mark OpenBracket 0) (some_name ∷ mark CloseBracket 0 ∷ tail s false) (omega arith))
-  (by (run-stays some_place (InIndex t Front ∷ Stepping line st ∷ s) (mark CloseBracket 0) (tail s false) (omega arith))
-  (by (run-ends i (PreStep line st i) (Stepping line st) s (tail s false) (omega (arith, (follow-tail s false w.1 w.0).0)) refl) (ends s (PreStep line st i) false refl w.1)))
+    let i = Index (line_of t) t Front some_place in
+    by (run-stays t (Stepping line st ∷ s) (mark OpenBracket 0) (some_name ∷ mark CloseBracket 0 ∷ tail s false) (omega arith))
+    (by (run-stays some_place (InIndex t Front ∷ Stepping line st ∷ s) (mark CloseBracket 0) (tail s false) (omega arith))
+    (by (run-ends i (PreStep line st i) (Stepping line st) s (tail s false) (omega (arith, (follow-tail s false w.1 w.0).0)) refl) (ends s (PreStep line st i) false refl w.1)))
 ends (UnaryOf line op ∷ s) t b e w = by (run-ends t (Unary line op t) (UnaryOf line op) s (tail s false) (omega (arith, (follow-tail s false w.1 w.0).0)) refl) (ends s (Unary line op t) false refl w.1)
 ends (Casting line ty ∷ s) t b e w = by (run-ends t (Cast line ty t) (Casting line ty) s (tail s false) (omega (arith, (follow-tail s false w.1 w.0).0)) refl) (ends s (Cast line ty t) false refl w.1)
 ends (LeftOf op l ∷ s) t b e w =
-  let k = follow-tail s false w.1 (omega (arith, w.0, infix≤13 op)) in
-  by (run-ends t (infix_tree op l t) (LeftOf op l) s (tail s false) (omega (arith, k.1, w.0)) refl)
-  (found_as (ap (total s false) (infix-height op l t)) (ends s (infix_tree op l t) false (infix-no-place op l t) w.1))
+    let k = follow-tail s false w.1 (omega (arith, w.0, infix≤13 op)) in
+    by (run-ends t (infix_tree op l t) (LeftOf op l) s (tail s false) (omega (arith, k.1, w.0)) refl)
+    (found_as (ap (total s false) (infix-height op l t)) (ends s (infix_tree op l t) false (infix-no-place op l t) w.1))
 ends (Testing c ∷ s) t b e w =
-  let k = follow-tail s false w.1 (omega (arith, w.0)) in
-  by (run-stays t (Testing c ∷ s) (mark Colon 0) (some_name ∷ tail s false) (omega arith))
-  (by (run-ends some_place (Cond (line_of c) c t some_place) (Choosing c t) s (tail s false) (omega (arith, k.0)) refl) (ends s (Cond (line_of c) c t some_place) false refl w.1))
+    let k = follow-tail s false w.1 (omega (arith, w.0)) in
+    by (run-stays t (Testing c ∷ s) (mark Colon 0) (some_name ∷ tail s false) (omega arith))
+    (by (run-ends some_place (Cond (line_of c) c t some_place) (Choosing c t) s (tail s false) (omega (arith, k.0)) refl) (ends s (Cond (line_of c) c t some_place) false refl w.1))
 ends (Choosing c y ∷ s) t b e w =
-  let k = follow-tail s false w.1 (omega (arith, w.0)) in
-  by (run-ends t (Cond (line_of c) c y t) (Choosing c y) s (tail s false) (omega (arith, k.0)) refl) (ends s (Cond (line_of c) c y t) false refl w.1)
+    let k = follow-tail s false w.1 (omega (arith, w.0)) in
+    by (run-ends t (Cond (line_of c) c y t) (Choosing c y) s (tail s false) (omega (arith, k.0)) refl) (ends s (Cond (line_of c) c y t) false refl w.1)
 ends (Assigning op p ∷ s) t b e w =
-  let k = follow-tail s false w.1 (omega (arith, w.0)) in
-  by (run-ends t (Assign (line_of p) op p t) (Assigning op p) s (tail s false) (omega (arith, k.0)) refl) (ends s (Assign (line_of p) op p t) false refl w.1)
+    let k = follow-tail s false w.1 (omega (arith, w.0)) in
+    by (run-ends t (Assign (line_of p) op p t) (Assigning op p) s (tail s false) (omega (arith, k.0)) refl) (ends s (Assign (line_of p) op p t) false refl w.1)
 ends (InSequence c done ∷ s) t b e w =
-  let k = follow-tail s false w.1 (omega (arith, w.0)) in
-  let u = Sequence c (trees (done ++ t ∷ [])) in
-  by (run-ends t u (InSequence c done) s (tail s false) (omega (arith, k.1, w.0)) refl)
-  (found_as (ap (total s false) (omega (arith, heights-trees (done ++ t ∷ []), tallest-push done t))) (ends s u false refl w.1))
+    let k = follow-tail s false w.1 (omega (arith, w.0)) in
+    let u = Sequence c (trees (done ++ t ∷ [])) in
+    by (run-ends t u (InSequence c done) s (tail s false) (omega (arith, k.1, w.0)) refl)
+    (found_as (ap (total s false) (omega (arith, heights-trees (done ++ t ∷ []), tallest-push done t))) (ends s u false refl w.1))
 
 need_end : (s : Stack) → IsFit s → (us : List Seen) × Found (run (Need s) us) (least_need s)
 need_end (InArgs c n done ∷ s) w = (mark CloseParen 0 ∷ tail s false, found_as (ap (total s false) (called-tallest c n done)) (ends s (called c n (trees done)) false (called-no-place c n (trees done)) w))

@@ -111,7 +111,7 @@ pub record ReadsExactly : Type 0 where
   pub read : (alone : Bool) (t : Tree) (ts : List Seen) → run (start alone) ts ≡ Some t → Spells t ts [] × (floor alone ≤ rank t)
   pub spelled : (alone : Bool) (t : Tree) (ts : List Seen) → Spells t ts [] → floor alone ≤ rank t → run (start alone) ts ≡ Some t
   pub begun : (alone : Bool) (front : List Seen) (st : State) → walk (start alone) front ≡ Some st
-    → (others : List Seen) × (t : Tree) × Spells t (front ++ others) [] × (floor alone ≤ rank t) × (height t ≤ least st)
+      → (others : List Seen) × (t : Tree) × Spells t (front ++ others) [] × (floor alone ≤ rank t) × (height t ≤ least st)
   pub refused : (alone : Bool) (front others : List Seen) (t : Tree) → walk (start alone) front ≡ None → Spells t (front ++ others) [] → floor alone ≤ rank t → ⊥
   pub deep : (alone : Bool) (front others : List Seen) (t : Tree) (st : State) → walk (start alone) front ≡ Some st → Spells t (front ++ others) [] → floor alone ≤ rank t → least st ≤ height t
   pub whole : (st : State) (t : Tree) → finished st ≡ Some t → height t ≡ least st

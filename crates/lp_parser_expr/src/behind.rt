@@ -10,20 +10,18 @@ ghost use Rattle.lp_tree.specs.declared.expr.Edge.TheVariants.{Front};
 ghost use Rattle.lp_tree.specs.declared.token.Mark.TheVariants.{OpenBracket};
 ghost use Rattle.lp_parser_expr.specs.StackView.{stack_of};
 
-use std::alloc::{AllocError, Global};
-
-use lp_tree::chars::Chars;
-use lp_tree::expr::{Edge, Expr};
-use lp_tree::operator::{AssignOp, Step};
-use lp_tree::seen::Sort;
-use lp_tree::token::Mark;
-
 use crate::build::{array, call, catch, index, mapping, paren, post_step, range, sscanf};
 use crate::focus::{Acted, Focus};
 use crate::frame::{Callee, Frame, level_of};
 use crate::infix::Infix;
 use crate::stack::Stack;
 use crate::tall::{Tall, TallEnd, Talls};
+use lp_tree::chars::Chars;
+use lp_tree::expr::{Edge, Expr};
+use lp_tree::operator::{AssignOp, Step};
+use lp_tree::seen::Sort;
+use lp_tree::token::Mark;
+use std::alloc::{AllocError, Global};
 
 // Puts back what was taken from the stack.
 fn restore(stack: &mut Stack, popped: Option<Frame>, tree: Tall) -> Result<Tall, AllocError>
@@ -95,7 +93,10 @@ fn opened(alloc: Global, stack: &mut Stack, tree: Tall) -> Result<Acted, AllocEr
             stack.push(Frame::InArgs(Callee::Function(line), name, Talls::new(alloc)))?;
             Ok(Acted::Goes(Focus::Need))
         }
-        other => Ok(Acted::Refuses(Tall { expr: other, height })),
+        other => Ok(Acted::Refuses(Tall {
+            expr: other,
+            height,
+        })),
     }
 }
 
@@ -116,26 +117,51 @@ fn scoped(tree: Tall) -> Acted
             if is_efun(&name) {
                 return Acted::Goes(Focus::NeedName(Callee::Efun(line)));
             }
-            Acted::Refuses(Tall { expr: Expr::Name { line, name }, height })
+            Acted::Refuses(Tall {
+                expr: Expr::Name { line, name },
+                height,
+            })
         }
         Expr::Text { line, text } => Acted::Goes(Focus::NeedName(Callee::NamedParent(line, text))),
-        other => Acted::Refuses(Tall { expr: other, height }),
+        other => Acted::Refuses(Tall {
+            expr: other,
+            height,
+        }),
     }
 }
 
 // The end of a scan behind a place.
-fn end_scan(alloc: Global, stack: &mut Stack, line: u32, text: Tall, form: Tall, done: Talls, place: Tall) -> Result<Acted, AllocError>
+fn end_scan(
+    alloc: Global,
+    stack: &mut Stack,
+    line: u32,
+    text: Tall,
+    form: Tall,
+    done: Talls,
+    place: Tall,
+) -> Result<Acted, AllocError>
     ensures { Acts (scan_ended line (tree_of text.expr) (tree_of form.expr) (map tree_of done.items.items) (tree_of place.expr) (stack_of stack.old)) (tree_of place.expr) (ScanPlaces line (tree_of text.expr) (tree_of form.expr) (map tree_of done.items.items) ∷ stack_of stack.old) (stack_of stack.new) result }
 {
     if place.expr.is_place() {
         let places = done.with(place)?;
         return Ok(Acted::Goes(Focus::Have(sscanf(alloc, line, text, form, places)?)));
     }
-    Ok(Acted::Refuses(restore(stack, Some(Frame::ScanPlaces(line, text, form, done)), place)?))
+    Ok(Acted::Refuses(restore(
+        stack,
+        Some(Frame::ScanPlaces(line, text, form, done)),
+        place,
+    )?))
 }
 
 // A comma behind a place of a scan.
-fn next_place(stack: &mut Stack, line: u32, text: Tall, form: Tall, done: Talls, place: Tall) -> Result<Acted, AllocError>
+fn next_place(
+    stack: &mut Stack,
+    line: u32,
+    text: Tall,
+    form: Tall,
+    done: Talls,
+    place: Tall,
+) -> Result<Acted, AllocError>
     ensures { Acts (place_read line (tree_of text.expr) (tree_of form.expr) (map tree_of done.items.items) (tree_of place.expr) (stack_of stack.old)) (tree_of place.expr) (ScanPlaces line (tree_of text.expr) (tree_of form.expr) (map tree_of done.items.items) ∷ stack_of stack.old) (stack_of stack.new) result }
 {
     if place.expr.is_place() {
@@ -143,7 +169,11 @@ fn next_place(stack: &mut Stack, line: u32, text: Tall, form: Tall, done: Talls,
         stack.push(Frame::ScanPlaces(line, text, form, places))?;
         return Ok(Acted::Goes(Focus::Need));
     }
-    Ok(Acted::Refuses(restore(stack, Some(Frame::ScanPlaces(line, text, form, done)), place)?))
+    Ok(Acted::Refuses(restore(
+        stack,
+        Some(Frame::ScanPlaces(line, text, form, done)),
+        place,
+    )?))
 }
 
 // `)` behind an operand.
@@ -157,8 +187,16 @@ fn closed(alloc: Global, stack: &mut Stack, tree: Tall) -> Result<Acted, AllocEr
             Ok(Acted::Goes(Focus::Have(call(alloc, callee, name, args)?)))
         }
         Some(Frame::InCatch(line)) => Ok(Acted::Goes(Focus::Have(catch(alloc, line, tree)?))),
-        Some(Frame::ScanForm(line, text)) => Ok(Acted::Goes(Focus::Have(sscanf(alloc, line, text, tree, Talls::new(alloc))?))),
-        Some(Frame::ScanPlaces(line, text, form, done)) => end_scan(alloc, stack, line, text, form, done, tree),
+        Some(Frame::ScanForm(line, text)) => Ok(Acted::Goes(Focus::Have(sscanf(
+            alloc,
+            line,
+            text,
+            tree,
+            Talls::new(alloc),
+        )?))),
+        Some(Frame::ScanPlaces(line, text, form, done)) => end_scan(
+            alloc, stack, line, text, form, done, tree,
+        ),
         other => Ok(Acted::Refuses(restore(stack, other, tree)?)),
     }
 }
@@ -168,7 +206,10 @@ fn ended_brace(stack: &mut Stack, tree: Tall) -> Result<Acted, AllocError>
     ensures { Acts (brace_ended (tree_of tree.expr) (stack_of stack.old)) (tree_of tree.expr) (stack_of stack.old) (stack_of stack.new) result }
 {
     match stack.pop() {
-        Some(Frame::InArray(line, done)) => Ok(Acted::Goes(Focus::EndLiteral(array(line, done.with(tree)?)))),
+        Some(Frame::InArray(line, done)) => Ok(Acted::Goes(Focus::EndLiteral(array(
+            line,
+            done.with(tree)?,
+        )))),
         other => Ok(Acted::Refuses(restore(stack, other, tree)?)),
     }
 }
@@ -178,9 +219,16 @@ fn ended_bracket(alloc: Global, stack: &mut Stack, tree: Tall) -> Result<Acted, 
     ensures { Acts (bracket_ended (tree_of tree.expr) (stack_of stack.old)) (tree_of tree.expr) (stack_of stack.old) (stack_of stack.new) result }
 {
     match stack.pop() {
-        Some(Frame::AtValue(line, done, key)) => Ok(Acted::Goes(Focus::EndLiteral(mapping(line, done.with(key, tree)?)))),
-        Some(Frame::InIndex(of, edge)) => Ok(Acted::Goes(Focus::Have(index(alloc, of, edge, tree)?))),
-        Some(Frame::InRange(of, from, edge)) => Ok(Acted::Goes(Focus::Have(end_range(alloc, of, from, edge, tree)?))),
+        Some(Frame::AtValue(line, done, key)) => Ok(Acted::Goes(Focus::EndLiteral(mapping(
+            line,
+            done.with(key, tree)?,
+        )))),
+        Some(Frame::InIndex(of, edge)) => Ok(Acted::Goes(Focus::Have(index(
+            alloc, of, edge, tree,
+        )?))),
+        Some(Frame::InRange(of, from, edge)) => Ok(Acted::Goes(Focus::Have(end_range(
+            alloc, of, from, edge, tree,
+        )?))),
         other => Ok(Acted::Refuses(restore(stack, other, tree)?)),
     }
 }
@@ -238,7 +286,9 @@ fn comma_in_scan(alloc: Global, stack: &mut Stack, tree: Tall) -> Result<Acted, 
             stack.push(Frame::ScanPlaces(line, text, tree, Talls::new(alloc)))?;
             Ok(Acted::Goes(Focus::Need))
         }
-        Some(Frame::ScanPlaces(line, text, form, done)) => next_place(stack, line, text, form, done, tree),
+        Some(Frame::ScanPlaces(line, text, form, done)) => next_place(
+            stack, line, text, form, done, tree,
+        ),
         other => {
             let tree = restore(stack, other, tree)?;
             begin_sequence(alloc, stack, tree)
@@ -251,10 +301,19 @@ fn after_comma(alloc: Global, stack: &mut Stack, tree: Tall) -> Result<Acted, Al
     ensures { Acts (comma_acted (tree_of tree.expr) (stack_of stack.old)) (tree_of tree.expr) (stack_of stack.old) (stack_of stack.new) result }
 {
     match stack.pop() {
-        Some(Frame::InArray(line, done)) => next_item(stack, Frame::InArray(line, done.with(tree)?)),
-        Some(Frame::AtValue(line, done, key)) => next_item(stack, Frame::AtKey(line, done.with(key, tree)?)),
+        Some(Frame::InArray(line, done)) => next_item(
+            stack,
+            Frame::InArray(line, done.with(tree)?),
+        ),
+        Some(Frame::AtValue(line, done, key)) => next_item(
+            stack,
+            Frame::AtKey(line, done.with(key, tree)?),
+        ),
         Some(Frame::InArgs(callee, name, done)) => next_arg(stack, callee, name, done, tree),
-        Some(Frame::InSequence(line, done)) => next_item(stack, Frame::InSequence(line, done.with(tree)?)),
+        Some(Frame::InSequence(line, done)) => next_item(
+            stack,
+            Frame::InSequence(line, done.with(tree)?),
+        ),
         other => {
             let tree = restore(stack, other, tree)?;
             comma_in_scan(alloc, stack, tree)
@@ -314,7 +373,13 @@ fn next_item(stack: &mut Stack, frame: Frame) -> Result<Acted, AllocError>
 }
 
 // A call goes on with its next argument.
-fn next_arg(stack: &mut Stack, callee: Callee, name: Chars, done: Talls, tree: Tall) -> Result<Acted, AllocError>
+fn next_arg(
+    stack: &mut Stack,
+    callee: Callee,
+    name: Chars,
+    done: Talls,
+    tree: Tall,
+) -> Result<Acted, AllocError>
     ensures { OpensTo (InArgs (callee_of callee) name (map tree_of done.items.items ++ tree_of tree.expr ∷ [])) (stack_of stack.old) (stack_of stack.new) result }
 {
     let args = done.with(tree)?;
@@ -323,7 +388,13 @@ fn next_arg(stack: &mut Stack, callee: Callee, name: Chars, done: Talls, tree: T
 }
 
 // A range whose first end is this operand.
-fn begin_end(alloc: Global, stack: &mut Stack, of: Tall, edge: Edge, tree: Tall) -> Result<Acted, AllocError>
+fn begin_end(
+    alloc: Global,
+    stack: &mut Stack,
+    of: Tall,
+    edge: Edge,
+    tree: Tall,
+) -> Result<Acted, AllocError>
     ensures { OpensTo (InRange (tree_of of.expr) (At edge (tree_of tree.expr)) Front) (stack_of stack.old) (stack_of stack.new) result }
 {
     let from = TallEnd::at(alloc, edge, tree)?;
@@ -332,7 +403,13 @@ fn begin_end(alloc: Global, stack: &mut Stack, of: Tall, edge: Edge, tree: Tall)
 }
 
 // A range whose last end is this operand.
-fn end_range(alloc: Global, of: Tall, from: TallEnd, edge: Edge, tree: Tall) -> Result<Tall, AllocError>
+fn end_range(
+    alloc: Global,
+    of: Tall,
+    from: TallEnd,
+    edge: Edge,
+    tree: Tall,
+) -> Result<Tall, AllocError>
     ensures { IfOk result (λ t. tree_of t.expr ≡ Range (line_of (tree_of of.expr)) (tree_of of.expr) (end_of from.bound) (At edge (tree_of tree.expr))) }
 {
     let to = TallEnd::at(alloc, edge, tree)?;

@@ -6,16 +6,14 @@ ghost use Rattle.lp_parser_expr.specs.Capped.{pair_of, end_of};
 ghost use Rattle.lp_parser_expr.specs.Machine.{called, plug as plugged, infix_tree, Stepping};
 ghost use Rattle.lp_parser_expr.specs.View.{callee_of, frame_of, tree_in};
 
-use std::alloc::{AllocError, Global};
-
+use crate::frame::{Callee, Frame};
+use crate::infix::Infix;
+use crate::tall::{Tall, TallEnd, TallPairs, Talls, deeper};
 use lp_tree::chars::Chars;
 use lp_tree::expr::{Edge, Expr};
 use lp_tree::operator::{AssignOp, Step, UnOp};
 use lp_tree::types::TypeName;
-
-use crate::frame::{Callee, Frame};
-use crate::infix::Infix;
-use crate::tall::{Tall, TallEnd, TallPairs, Talls, deeper};
+use std::alloc::{AllocError, Global};
 
 /// An expression of one level.
 pub fn leaf(expr: Expr) -> Tall
@@ -31,7 +29,10 @@ pub fn paren(alloc: Global, line: u32, inner: Tall) -> Result<Tall, AllocError>
 {
     let height = deeper(inner.height);
     let inner = Box::new(alloc, inner.expr)?;
-    Ok(Tall { expr: Expr::Paren { line, inner }, height })
+    Ok(Tall {
+        expr: Expr::Paren { line, inner },
+        height,
+    })
 }
 
 /// `catch(inner)`
@@ -40,7 +41,10 @@ pub fn catch(alloc: Global, line: u32, inner: Tall) -> Result<Tall, AllocError>
 {
     let height = deeper(inner.height);
     let inner = Box::new(alloc, inner.expr)?;
-    Ok(Tall { expr: Expr::Catch { line, inner }, height })
+    Ok(Tall {
+        expr: Expr::Catch { line, inner },
+        height,
+    })
 }
 
 /// `({ items })`
@@ -49,7 +53,13 @@ pub fn array(line: u32, items: Talls) -> Tall
     ensures { tree_of result.expr ≡ Array line (trees (map tree_of items.items.items)) }
 {
     let height = deeper(items.tallest);
-    Tall { expr: Expr::Array { line, items: items.items }, height }
+    Tall {
+        expr: Expr::Array {
+            line,
+            items: items.items,
+        },
+        height,
+    }
 }
 
 /// `([ pairs ])`
@@ -58,7 +68,13 @@ pub fn mapping(line: u32, pairs: TallPairs) -> Tall
     ensures { tree_of result.expr ≡ Mapping line (all_pairs (map pair_of pairs.pairs.items)) }
 {
     let height = deeper(pairs.tallest);
-    Tall { expr: Expr::Mapping { line, pairs: pairs.pairs }, height }
+    Tall {
+        expr: Expr::Mapping {
+            line,
+            pairs: pairs.pairs,
+        },
+        height,
+    }
 }
 
 /// The call of a function of this name.
@@ -69,28 +85,67 @@ pub fn call(alloc: Global, callee: Callee, name: Chars, args: Talls) -> Result<T
     let height = deeper(args.tallest);
     let args = args.items;
     match callee {
-        Callee::Function(line) => Ok(Tall { expr: Expr::Call { line, name, args }, height }),
-        Callee::Efun(line) => Ok(Tall { expr: Expr::EfunCall { line, name, args }, height }),
-        Callee::Parent(line) => Ok(Tall { expr: Expr::ParentCall { line, name, args }, height }),
-        Callee::NamedParent(line, parent) => Ok(Tall { expr: Expr::NamedParentCall { line, parent, name, args }, height }),
+        Callee::Function(line) => Ok(Tall {
+            expr: Expr::Call { line, name, args },
+            height,
+        }),
+        Callee::Efun(line) => Ok(Tall {
+            expr: Expr::EfunCall { line, name, args },
+            height,
+        }),
+        Callee::Parent(line) => Ok(Tall {
+            expr: Expr::ParentCall { line, name, args },
+            height,
+        }),
+        Callee::NamedParent(line, parent) => Ok(Tall {
+            expr: Expr::NamedParentCall {
+                line,
+                parent,
+                name,
+                args,
+            },
+            height,
+        }),
         Callee::Other(of) => {
             let line = of.expr.line();
             let height = height.max(deeper(of.height));
             let of = Box::new(alloc, of.expr)?;
-            Ok(Tall { expr: Expr::CallOther { line, of, name, args }, height })
+            Ok(Tall {
+                expr: Expr::CallOther {
+                    line,
+                    of,
+                    name,
+                    args,
+                },
+                height,
+            })
         }
     }
 }
 
 /// `sscanf(text, form, places)`
 #[tactic(auto, using(crate::proofs::Nodes::scan_height))]
-pub fn sscanf(alloc: Global, line: u32, text: Tall, form: Tall, places: Talls) -> Result<Tall, AllocError>
+pub fn sscanf(
+    alloc: Global,
+    line: u32,
+    text: Tall,
+    form: Tall,
+    places: Talls,
+) -> Result<Tall, AllocError>
     ensures { IfOk result (λ t. tree_of t.expr ≡ Sscanf line (tree_of text.expr) (tree_of form.expr) (trees (map tree_of places.items.items))) }
 {
     let height = deeper(text.height.max(form.height.max(places.tallest)));
     let text = Box::new(alloc, text.expr)?;
     let form = Box::new(alloc, form.expr)?;
-    Ok(Tall { expr: Expr::Sscanf { line, text, form, places: places.items }, height })
+    Ok(Tall {
+        expr: Expr::Sscanf {
+            line,
+            text,
+            form,
+            places: places.items,
+        },
+        height,
+    })
 }
 
 /// `of[at]`
@@ -101,7 +156,10 @@ pub fn index(alloc: Global, of: Tall, edge: Edge, at: Tall) -> Result<Tall, Allo
     let height = deeper(of.height.max(at.height));
     let of = Box::new(alloc, of.expr)?;
     let at = Box::new(alloc, at.expr)?;
-    Ok(Tall { expr: Expr::Index { line, of, edge, at }, height })
+    Ok(Tall {
+        expr: Expr::Index { line, of, edge, at },
+        height,
+    })
 }
 
 /// `of[from .. to]`
@@ -112,7 +170,15 @@ pub fn range(alloc: Global, of: Tall, from: TallEnd, to: TallEnd) -> Result<Tall
     let line = of.expr.line();
     let height = deeper(of.height.max(from.height.max(to.height)));
     let of = Box::new(alloc, of.expr)?;
-    Ok(Tall { expr: Expr::Range { line, of, from: from.bound, to: to.bound }, height })
+    Ok(Tall {
+        expr: Expr::Range {
+            line,
+            of,
+            from: from.bound,
+            to: to.bound,
+        },
+        height,
+    })
 }
 
 /// `place++`
@@ -122,7 +188,10 @@ pub fn post_step(alloc: Global, step: Step, place: Tall) -> Result<Tall, AllocEr
     let line = place.expr.line();
     let height = deeper(place.height);
     let place = Box::new(alloc, place.expr)?;
-    Ok(Tall { expr: Expr::PostStep { line, step, place }, height })
+    Ok(Tall {
+        expr: Expr::PostStep { line, step, place },
+        height,
+    })
 }
 
 // An operator with both its operands.
@@ -134,9 +203,23 @@ fn infix(alloc: Global, op: Infix, left: Tall, right: Tall) -> Result<Tall, Allo
     let left = Box::new(alloc, left.expr)?;
     let right = Box::new(alloc, right.expr)?;
     match op {
-        Infix::Plain(op) => Ok(Tall { expr: Expr::Binary { line, op, left, right }, height }),
-        Infix::And => Ok(Tall { expr: Expr::AndThen { line, left, right }, height }),
-        Infix::Or => Ok(Tall { expr: Expr::OrElse { line, left, right }, height }),
+        Infix::Plain(op) => Ok(Tall {
+            expr: Expr::Binary {
+                line,
+                op,
+                left,
+                right,
+            },
+            height,
+        }),
+        Infix::And => Ok(Tall {
+            expr: Expr::AndThen { line, left, right },
+            height,
+        }),
+        Infix::Or => Ok(Tall {
+            expr: Expr::OrElse { line, left, right },
+            height,
+        }),
     }
 }
 
@@ -146,7 +229,10 @@ fn unary(alloc: Global, line: u32, op: UnOp, of: Tall) -> Result<Tall, AllocErro
 {
     let height = deeper(of.height);
     let of = Box::new(alloc, of.expr)?;
-    Ok(Tall { expr: Expr::Unary { line, op, of }, height })
+    Ok(Tall {
+        expr: Expr::Unary { line, op, of },
+        height,
+    })
 }
 
 // A cast with its operand.
@@ -155,7 +241,10 @@ fn cast(alloc: Global, line: u32, to: TypeName, of: Tall) -> Result<Tall, AllocE
 {
     let height = deeper(of.height);
     let of = Box::new(alloc, of.expr)?;
-    Ok(Tall { expr: Expr::Cast { line, to, of }, height })
+    Ok(Tall {
+        expr: Expr::Cast { line, to, of },
+        height,
+    })
 }
 
 // `++place`, where it is a place.
@@ -167,7 +256,10 @@ fn pre_step(alloc: Global, line: u32, step: Step, place: Tall) -> Result<Option<
     }
     let height = deeper(place.height);
     let place = Box::new(alloc, place.expr)?;
-    Ok(Some(Tall { expr: Expr::PreStep { line, step, place }, height }))
+    Ok(Some(Tall {
+        expr: Expr::PreStep { line, step, place },
+        height,
+    }))
 }
 
 // `test ? yes : no`
@@ -179,7 +271,15 @@ fn cond(alloc: Global, test: Tall, yes: Tall, no: Tall) -> Result<Tall, AllocErr
     let test = Box::new(alloc, test.expr)?;
     let yes = Box::new(alloc, yes.expr)?;
     let no = Box::new(alloc, no.expr)?;
-    Ok(Tall { expr: Expr::Cond { line, test, yes, no }, height })
+    Ok(Tall {
+        expr: Expr::Cond {
+            line,
+            test,
+            yes,
+            no,
+        },
+        height,
+    })
 }
 
 // `place = value`
@@ -190,7 +290,15 @@ fn assign(alloc: Global, op: AssignOp, place: Tall, value: Tall) -> Result<Tall,
     let height = deeper(place.height.max(value.height));
     let place = Box::new(alloc, place.expr)?;
     let value = Box::new(alloc, value.expr)?;
-    Ok(Tall { expr: Expr::Assign { line, op, place, value }, height })
+    Ok(Tall {
+        expr: Expr::Assign {
+            line,
+            op,
+            place,
+            value,
+        },
+        height,
+    })
 }
 
 // `part, part, last`
@@ -199,7 +307,13 @@ fn sequence(line: u32, parts: Talls) -> Tall
     ensures { tree_of result.expr ≡ Sequence line (trees (map tree_of parts.items.items)) }
 {
     let height = deeper(parts.tallest);
-    Tall { expr: Expr::Sequence { line, parts: parts.items }, height }
+    Tall {
+        expr: Expr::Sequence {
+            line,
+            parts: parts.items,
+        },
+        height,
+    }
 }
 
 /// The production with its last part, where that part may stand there.

@@ -7,17 +7,21 @@ ghost use Rattle.lp_parser_expr.specs.Moves.{Settled, state_of};
 ghost use Rattle.lp_parser_expr.specs.StackView.{stack_of};
 ghost use Rattle.lp_parser_expr.specs.View.{tree_in};
 
-use std::alloc::{AllocError, Global};
-
 use crate::build::plug;
 use crate::focus::Focus;
 use crate::frame::Frame;
 use crate::stack::Stack;
 use crate::tall::Tall;
+use std::alloc::{AllocError, Global};
 
 /// Ends the productions that a token of this level ends. None where one of them cannot end with its last part.
 #[tactic(auto, using(crate::proofs::Settles::settle_stops, crate::proofs::Settles::settle_goes, crate::proofs::Settles::settle_fails))]
-pub fn settle(alloc: Global, stack: &mut Stack, tree: Tall, level: u8) -> Result<Option<Tall>, AllocError>
+pub fn settle(
+    alloc: Global,
+    stack: &mut Stack,
+    tree: Tall,
+    level: u8,
+) -> Result<Option<Tall>, AllocError>
     ensures { IfOk result (λ o. Settled level (tree_of tree.expr) (stack_of stack.old) (stack_of stack.new) o) }
 {
     let mut tree = tree;

@@ -2,7 +2,6 @@
 ghost use Rattle.std.specs.Prelude.{◌≡◌};
 
 use std::alloc::AllocError;
-
 use thiserror::Error;
 
 /// Why tokens are no expression.
@@ -27,6 +26,7 @@ pub enum ParseFault {
 
 impl From<AllocError> for ParseFault {
     ghost use Rattle.lp_parser_expr.specs.declared.fault.ParseFault.TheVariants.{NoMemory};
+
     ghost from_gives = { λ _ e. e ≡ NoMemory };
 
     fn from(_: AllocError) -> Self {
@@ -47,6 +47,7 @@ pub enum Stop {
 
 impl From<AllocError> for Stop {
     ghost use Rattle.lp_parser_expr.specs.declared.fault.Stop.TheVariants.{NoMemory};
+
     ghost from_gives = { λ _ e. e ≡ NoMemory };
 
     fn from(_: AllocError) -> Self {

@@ -1,8 +1,7 @@
 //! What the machine waits for.
-use lp_tree::types::TypeName;
-
 use crate::frame::{Callee, Frame};
 use crate::tall::Tall;
+use lp_tree::types::TypeName;
 
 /// What the machine waits for.
 #[derive(Drop)]

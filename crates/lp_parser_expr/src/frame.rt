@@ -4,13 +4,12 @@ ghost use Rattle.lp_parser_expr.specs.Machine.{needs as frame_needs, wants as fr
 ghost use Rattle.lp_parser_expr.specs.View.{frame_of};
 ghost use Rattle.lp_tree.specs.Trees.{level};
 
+use crate::infix::Infix;
+use crate::tall::{Tall, TallEnd, TallPairs, Talls};
 use lp_tree::chars::Chars;
 use lp_tree::expr::Edge;
 use lp_tree::operator::{AssignOp, BinOp, Step, UnOp};
 use lp_tree::types::TypeName;
-
-use crate::infix::Infix;
-use crate::tall::{Tall, TallEnd, TallPairs, Talls};
 
 /// Whose function a call names, with the line of the call's first token.
 #[derive(Drop)]
@@ -120,7 +119,11 @@ impl Frame {
         ensures { result ≡ frame_wants (frame_of self.now) }
     {
         match self {
-            Frame::InParen(_) | Frame::InCatch(_) | Frame::InIndex(_, _) | Frame::InRange(_, _, _) | Frame::Testing(_) => 0,
+            Frame::InParen(_)
+            | Frame::InCatch(_)
+            | Frame::InIndex(_, _)
+            | Frame::InRange(_, _, _)
+            | Frame::Testing(_) => 0,
             Frame::ScanPlaces(_, _, _, _) | Frame::Stepping(_, _) => 15,
             Frame::UnaryOf(_, _) | Frame::Casting(_, _) => 14,
             Frame::LeftOf(op, _) => level_of(*op) + 1,

@@ -16,3 +16,9 @@ pub mod operand;
 pub mod reading;
 pub mod stack;
 pub mod tall;
+
+pub use fault::ParseFault;
+pub use reading::expr;
+
+#[cfg(test)]
+mod tests;

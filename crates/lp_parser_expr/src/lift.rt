@@ -82,7 +82,10 @@ pub fn own_lift(frame: &Frame, is_place: bool) -> Lift
     }
     if wants_place(frame) && !is_place {
         // what is no place yet is indexed, by something of one level
-        return Lift { floor: floor.max(3), rise: 2 };
+        return Lift {
+            floor: floor.max(3),
+            rise: 2,
+        };
     }
     Lift { floor, rise: 1 }
 }
@@ -109,7 +112,9 @@ pub fn levels_ended(frame: &Frame) -> Option<u32>
     ensures { result ≡ option_map capped (ended (frame_of frame.now)) }
 {
     match frame {
-        Frame::InArgs(_, _, _) | Frame::InArray(_, _) | Frame::ScanPlaces(_, _, _, _) => Some(deeper(beside(frame))),
+        Frame::InArgs(_, _, _) | Frame::InArray(_, _) | Frame::ScanPlaces(_, _, _, _) => Some(
+            deeper(beside(frame)),
+        ),
         Frame::AtKey(_, done) => Some(deeper(done.tallest)),
         Frame::InParen(_) => Some(1),
         _ => None,

@@ -6,13 +6,6 @@ ghost use Rattle.lp_parser_expr.specs.Moves.{Moves, MovesOn, state_of};
 ghost use Rattle.lp_parser_expr.specs.StackView.{stack_of};
 ghost use Rattle.lp_parser_expr.specs.View.{callee_of, frame_of};
 
-use std::alloc::{AllocError, Global};
-
-use lp_tree::operator::BinOp;
-use lp_tree::seen::{Seen, Sort};
-use lp_tree::token::Mark;
-use lp_tree::types::TypeName;
-
 use crate::behind::act;
 use crate::ending::{finish_tree, settle};
 use crate::focus::{Acted, Focus, Moved};
@@ -20,6 +13,11 @@ use crate::frame::{Callee, Frame, op_level};
 use crate::operand::begin;
 use crate::stack::Stack;
 use crate::tall::{Tall, Talls};
+use lp_tree::operator::BinOp;
+use lp_tree::seen::{Seen, Sort};
+use lp_tree::token::Mark;
+use lp_tree::types::TypeName;
+use std::alloc::{AllocError, Global};
 
 // The level of a mark: the least level of the operand before it.
 fn binds_mark(mark: Mark) -> u8
@@ -76,7 +74,13 @@ fn end_cast(stack: &mut Stack, line: u32, to: TypeName, sort: Sort) -> Result<Mo
                 // so many stars are longer than any memory holds
                 return Err(AllocError);
             }
-            Ok(Moved::Goes(Focus::EndCast(line, TypeName { base: to.base, stars: to.stars + 1 })))
+            Ok(Moved::Goes(Focus::EndCast(
+                line,
+                TypeName {
+                    base: to.base,
+                    stars: to.stars + 1,
+                },
+            )))
         }
         Sort::Mark(Mark::CloseParen) => {
             stack.push(Frame::Casting(line, to))?;
@@ -105,7 +109,11 @@ fn need_name(alloc: Global, callee: Callee, sort: Sort) -> Moved
     ensures { (s : Frames) → MovesOn (name_needed sort (callee_of callee) s) None s (Ok result) }
 {
     match sort {
-        Sort::Name(name) => Moved::Goes(Focus::NeedParen(Frame::InArgs(callee, name, Talls::new(alloc)))),
+        Sort::Name(name) => Moved::Goes(Focus::NeedParen(Frame::InArgs(
+            callee,
+            name,
+            Talls::new(alloc),
+        ))),
         other => {
             drop(other);
             Moved::Ends(None)

@@ -5,28 +5,30 @@ ghost use Rattle.lp_parser_expr.specs.Moves.{Begins};
 ghost use Rattle.lp_parser_expr.specs.StackView.{stack_of};
 ghost use Rattle.lp_tree.specs.declared.token.Mark.TheVariants.{OpenParen};
 
-use std::alloc::{AllocError, Global};
-
+use crate::build::{array, call, leaf, mapping, range, sscanf};
+use crate::focus::Focus;
+use crate::frame::{Callee, Frame};
+use crate::stack::Stack;
+use crate::tall::{TallEnd, TallPairs, Talls};
 use lp_tree::expr::{Edge, Expr};
 use lp_tree::keyword::{Base, Keyword};
 use lp_tree::operator::{BinOp, Step, UnOp};
 use lp_tree::seen::Sort;
 use lp_tree::token::Mark;
 use lp_tree::types::TypeName;
-
-use crate::build::{array, call, leaf, mapping, range, sscanf};
-use crate::focus::Focus;
-use crate::frame::{Callee, Frame};
-use crate::stack::Stack;
-use crate::tall::{TallEnd, TallPairs, Talls};
+use std::alloc::{AllocError, Global};
 
 // `)` where an operand may be missing.
 fn empty_paren(alloc: Global, stack: &mut Stack) -> Result<Option<Focus>, AllocError>
     ensures { Begins (paren_emptied (stack_of stack.old)) (stack_of stack.new) result }
 {
     match stack.pop() {
-        Some(Frame::InArgs(callee, name, done)) => Ok(Some(Focus::Have(call(alloc, callee, name, done)?))),
-        Some(Frame::ScanPlaces(line, text, form, done)) => Ok(Some(Focus::Have(sscanf(alloc, line, text, form, done)?))),
+        Some(Frame::InArgs(callee, name, done)) => Ok(Some(Focus::Have(call(
+            alloc, callee, name, done,
+        )?))),
+        Some(Frame::ScanPlaces(line, text, form, done)) => Ok(Some(Focus::Have(sscanf(
+            alloc, line, text, form, done,
+        )?))),
         other => {
             drop(other);
             Ok(None)
@@ -56,7 +58,12 @@ fn empty_bracket(alloc: Global, stack: &mut Stack) -> Result<Option<Focus>, Allo
 {
     match stack.pop() {
         Some(Frame::AtKey(line, done)) => Ok(Some(Focus::EndLiteral(mapping(line, done)))),
-        Some(Frame::InRange(of, from, Edge::Front)) => Ok(Some(Focus::Have(range(alloc, of, from, TallEnd::open())?))),
+        Some(Frame::InRange(of, from, Edge::Front)) => Ok(Some(Focus::Have(range(
+            alloc,
+            of,
+            from,
+            TallEnd::open(),
+        )?))),
         other => {
             drop(other);
             Ok(None)
@@ -194,7 +201,12 @@ fn begin_paren(stack: &mut Stack, line: u32) -> Result<Option<Focus>, AllocError
 }
 
 // A mark.
-fn begin_mark(alloc: Global, stack: &mut Stack, mark: Mark, line: u32) -> Result<Option<Focus>, AllocError>
+fn begin_mark(
+    alloc: Global,
+    stack: &mut Stack,
+    mark: Mark,
+    line: u32,
+) -> Result<Option<Focus>, AllocError>
     ensures { Begins (mark_begun mark line (stack_of stack.old)) (stack_of stack.new) result }
 {
     match mark {
@@ -227,7 +239,12 @@ fn begin_word(stack: &mut Stack, word: Keyword, line: u32) -> Result<Option<Focu
 }
 
 /// A token where an operand is waited for. None where none begins so.
-pub fn begin(alloc: Global, stack: &mut Stack, sort: Sort, line: u32) -> Result<Option<Focus>, AllocError>
+pub fn begin(
+    alloc: Global,
+    stack: &mut Stack,
+    sort: Sort,
+    line: u32,
+) -> Result<Option<Focus>, AllocError>
     ensures { Begins (begun sort line (stack_of stack.old)) (stack_of stack.new) result }
 {
     match sort {

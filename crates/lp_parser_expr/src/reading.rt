@@ -9,12 +9,6 @@ ghost use Rattle.lp_parser_expr.specs.StackView.{stack_of};
 ghost use Rattle.lp_parser_expr.specs.Theorem.{IsFault, IsRead, IsUnlessMemory, Stops, levels_at, line_of_place};
 ghost use Rattle.lp_parser_expr.specs.View.{frame_of};
 
-use std::alloc::{AllocError, Global};
-
-use lp_tree::expr::Expr;
-use lp_tree::seen::see;
-use lp_tree::token::Token;
-
 use crate::ending::finish;
 use crate::fault::{ParseFault, Stop};
 use crate::focus::{Focus, Moved};
@@ -23,6 +17,10 @@ use crate::lift::{callee_levels, levels_ended, lifted, makes_place, own_lift};
 use crate::machine::step;
 use crate::stack::Stack;
 use crate::tall::{Tall, deeper};
+use lp_tree::expr::Expr;
+use lp_tree::seen::see;
+use lp_tree::token::Token;
+use std::alloc::{AllocError, Global};
 
 /// The deepest that anything of a program may lie.
 const DEEPEST: u32 = 200;
@@ -104,7 +102,12 @@ fn rest(tokens: &[Token], from: usize) -> &[Token]
 /// `Unexpected` has the line of the first token with which no expression goes on, where what stands before it is none,
 /// or of the last token where the tokens end too early, or 0 where there is none. `TooNested` has the line of the first
 /// token up to which each expression that begins so has a part deeper than 200.
-pub fn expr(alloc: Global, tokens: &[Token], from: usize, depth: u32) -> Result<(Expr, usize), ParseFault>
+pub fn expr(
+    alloc: Global,
+    tokens: &[Token],
+    from: usize,
+    depth: u32,
+) -> Result<(Expr, usize), ParseFault>
     // What is read is spelled so, and nothing longer is begun.
     ensures found { IfOk result (λ r. (n : ℕ) × (r.1 ≡ from + n) × IsRead (levels_at depth) (drop from tokens.now) n (tree_of r.0)) }
     // What is spelled so is read, unless memory runs out.
@@ -117,7 +120,11 @@ pub fn expr(alloc: Global, tokens: &[Token], from: usize, depth: u32) -> Result<
     match read(alloc, rest, limit) {
         Ok((whole, count)) => Ok((whole.expr, from + count)),
         Err(Stop::NoMemory) => Err(ParseFault::NoMemory),
-        Err(Stop::Unexpected(at)) => Err(ParseFault::Unexpected { line: line_at(tokens, rest, at) }),
-        Err(Stop::TooNested(at)) => Err(ParseFault::TooNested { line: line_at(tokens, rest, at) }),
+        Err(Stop::Unexpected(at)) => Err(ParseFault::Unexpected {
+            line: line_at(tokens, rest, at),
+        }),
+        Err(Stop::TooNested(at)) => Err(ParseFault::TooNested {
+            line: line_at(tokens, rest, at),
+        }),
     }
 }

@@ -2,11 +2,10 @@
 ghost use Rattle.std.specs.Prelude.{[]};
 ghost use Rattle.lp_parser_expr.specs.Levels.{AllRight, AllRight-prop};
 
-use std::alloc::{AllocError, Global};
-
 use crate::frame::Frame;
 use crate::lift::{inside, levels_ended, lifted, makes_place, own_lift};
 use crate::open::{Lift, Open};
+use std::alloc::{AllocError, Global};
 
 /// The open productions, the outermost first.
 #[derive(Drop)]
@@ -28,7 +27,9 @@ impl Stack {
     pub fn new(alloc: Global) -> Stack
         ensures { stack_of result ≡ [] }
     {
-        Stack { frames: Vec::new(alloc) }
+        Stack {
+            frames: Vec::new(alloc),
+        }
     }
 
     /// An assign is read, which ends by what stands round it.
@@ -66,7 +67,12 @@ impl Stack {
             Some(levels) => lifted(self.lift(false), levels),
             None => lifted(place, 1),
         };
-        Open { frame, place, other, least }
+        Open {
+            frame,
+            place,
+            other,
+            least,
+        }
     }
 
     /// One more open production. On `Err` the stack is as it was.

@@ -5,9 +5,8 @@ ghost use Rattle.lp_tree.specs.TreeView.{tree_of};
 ghost use Rattle.lp_parser_expr.specs.Depth.{tallest as levels_of_tallest, tallest_pair as levels_of_pairs};
 ghost use Rattle.lp_parser_expr.specs.Capped.{capped, pair_of, end_of};
 
-use std::alloc::{AllocError, Global};
-
 use lp_tree::expr::{Bound, Edge, Expr};
+use std::alloc::{AllocError, Global};
 
 /// An expression with its levels of nesting.
 #[derive(Drop)]

@@ -10,4 +10,5 @@ use Rattle.lp_parser_expr.proofs.reading.read.Given as goal
 abbrev pub invariant-loop-i : goal.invariant-loop-i
 invariant-loop-i l = record {
   walked : walk (Need []) (sight (take l.i l.tokens)) ≡ Some (state_of l.focus (stack_of l.stack));
-  shallow : 0 < l.i → least (state_of l.focus (stack_of l.stack)) ≤ l.limit }
+  shallow : 0 < l.i → least (state_of l.focus (stack_of l.stack)) ≤ l.limit;
+}

@@ -5,5 +5,5 @@ use Rattle.lp_parser_expr.proofs.stack.Stack.least.Goals as goal
 
 pub returns : goal.returns
 returns c =
-  let size : c.len.result ≡ length c.args.self.now.frames.items = c.len.ensures ∙ c.args.self.now.frames.ok.0 in let some : 0 < c.len.result = grind (arith, nat_tests) in
-  (top_right _ c.len.result _ size some c.index.ensures c.args.self.now.right).1.1
+    let size : c.len.result ≡ length c.args.self.now.frames.items = c.len.ensures ∙ c.args.self.now.frames.ok.0 in let some : 0 < c.len.result = grind (arith, nat_tests) in
+    (top_right _ c.len.result _ size some c.index.ensures c.args.self.now.right).1.1

@@ -6,10 +6,10 @@ use Rattle.lp_parser_expr.proofs.stack.Stack.lift.Goals as goal
 
 pub returns-then-is_place : goal.returns-then-is_place
 returns-then-is_place c =
-  let size : c.len.result ≡ length c.args.self.now.frames.items = c.len.ensures ∙ c.args.self.now.frames.ok.0 in let some : 0 < c.len.result = grind (arith, nat_tests) in
-  lift_as _ (stack_of c.args.self.now) true c.args.is_place (sym c.if-is_place.true) (top_right _ c.len.result _ size some c.index-open.ensures c.args.self.now.right).0
+    let size : c.len.result ≡ length c.args.self.now.frames.items = c.len.ensures ∙ c.args.self.now.frames.ok.0 in let some : 0 < c.len.result = grind (arith, nat_tests) in
+    lift_as _ (stack_of c.args.self.now) true c.args.is_place (sym c.if-is_place.true) (top_right _ c.len.result _ size some c.index-open.ensures c.args.self.now.right).0
 
 pub returns : goal.returns
 returns c =
-  let size : c.len.result ≡ length c.args.self.now.frames.items = c.len.ensures ∙ c.args.self.now.frames.ok.0 in let some : 0 < c.len.result = grind (arith, nat_tests) in
-  lift_as _ (stack_of c.args.self.now) false c.args.is_place (sym c.if-is_place.false) (top_right _ c.len.result _ size some c.index-open.ensures c.args.self.now.right).1.0
+    let size : c.len.result ≡ length c.args.self.now.frames.items = c.len.ensures ∙ c.args.self.now.frames.ok.0 in let some : 0 < c.len.result = grind (arith, nat_tests) in
+    lift_as _ (stack_of c.args.self.now) false c.args.is_place (sym c.if-is_place.false) (top_right _ c.len.result _ size some c.index-open.ensures c.args.self.now.right).1.0
