@@ -1,5 +1,5 @@
 -- Reserved words are found by their letters alone.
-use Rattle.std.proofs.Common.{◌≡◌, ℕ, List, [], ◌∷◌, Bool, true, false, cond, refl, ap, sym, ◌∙◌, subst}
+use Rattle.std.proofs.Common.{◌≡◌, ℕ, List, [], ◌∷◌, Bool, true, false, cond, refl, ap, ◌∙◌, subst}
 use Rattle.std.specs.Prelude.{Option, Some, None, find, bytes_eq}
 use Rattle.std.proofs.lemmas.Slice.Eq.{bytes_eq-Decides}
 use Rattle.lp_tree.specs.declared.keyword.Modifier.{Modifier as ModifierWord}
@@ -7,7 +7,7 @@ use Rattle.lp_tree.specs.declared.keyword.Modifier.TheVariants as modifiers
 use Rattle.lp_tree.specs.declared.keyword.Base.{Base as BaseWord}
 use Rattle.lp_tree.specs.declared.keyword.Base.TheVariants as bases
 use Rattle.lp_tree.specs.declared.keyword.Keyword.{Keyword}
-use Rattle.lp_tree.specs.declared.keyword.Keyword.TheVariants.{Modifier, Base, Inherit, If, Else, While, Do, For, Foreach, Switch, Case, Default, Break, Continue, Return, Catch, Sscanf}
+use Rattle.lp_tree.specs.declared.keyword.Keyword.TheVariants.{Modifier, Base}
 use Rattle.lp_tree.specs.Keywords.{modifier_letters, base_letters, letters, modifier_words, base_words, other_words, modifier_of, base_of, other_of, either_of, keyword_of}
 
 find-step : {A : Type 0} (p : A → Bool) (y x : A) (o : Option A) (b : Bool) → p y ≡ b → cond b (Some y) o ≡ Some x → (o ≡ Some x → p x ≡ true) → p x ≡ true

@@ -1,5 +1,5 @@
 -- Which tokens spell which expression.
-use Rattle.std.specs.Prelude.{◌≡◌, ℕ, ℤ, ◌≤◌, ◌<◌, List, [], ◌∷◌, Bool, IsTrue, codes}
+use Rattle.std.specs.Prelude.{ℕ, ℤ, ◌≤◌, ◌<◌, List, ◌∷◌, IsTrue, codes}
 use Rattle.lp_tree.specs.declared.keyword.Keyword.TheVariants as words
 use Rattle.lp_tree.specs.declared.operator.UnOp.{UnOp}
 use Rattle.lp_tree.specs.declared.operator.UnOp.TheVariants.{Not, Flip, Neg}

@@ -1,5 +1,5 @@
 -- Reserved words and their letters.
-use Rattle.std.specs.Prelude.{◌≡◌, ℕ, List, [], ◌∷◌, Bool, Option, Some, None, option_map, codes, find, bytes_eq}
+use Rattle.std.specs.Prelude.{◌≡◌, ℕ, List, [], ◌∷◌, Option, Some, None, codes, find, bytes_eq}
 use Rattle.lp_tree.specs.declared.keyword.Modifier.{Modifier as ModifierWord}
 use Rattle.lp_tree.specs.declared.keyword.Modifier.TheVariants as modifiers
 use Rattle.lp_tree.specs.declared.keyword.Base.{Base as BaseWord}

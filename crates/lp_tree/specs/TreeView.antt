@@ -1,5 +1,5 @@
 -- The tree that an expression stands for.
-use Rattle.std.specs.Prelude.{ℕ, List, map, Box}
+use Rattle.std.specs.Prelude.{Box}
 use Rattle.std.specs.declared.alloc.Global.{Global}
 use Rattle.lp_tree.specs.declared.expr.Expr.{Expr}
 use Rattle.lp_tree.specs.declared.expr.Expr.TheOpen as layer

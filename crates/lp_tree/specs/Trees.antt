@@ -1,5 +1,5 @@
 -- Expressions without where they lie in memory.
-use Rattle.std.specs.Prelude.{◌≡◌, ℕ, ℤ, List, [], ◌∷◌, Bool, true, false, IsTrue, max, suc}
+use Rattle.std.specs.Prelude.{ℕ, ℤ, List, [], ◌∷◌, Bool, true, false, max, suc}
 use Rattle.lp_tree.specs.declared.operator.UnOp.{UnOp}
 use Rattle.lp_tree.specs.declared.operator.BinOp.{BinOp}
 use Rattle.lp_tree.specs.declared.operator.BinOp.TheVariants as ops

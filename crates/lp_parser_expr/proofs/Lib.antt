@@ -1,0 +1,12 @@
+pub mod Settle
+pub mod Complete
+pub mod Sound
+pub mod Shallow
+pub mod Viable
+pub mod Lists
+pub mod Nodes
+pub mod Stacks
+pub mod Settles
+pub mod Main
+pub mod Readings
+pub mod Replies

@@ -1,0 +1,9 @@
+use Rattle.std.proofs.Common.{arith, ◌∙◌, ◌<◌, ◌≡◌, length}
+use Rattle.std.proofs.lemmas.Bool.Decides.{nat_tests}
+use Rattle.lp_parser_expr.proofs.Stacks.{top_right}
+use Rattle.lp_parser_expr.proofs.stack.Stack.least.Goals as goal
+
+pub returns : goal.returns
+returns c =
+    let size : c.len.result ≡ length c.args.self.now.frames.items = c.len.ensures ∙ c.args.self.now.frames.ok.0 in let some : 0 < c.len.result = grind (arith, nat_tests) in
+    (top_right _ c.len.result _ size some c.index.ensures c.args.self.now.right).1.1
