@@ -13,7 +13,7 @@ use Rattle.lp_lexer.specs.declared.sign.Sign.{Sign}
 use Rattle.lp_lexer.specs.Source.{Rest, skipped, signs, joins, line_after, width, characters, end_of}
 use Rattle.lp_lexer.specs.Forms.{read}
 use Rattle.lp_lexer.specs.Lexis.{Place, Comment, begin, begin_of, is_blank, opens_line, opens_block, past_blank, past_line_comment, past_comment, comment_at, past_token, token_from, next_by, next, Reaches, here, more, IsLexed}
-use Rattle.lp_lexer.specs.Laws.{AreApart, IsOfToken, IsOfJoin, IsAccounted}
+use Rattle.lp_lexer.specs.Laws.{AreDisjoint, IsOfToken, IsOfJoin, IsAccounted}
 use Rattle.lp_lexer.proofs.Advances.{Advances, next-advances}
 use Rattle.lp_lexer.proofs.Order.{IsOrdered, reached-ordered, begin-ordered, ordered_within, reaches-advances}
 use Rattle.lp_lexer.proofs.Decoding.{characters-utf8, width-utf8}
@@ -56,29 +56,29 @@ step_end limit behind s ss r o a = from_signs a.signs a.enough a.is where
   from_signs (suc n) h e = let k = skipped_end n (end_of s) ss o.1 in omega (arith, k, ap (λ (x : Rest). x.behind) e)
 
 -- tokens that are apart, with one more
-apart-more : (from to : ℕ) (ts : List Token) (t : Token) → AreApart from ts to → to ≤ t.at → 0 < t.len → AreApart from (ts ++ t ∷ []) (t.at + t.len)
+apart-more : (from to : ℕ) (ts : List Token) (t : Token) → AreDisjoint from ts to → to ≤ t.at → 0 < t.len → AreDisjoint from (ts ++ t ∷ []) (t.at + t.len)
 apart-more from to [] t a h k = (omega (arith, a, h), k, omega arith)
 apart-more from to (x ∷ ts) t a h k = (a.0, a.1, apart-more (x.at + x.len) to ts t a.2 h k)
 
-apart-later : (from to later : ℕ) (ts : List Token) → AreApart from ts to → to ≤ later → AreApart from ts later
+apart-later : (from to later : ℕ) (ts : List Token) → AreDisjoint from ts to → to ≤ later → AreDisjoint from ts later
 apart-later from to later [] a h = omega (arith, a, h)
 apart-later from to later (x ∷ ts) a h = (a.0, a.1, apart-later (x.at + x.len) to later ts a.2 h)
 
-apart_step : (limit : ℕ) (p q : Place) (ss : List Sign) → IsOrdered limit p.rest.behind ss → next_by p ss ≡ Some q → Advances 1 p.rest.behind ss q.rest → AreApart 0 p.tokens p.rest.behind → AreApart 0 q.tokens q.rest.behind
+apart_step : (limit : ℕ) (p q : Place) (ss : List Sign) → IsOrdered limit p.rest.behind ss → next_by p ss ≡ Some q → Advances 1 p.rest.behind ss q.rest → AreDisjoint 0 p.tokens p.rest.behind → AreDisjoint 0 q.tokens q.rest.behind
 apart_step limit p q [] o e a h = cc
 apart_step limit p q (s ∷ ss) o e a h =
     let k = step_end limit p.rest.behind s ss q.rest o a in
     let b = len_utf8_bounds s.code in
     ⊎_elim
-    (λ (g : StepsBy p q s ss). subst (λ ts. AreApart 0 ts q.rest.behind) (sym g.gap.1) (apart-later 0 p.rest.behind q.rest.behind p.tokens h (omega (arith, o.0, k))))
+    (λ (g : StepsBy p q s ss). subst (λ ts. AreDisjoint 0 ts q.rest.behind) (sym g.gap.1) (apart-later 0 p.rest.behind q.rest.behind p.tokens h (omega (arith, o.0, k))))
     (λ (w : q ≡ past_token p s).
     let t = token_from p.fresh s (read p.rest) in
     let e2 : q.rest.behind ≡ (read p.rest).after.behind = ap (λ (x : Place). x.rest.behind) w in
-    subst (λ ts. AreApart 0 ts q.rest.behind) (ap (λ (x : Place). x.tokens) (sym w))
+    subst (λ ts. AreDisjoint 0 ts q.rest.behind) (ap (λ (x : Place). x.tokens) (sym w))
     (apart-later 0 (t.at + t.len) q.rest.behind (p.tokens ++ t ∷ []) (apart-more 0 p.rest.behind p.tokens t h (omega (arith, o.0)) (omega (arith, k, b.0, e2))) (omega (arith, k, b.0, e2))))
     (steps p q s ss e)
 
-apart_reached : (cs : List ℕ) (p : Place) → Reaches (begin_of cs) p → AreApart 0 p.tokens p.rest.behind
+apart_reached : (cs : List ℕ) (p : Place) → Reaches (begin_of cs) p → AreDisjoint 0 p.tokens p.rest.behind
 apart_reached cs p here = omega arith
 apart_reached cs q (more {p} r e) =
     apart_step (width cs) p q p.rest.left (reached-ordered (width cs) (begin_of cs) p r (begin-ordered cs)) e (next-advances p q e) (apart_reached cs p r)
@@ -178,12 +178,12 @@ accounted_reached bs q u (more {p} r e) =
 width-utf8_source : (bs : List ℕ) → IsUtf8 bs → width (characters bs) ≡ length bs
 width-utf8_source bs u = ap width (sym (characters-utf8 bs u)) ∙ width-utf8 bs u
 
-pub tokens_apart : (bs : List ℕ) (ts : List Token) → IsLexed bs ts → AreApart 0 ts (length bs)
+pub tokens_apart : (bs : List ℕ) (ts : List Token) → IsLexed bs ts → AreDisjoint 0 ts (length bs)
 tokens_apart bs ts h =
     let w = h.1 in
     let p = w.0 in
     let o = ordered_within (width (characters bs)) p.rest.behind p.rest.left (reached-ordered (width (characters bs)) (begin bs) p w.1 (begin-ordered (characters bs))) in
-    subst (λ us. AreApart 0 us (length bs)) w.3 (apart-later 0 p.rest.behind (length bs) p.tokens (apart_reached (characters bs) p w.1) (omega (arith, o, width-utf8_source bs h.0)))
+    subst (λ us. AreDisjoint 0 us (length bs)) w.3 (apart-later 0 p.rest.behind (length bs) p.tokens (apart_reached (characters bs) p w.1) (omega (arith, o, width-utf8_source bs h.0)))
 
 pub bytes_accounted : (bs : List ℕ) (ts : List Token) → IsLexed bs ts → (k : ℕ) → k < length bs → IsAccounted bs ts k
 bytes_accounted bs ts h k m =

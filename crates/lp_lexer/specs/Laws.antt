@@ -6,9 +6,9 @@ use Rattle.lp_lexer.specs.declared.sign.Sign.{Sign}
 use Rattle.lp_lexer.specs.Lexis.{Place, begin, next, Reaches, is_blank, opens_line, opens_block, IsLexed, IsFault}
 
 -- Tokens have bytes, and each begins no earlier than the one before it ends: from a place on up to another.
-abbrev pub AreApart : ℕ → List Token → ℕ → Type 0
-AreApart from [] to = from ≤ to
-AreApart from (t ∷ ts) to = (from ≤ t.at) × (0 < t.len) × AreApart (t.at + t.len) ts to
+abbrev pub AreDisjoint : ℕ → List Token → ℕ → Type 0
+AreDisjoint from [] to = from ≤ to
+AreDisjoint from (t ∷ ts) to = (from ≤ t.at) × (0 < t.len) × AreDisjoint (t.at + t.len) ts to
 
 -- the byte at k is of one of the tokens
 abbrev pub IsOfToken : List Token → ℕ → Type 0

@@ -10,7 +10,7 @@ ghost use Rattle.lp_tree.specs.declared.token.Token.{Token as Tok};
 ghost use Rattle.lp_tree.specs.declared.token.LexKind.{LexKind as Kind};
 ghost use Rattle.lp_lexer.specs.Source.{most_bytes};
 ghost use Rattle.lp_lexer.specs.Lexis.{IsLexed, IsFault};
-ghost use Rattle.lp_lexer.specs.Laws.{AreApart, IsAccounted, HasAnswer};
+ghost use Rattle.lp_lexer.specs.Laws.{AreDisjoint, IsAccounted, HasAnswer};
 ghost use Rattle.lp_lexer.specs.Answer.{IsLexFault, AreTokensUnlessMemory, IsFaultUnlessMemory};
 
 mod characters;
@@ -88,7 +88,7 @@ pub fn law_answered()
 
 /// Law: tokens have bytes, and each begins no earlier than the one before it ends.
 pub fn law_apart()
-    ensures { (bs : List ℕ) (ts : List Tok) → IsLexed bs ts → AreApart 0 ts (length bs) }
+    ensures { (bs : List ℕ) (ts : List Tok) → IsLexed bs ts → AreDisjoint 0 ts (length bs) }
 {}
 
 /// Law: each byte of a file with tokens is of a token, a blank, a comment or a join.

@@ -166,8 +166,8 @@ impl Reader {
     /// - `BadScript`: at this offset, that of the first byte behind the items before, stands no item,
     ///   or one that may not stand there, or the input ends there. Bytes behind an `end` are such an
     ///   item, and the fault is answered in place of the `end`.
-    /// - `TooLarge`: the input goes on past the most bytes that a script may have, and within these
-    ///   an item is not whole.
+    /// - `TooLarge`: the input goes on past the most bytes that a script may have, and where the
+    ///   items end within these nothing is left, or an item is begun.
     /// - `InputFault`: a read of the input failed.
     /// - `NoMemory`: the reader keeps what it took, and the next call goes on.
     pub fn next<S: Source>(&mut self, input: &mut S) -> Result<Item, ScriptFault>

@@ -279,11 +279,15 @@ fn replay<S: Source, K: Sink>(alloc: Global, input: &mut S, out: &mut K) -> Stat
 /// - `BadWords`: the words are not the one word `replay`; nothing was read or written.
 /// - `BadScript`: at this offset stands no item that fits there and that a replay carries out; the
 ///   blocks of the events before were written.
-/// - `NoMaster`: the files make no master, with these faults; nothing was written.
-/// - `TooLarge`: the input goes on past 67108864 bytes, and is no script within them.
+/// - `NoMaster`: the files make no master, with this one fault; nothing was written.
+/// - `TooLarge`: the input goes on past 67108864 bytes, and where its items end within them nothing
+///   is left, or an item is begun.
 /// - `InputFault`: a read failed, and the source's count of faults rose.
-/// - `OutputFault`: a write failed or took nothing, and one of the sink's counts rose.
+/// - `OutputFault`: a write or a flush failed, or a write took nothing, and one of the sink's counts
+///   rose.
 /// - `NoMemory`: the blocks of the events before were written.
+///
+/// What was read and written is known of a source and a sink that tell it, such as those in memory.
 pub fn run<S: Source, K: Sink>(
     alloc: Global,
     words: &[String],

@@ -47,11 +47,11 @@ pub enum Status {
     BadScript { at: u64 },
     /// The master could not be made.
     NoMaster { faults: Faults },
-    /// The input goes on past 67108864 bytes, and is no script within them.
+    /// The input goes on past 67108864 bytes, and within them nothing is wrong.
     TooLarge,
     /// A read of the input failed.
     InputFault,
-    /// A write of the output failed, or took nothing.
+    /// A write or a flush of the output failed, or a write took nothing.
     OutputFault,
     /// There was no memory.
     NoMemory,
