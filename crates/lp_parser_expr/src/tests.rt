@@ -476,3 +476,57 @@ fn nests_as_deep_as_told(rt: HostRuntime) -> Result<(), AllocError> {
     assert!(rt; told(alloc, sum(alloc, 200)?.as_slice())? == (0, 400, true));
     Ok(())
 }
+
+// These letters so many times, an integer, and the other letters so many times.
+fn within(alloc: Global, count: u32, open: [u8; 2], close: &[u8]) -> Result<Vec<u8>, AllocError> {
+    let mut letters = Vec::new(alloc);
+    for _ in 0..count {
+        letters.push(open[0])?;
+        letters.push(open[1])?;
+    }
+    letters.push(b'1')?;
+    for _ in 0..count {
+        for letter in close {
+            letters.push(*letter)?;
+        }
+    }
+    Ok(letters)
+}
+
+#[test]
+fn nests_literals_and_calls_as_deep(rt: HostRuntime) -> Result<(), AllocError> {
+    let alloc = rt.alloc();
+    for (open, close) in [([b'(', b'{'], "})"), ([b'a', b'('], ")")] {
+        let ends = close.len();
+        for count in [198u32, 199] {
+            let letters = within(alloc, count, open, close.as_bytes())?;
+            let len = letters.len();
+            assert!(rt; len == 1 + (2 + ends) * count as usize);
+            assert!(rt; told(alloc, letters.as_slice())? == (len, 0, false));
+        }
+        let letters = within(alloc, 200, open, close.as_bytes())?;
+        assert!(rt; told(alloc, letters.as_slice())? == (0, 401, true));
+    }
+    for count in [201u32, 202] {
+        assert!(rt; told(alloc, nested(alloc, count, b'(', b')')?.as_slice())? == (0, 201, true));
+        assert!(rt; told(alloc, prefixed(alloc, count)?.as_slice())? == (0, 200, true));
+        assert!(rt; told(alloc, sum(alloc, count)?.as_slice())? == (0, 400, true));
+    }
+    Ok(())
+}
+
+#[test]
+fn reads_up_to_what_is_refused(rt: HostRuntime) -> Result<(), AllocError> {
+    let alloc = rt.alloc();
+    // No place stands left of the `=`, so the sum is all.
+    assert!(rt; told(alloc, b"a+a=1")? == (3, 0, false));
+    assert!(rt; told(alloc, b"aUU")? == (2, 0, false));
+    assert!(rt; sides(alloc, b"-aU")? == (b'!', 0, b'U'));
+    assert!(rt; sides(alloc, b"(i)a[1]")? == (b'i', 0, b']'));
+    assert!(rt; told(alloc, b"({1,,})")? == (0, 5, false));
+    assert!(rt; told(alloc, b"([1])")? == (0, 4, false));
+    assert!(rt; told(alloc, b"a(,)")? == (0, 3, false));
+    assert!(rt; told(alloc, b"a?1;")? == (0, 4, false));
+    assert!(rt; told(alloc, b"a()=1")? == (3, 0, false));
+    Ok(())
+}
