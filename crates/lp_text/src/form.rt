@@ -46,7 +46,7 @@ pub fn law_spelled()
 {}
 
 /// What follows the first code points.
-pub(crate) fn rest_of(s: &[char], from: usize) -> &[char]
+pub fn rest_of(s: &[char], from: usize) -> &[char]
     ensures { result.now ≡ drop from s.now }
 {
     if from >= s.len() { &[] } else { &s[from..] }
@@ -91,7 +91,7 @@ fn lettered(letter: char, kept: bool) -> Item
 }
 
 /// The code point at a place, and code point 0 past the end.
-pub(crate) fn point(s: &[char], i: usize) -> char
+pub fn point(s: &[char], i: usize) -> char
     ensures { result ≡ slice_index s.now i }
 {
     if i < s.len() { s[i] } else { '\0' }

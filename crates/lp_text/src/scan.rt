@@ -147,7 +147,7 @@ fn number_value(kept: bool, n: i64) -> Option<Scanned>
 }
 
 /// How many digits a text begins with.
-fn digit_count(s: &[char]) -> usize
+pub fn digit_count(s: &[char]) -> usize
     ensures value { result ≡ prefix_len is_ascii_digit s.now }
     ensures within { result ≤ length s.now }
 {
@@ -187,7 +187,7 @@ fn with_sign(minus: bool, n: u64) -> Option<i64>
 }
 
 /// The number that digits write, if it is at most 2^63.
-fn magnitude(digits: &[char]) -> Option<u64>
+pub fn magnitude(digits: &[char]) -> Option<u64>
     ensures { SomeIff result (digits_number digits.now ≤ 2 ^ 63) (digits_number digits.now) }
 {
     let mut n: u64 = 0;

@@ -1,0 +1,6 @@
+pub mod Answers
+pub mod Conversions
+pub mod Fill
+pub mod Forms
+pub mod Formatted
+pub mod Spelled
