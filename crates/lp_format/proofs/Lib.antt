@@ -1,1 +1,4 @@
 pub mod AnswerLemmas
+pub mod FormLemmas
+pub mod SpellLemmas
+pub mod WriteLemmas

@@ -1,5 +1,5 @@
 -- Filling a text up to a width.
-use Rattle.std.specs.Prelude.{ℕ, ◌+◌, ◌-◌, List, [], ◌∷◌, ◌++◌, Bool, true, false, not, ◌&&◌, Option, Some, None, length, take, drop, replicate, if◌then◌else◌}
+use Rattle.std.specs.Prelude.{ℕ, ◌-◌, List, ◌++◌, Bool, true, false, not, ◌&&◌, Option, Some, None, length, take, drop, replicate, if◌then◌else◌}
 use Rattle.lp_format.specs.declared.form.Conversion.{Conversion}
 use Rattle.lp_format.specs.declared.form.Conversion.TheVariants.{Text, Decimal, Octal, SmallHex, LargeHex, CodePoint, Any, Percent}
 use Rattle.lp_format.specs.declared.form.Directive.{Directive}

@@ -38,7 +38,7 @@ separator true = 44 ∷ 32 ∷ []
 -- texts with what stands before each, behind others or not
 abbrev pub spaced : Bool → List (List ℕ) → List ℕ
 spaced others [] = []
-spaced others (t ∷ ts) = separator others ++ t ++ spaced true ts
+spaced others (t ∷ ts) = separator others ++ (t ++ spaced true ts)
 
 -- `({ a, b })`, and `({ })` where nothing is in it
 abbrev pub array_spelled : List (List ℕ) → List ℕ

@@ -3,6 +3,8 @@ ghost use Rattle.std.specs.Prelude.{◌≡◌, ◌∷◌, [], ◌++◌, All, OnO
 ghost use Rattle.lp_cells.specs.Cells.{IsClosed, IsPairThere, IsThere};
 ghost use Rattle.lp_cells.specs.Mapping.{pair_there, pairs_there};
 ghost use Rattle.std.specs.Fmt.{signed_decimal};
+ghost use Rattle.std.specs.Map.Iter.{deref_pair};
+ghost use Rattle.std.specs.Option.{option_map, option_to_list};
 ghost use Rattle.lp_format.specs.Answers.{AppendsText};
 ghost use Rattle.lp_format.specs.Spelled.{array_spelled, deepest as deepest_of, hidden, is_among as among, mapping_spelled, object_spelled, pair_spelled, quoted as quoted_text, quoted_point, separator, spaced, spelled, spelled_within};
 
@@ -121,12 +123,10 @@ fn write_mapping<L: Living + Names>(
     out.push_all(&['(', '['])?;
     let mut others = false;
     for i in 0..pairs.len() {
-        if let Some((key, v)) = pairs.at(i) {
-            if as_read(key, names).is_some() {
-                out.push_all(separator_of(others))?;
-                write_pair(out, key, v, levels, path, cells, names)?;
-                others = true;
-            }
+        if let Some((key, v)) = pair_at(pairs, i, names) {
+            out.push_all(separator_of(others))?;
+            write_pair(out, key, v, levels, path, cells, names)?;
+            others = true;
         }
     }
     out.push_all(&[' ', ']', ')'])
@@ -152,6 +152,16 @@ fn write_pair<L: Living + Names>(
     write_within(out, key, levels, path, cells, names)?;
     out.push_all(&[':', ' '])?;
     write_within(out, v, levels, path, cells, names)
+}
+
+/// The pair at a place, where it is there.
+fn pair_at<'a, L: Living>(pairs: &'a Pairs, i: usize, live: &L) -> Option<(&'a Value, &'a Value)>
+    ensures { option_to_list (option_map deref_pair result) ≡ pair_there (L.live live.now) pairs.now i }
+{
+    match pairs.at(i) {
+        Some((key, v)) if as_read(key, live).is_some() => Some((key, v)),
+        _ => None,
+    }
 }
 
 /// Whether a cell is one of these.

@@ -12,6 +12,7 @@ use crate::names::Names;
 use crate::out::Out;
 use crate::write::write_piece;
 use lp_cells::cells::Cells;
+use lp_text::form::rest_of;
 use lp_values::text::Text;
 use lp_values::value::{Living, Value};
 use std::alloc::Global;
@@ -55,7 +56,7 @@ pub fn sprintf<L: Living + Names>(
     let mut at = 0;
     let mut used = 0;
     while at < form.len() {
-        let rest = &form[at..];
+        let rest = rest_of(form, at);
         write_piece(
             &mut out,
             first_piece(rest),

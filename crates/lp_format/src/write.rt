@@ -1,6 +1,6 @@
 //! What directives write.
-ghost use Rattle.std.specs.Prelude.{◌≡◌, ◌≤◌, ◌<◌, ◌++◌, ◌+◌, All, MatchResult, None, Some, OnOk, length, take, drop, slice_get, true, false};
-ghost use Rattle.std.specs.Option.{option_map};
+ghost use Rattle.std.specs.Prelude.{◌≡◌, ◌≤◌, ◌<◌, ◌++◌, ◌+◌, All, MatchResult, None, Some, IfOk, OnOk, length, take, drop, slice_get, true, false};
+ghost use Rattle.std.specs.Fmt.{digits};
 ghost use Rattle.lp_cells.specs.Cells.{IsClosed, IsThere};
 ghost use Rattle.lp_values.specs.Read.{as_read as read};
 ghost use Rattle.lp_format.specs.Answers.{Appends, AppendsText, Becomes};
@@ -18,6 +18,7 @@ use lp_cells::cells::Cells;
 use lp_text::form::rest_of;
 use lp_values::text::code_points;
 use lp_values::value::{Living, Value, as_read};
+use std::alloc::{AllocError, Global};
 
 /// Appends the text of a piece that stands at this place of the form.
 pub(crate) fn write_piece<L: Living + Names>(
@@ -155,7 +156,7 @@ fn write_value<L: Living + Names>(
     ensures { Appends result out.old out.new (value_written (L.live names.now) (spelled (L.live names.now) (L.name names.now) cells.now) n precision conversion v.now) }
 {
     match conversion {
-        Conversion::Text => write_text(out, text(v, names), precision, n),
+        Conversion::Text => write_text(out, v, precision, n, names),
         Conversion::Decimal => write_decimal(out, integer(v, names), n),
         Conversion::Octal => write_octal(out, integer(v, names), n),
         Conversion::SmallHex => write_small_hex(out, integer(v, names), n),
@@ -166,28 +167,19 @@ fn write_value<L: Living + Names>(
     }
 }
 
-/// The text that a value reads as.
-fn text<'a, L: Living>(v: &'a Value, live: &L) -> Option<&'a [char]>
-    ensures { option_map (λ s. s.now) result ≡ text_of (read (L.live live.now) v.now) }
-{
-    match as_read(v, live) {
-        Some(Value::Str(s)) => Some(s.as_slice()),
-        _ => None,
-    }
-}
-
 /// Appends a text, cut to its precision.
-fn write_text(
+fn write_text<L: Living>(
     out: &mut Out,
-    value: Option<&[char]>,
+    v: &Value,
     precision: Option<u64>,
     n: u64,
+    live: &L,
 ) -> Result<(), FormatFault>
-    ensures { Appends result out.old out.new (text_written n precision (option_map (λ s. s.now) value)) }
+    ensures { Appends result out.old out.new (text_written n precision (text_of (read (L.live live.now) v.now))) }
 {
-    match value {
-        Some(s) => out.push_all(cut(s, precision)),
-        None => Err(FormatFault::BadArg { n }),
+    match as_read(v, live) {
+        Some(Value::Str(s)) => out.push_all(cut(s.as_slice(), precision)),
+        _ => Err(FormatFault::BadArg { n }),
     }
 }
 
@@ -217,8 +209,8 @@ fn write_octal(out: &mut Out, value: Option<i64>, n: u64) -> Result<(), FormatFa
 {
     match value {
         Some(x) if x >= 0 => {
-            let x = x as u64;
-            out.push_str(format!(in out.alloc(); "{x:o}")?.as_str())
+            let spelled = octal(out.alloc(), x as u64)?;
+            out.push_all(spelled.as_slice())
         }
         _ => Err(FormatFault::BadArg { n }),
     }
@@ -230,8 +222,8 @@ fn write_small_hex(out: &mut Out, value: Option<i64>, n: u64) -> Result<(), Form
 {
     match value {
         Some(x) if x >= 0 => {
-            let x = x as u64;
-            out.push_str(format!(in out.alloc(); "{x:x}")?.as_str())
+            let spelled = small_hex(out.alloc(), x as u64)?;
+            out.push_all(spelled.as_slice())
         }
         _ => Err(FormatFault::BadArg { n }),
     }
@@ -243,11 +235,35 @@ fn write_large_hex(out: &mut Out, value: Option<i64>, n: u64) -> Result<(), Form
 {
     match value {
         Some(x) if x >= 0 => {
-            let x = x as u64;
-            out.push_str(format!(in out.alloc(); "{x:X}")?.as_str())
+            let spelled = large_hex(out.alloc(), x as u64)?;
+            out.push_all(spelled.as_slice())
         }
         _ => Err(FormatFault::BadArg { n }),
     }
+}
+
+/// A number in base 8.
+fn octal(alloc: Global, n: u64) -> Result<Vec<char>, AllocError>
+    ensures { IfOk result (λ v. v.items ≡ digits 8 false n) }
+{
+    let text = format!(in alloc; "{n:o}")?;
+    code_points(alloc, text.as_str())
+}
+
+/// A number in base 16 with small letters.
+fn small_hex(alloc: Global, n: u64) -> Result<Vec<char>, AllocError>
+    ensures { IfOk result (λ v. v.items ≡ digits 16 false n) }
+{
+    let text = format!(in alloc; "{n:x}")?;
+    code_points(alloc, text.as_str())
+}
+
+/// A number in base 16 with capitals.
+fn large_hex(alloc: Global, n: u64) -> Result<Vec<char>, AllocError>
+    ensures { IfOk result (λ v. v.items ≡ digits 16 true n) }
+{
+    let text = format!(in alloc; "{n:X}")?;
+    code_points(alloc, text.as_str())
 }
 
 /// Appends the code point with a number.
