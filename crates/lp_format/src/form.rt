@@ -160,7 +160,11 @@ pub(crate) fn mark_len(form: &[char], mark: char) -> usize
     ensures value { result ≡ mark_length mark form.now }
     ensures within { result ≤ length form.now }
 {
-    if !form.is_empty() && point(form, 0) == mark { 1 } else { 0 }
+    if !form.is_empty() && point(form, 0) == mark {
+        1
+    } else {
+        0
+    }
 }
 
 /// How many code points a number has that may stand here.

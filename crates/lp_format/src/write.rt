@@ -138,7 +138,15 @@ fn write_conversion<L: Living + Names>(
         return out.push('%');
     }
     let v = argument(args, used)?;
-    write_value(out, conversion, precision, v, *used as u64 + 1, cells, names)
+    write_value(
+        out,
+        conversion,
+        precision,
+        v,
+        *used as u64 + 1,
+        cells,
+        names,
+    )
 }
 
 /// Appends what a conversion writes of its argument, whose number is n.
@@ -287,12 +295,7 @@ fn code_point(value: Option<i64>) -> Option<char>
 }
 
 /// Fills what was appended from a place on up to a width.
-fn fill(
-    out: &mut Out,
-    start: usize,
-    d: Directive,
-    width: Option<u64>,
-) -> Result<(), FormatFault>
+fn fill(out: &mut Out, start: usize, d: Directive, width: Option<u64>) -> Result<(), FormatFault>
     requires { start ≤ length out.old }
     ensures { Becomes result out.new (take start out.old ++ filled d width (drop start out.old)) }
 {

@@ -28,10 +28,10 @@ write_mapping-loop-i-preserved g t c =
     let f = pair_spelled (spelled_within live (g.L.Names.name c.args.names.now) c.args.cells.now c.args.levels c.args.path.now.items) in
     let tail : List ℕ = 32 ∷ 93 ∷ 41 ∷ [] in
     elim c.match-pair_at.branch [
-        write_mapping-in-Some+in_ok-push_all-2+in_ok-write_pair w ↦
-            let pair : Value × Value = (w.in-Some.key.now, w.in-Some.v.now) in
-            let next = next_pair live f c.loop-i.others c.loop-i.out _ tail c.args.pairs.now c.loop-i.i pair (omega (arith, c.loop-i-test.true, c.len-i-end.ensures.value)) w.in-Some.ensures c.loop-i.invariant.text in
-            record { path = search rules; text = rw (w.out-is, w.others-is) (goes_on c.loop-i.out (separator c.loop-i.others) (f pair) (spaced true (map f (pairs_there live (drop (c.loop-i.i + 1) c.args.pairs.now))) ++ tail) _ w.push_all-in-Some.new.self w.write_pair.new.out next (search rules) (search rules)) }
+      | write_mapping-in-Some+in_ok-push_all-2+in_ok-write_pair w ↦
+          let pair : Value × Value = (w.in-Some.key.now, w.in-Some.v.now) in
+          let next = next_pair live f c.loop-i.others c.loop-i.out _ tail c.args.pairs.now c.loop-i.i pair (omega (arith, c.loop-i-test.true, c.len-i-end.ensures.value)) w.in-Some.ensures c.loop-i.invariant.text in
+          record { path = search rules; text = rw (w.out-is, w.others-is) (goes_on c.loop-i.out (separator c.loop-i.others) (f pair) (spaced true (map f (pairs_there live (drop (c.loop-i.i + 1) c.args.pairs.now))) ++ tail) _ w.push_all-in-Some.new.self w.write_pair.new.out next (search rules) (search rules)) }
       | write_mapping-in_default w ↦
-            record { path = search rules; text = rw (w.out-is, w.others-is) (no_pair live f c.loop-i.others c.loop-i.out _ tail c.args.pairs.now c.loop-i.i (omega (arith, c.loop-i-test.true, c.len-i-end.ensures.value)) w.in_default.ensures c.loop-i.invariant.text) }
+          record { path = search rules; text = rw (w.out-is, w.others-is) (no_pair live f c.loop-i.others c.loop-i.out _ tail c.args.pairs.now c.loop-i.i (omega (arith, c.loop-i-test.true, c.len-i-end.ensures.value)) w.in_default.ensures c.loop-i.invariant.text) }
     ]
