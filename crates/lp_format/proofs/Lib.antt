@@ -1,4 +1,5 @@
 pub mod AnswerLemmas
 pub mod FormLemmas
+pub mod LawLemmas
 pub mod SpellLemmas
 pub mod WriteLemmas

@@ -3,4 +3,5 @@ pub mod Conversions
 pub mod Fill
 pub mod Forms
 pub mod Formatted
+pub mod Laws
 pub mod Spelled

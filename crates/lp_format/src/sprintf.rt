@@ -4,6 +4,7 @@ ghost use Rattle.lp_cells.specs.Cells.{IsClosed, IsThere};
 ghost use Rattle.lp_format.specs.Answers.{Gives};
 ghost use Rattle.lp_format.specs.Forms.{pieces};
 ghost use Rattle.lp_format.specs.Formatted.{formatted};
+ghost use Rattle.lp_format.specs.Laws.{IsTold};
 ghost use Rattle.lp_format.specs.Spelled.{spelled};
 
 use crate::fault::FormatFault;
@@ -70,3 +71,9 @@ pub fn sprintf<L: Living + Names>(
     }
     Ok(out.into_text()?)
 }
+
+/// Law: a text is the texts of all pieces, one after another; and a fault is that of the first piece
+/// that has one, or with which the text is too long.
+pub fn law_whole()
+    ensures { IsTold }
+{}
