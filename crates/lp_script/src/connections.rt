@@ -1,5 +1,5 @@
 //! The connections that are not gone.
-ghost use Rattle.std.specs.Prelude.{◌≡◌, ℕ, true, ◌<◌, ◌^◌, [], ◌∷◌, ◌++◌, ◌==◌, not, filter, OnOk, OnErr};
+ghost use Rattle.std.specs.Prelude.{◌≡◌, ℕ, true, ◌<◌, ◌^◌, [], ◌∷◌, ◌++◌, ◌==◌, not, filter, OnOk, OnErr, IsTrue};
 ghost use Rattle.lp_script.specs.Reading.{number_named, is_one_of, begins_one_of, is_empty as is_empty_lem};
 
 use crate::number::{begins_number, is_numeral, value};
@@ -20,12 +20,26 @@ impl Model for Connections {
     ghost view = { λ c. c.numbers.items };
 }
 
-// Is a number among these?
+// Is a number found among these, where they rise? Scripts number their connections so.
+fn is_found(k: u128, numbers: &[u32]) -> bool
+    ensures { IsTrue result → is_one_of numbers.now k ≡ true }
+{
+    if k > u128::from(u32::MAX) {
+        return false;
+    }
+    match numbers.binary_search(&(k as u32)) {
+        Ok(i) => k == u128::from(numbers[i]),
+        Err(_) => false,
+    }
+}
+
+// Is a number among these? One that is not found makes a line that fits no script, so a reader looks at
+// all of them once at most.
 fn is_among(k: u128, numbers: &[u32]) -> bool
     ensures value { result ≡ is_one_of numbers.now k }
     ensures small { (n : ℕ) → is_one_of numbers.now n ≡ true → n < 2 ^ 32 }
 {
-    numbers.iter().any(|n| k == u128::from(*n))
+    is_found(k, numbers) || numbers.iter().any(|n| k == u128::from(*n))
 }
 
 // Leaves out a number.
