@@ -34,11 +34,11 @@ Told live spell args done i ps (Err fault) = Refused live spell args done i ps f
 -- a first piece with its text before what is told of the rest
 told_behind : (live : ObjId → Bool) (spell : Value → List ℕ) (args : List Value) (done : List ℕ) (i : ℕ) (p : Placed) (ps : List Placed) (t : List ℕ) (r : Result (List ℕ) FormatFault) → piece_text live spell args i p.at p.piece ≡ Ok t → Told live spell args (done ++ t) (i + uses p.piece) ps r → Told live spell args done i (p ∷ ps) r
 told_behind live spell args done i p ps t (Ok text) e w = record {
-    texts = t ∷ w.texts;
-    are = (e, w.are);
-    joined = w.joined ∙ append_assoc done t (concat w.texts);
-    fits = w.fits;
-  }
+  texts = t ∷ w.texts;
+  are = (e, w.are);
+  joined = w.joined ∙ append_assoc done t (concat w.texts);
+  fits = w.fits;
+}
 told_behind live spell args done i p ps t (Err fault) e w =
     let n : length done + length (t ++ concat w.texts) ≡ length (done ++ t) + length (concat w.texts) = omega (arith, length-append done t, length-append t (concat w.texts)) in
     let k : i + (uses p.piece + uses_of w.before) ≡ i + uses p.piece + uses_of w.before = omega arith in
@@ -88,7 +88,7 @@ told live spell args done i (p ∷ ps) fits = told_first live spell args done i 
 
 from_start : (live : ObjId → Bool) (spell : Value → List ℕ) (args : List Value) (ps : List Placed) (r : Result (List ℕ) FormatFault) → Told live spell args [] 0 ps r → IsFormatted live spell args ps r
 from_start live spell args ps (Ok text) w = record { texts = w.texts; are = w.are; joined = w.joined; fits = w.fits }
-from_start live spell args ps (Err fault) w = 
+from_start live spell args ps (Err fault) w =
     let n : 0 + length (concat w.texts) ≡ length (concat w.texts) = omega arith in
     let k : 0 + uses_of w.before ≡ uses_of w.before = omega arith in
     record { before = w.before; last = w.last; behind = w.behind; split = w.split; texts = w.texts; are = w.are; fits = omega (arith, w.fits); stops = subst (λ (x : ℕ). Stops x fault (piece_text live spell args (uses_of w.before) w.last.at w.last.piece)) n (subst (λ (x : ℕ). Stops (0 + length (concat w.texts)) fault (piece_text live spell args x w.last.at w.last.piece)) k w.stops) }

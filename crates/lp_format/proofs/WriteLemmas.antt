@@ -8,7 +8,9 @@ use Rattle.lp_format.specs.declared.fault.FormatFault.{FormatFault}
 use Rattle.lp_format.specs.declared.form.Directive.{Directive}
 use Rattle.lp_format.specs.Answers.{Appends, Becomes}
 use Rattle.lp_format.specs.Fill.{fill_place, filled, filler, missing, put_in}
-use Rattle.lp_format.specs.Conversions.{count_uses, measured, written}
+use Rattle.lp_format.specs.Conversions.{count_uses, digits_in, measured, written}
+use Rattle.lp_format.specs.declared.form.Base.{Base}
+use Rattle.lp_format.specs.declared.form.Base.TheVariants.{Octal, SmallHex, LargeHex}
 use Rattle.lp_format.specs.Formatted.{after, directive_text}
 use Rattle.lp_values.specs.declared.id.ObjId.{ObjId}
 use Rattle.lp_values.specs.declared.value.Value.{Value}
@@ -34,9 +36,14 @@ onto_ascii (suc k) base n upper acc some few h =
     either_ascii (n / base == 0) (digit_glyph upper (n % base) ∷ acc) (digits_onto k base upper (n / base) (digit_glyph upper (n % base) ∷ acc)) more (onto_ascii k base (n / base) upper (digit_glyph upper (n % base) ∷ acc) some few more)
 
 -- the digits of a number in a base up to 36 are ASCII
-pub digits_ascii : (base n : ℕ) (upper : Bool) → 0 < base → base ≤ 36 → IsAscii (digits base upper n)
+digits_ascii : (base n : ℕ) (upper : Bool) → 0 < base → base ≤ 36 → IsAscii (digits base upper n)
 unfolding digits
 digits_ascii base n upper some few = onto_ascii 64 base n upper [] some few (λ i. omega arith)
+
+pub digits_in_ascii : (base : Base) (n : ℕ) → IsAscii (digits_in base n)
+digits_in_ascii Octal n = digits_ascii 8 n false (omega arith) (omega arith)
+digits_in_ascii SmallHex n = digits_ascii 16 n false (omega arith) (omega arith)
+digits_in_ascii LargeHex n = digits_ascii 16 n true (omega arith) (omega arith)
 
 -- what is put in behind the first code points is put in into the rest
 pub put_in_behind : (start place n c : ℕ) (s : List ℕ) → put_in (start + place) n c s ≡ take start s ++ put_in place n c (drop start s)

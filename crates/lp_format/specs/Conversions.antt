@@ -10,7 +10,9 @@ use Rattle.lp_format.specs.declared.fault.FormatFault.TheVariants.{TooFewArgs, B
 use Rattle.lp_format.specs.declared.form.Count.{Count}
 use Rattle.lp_format.specs.declared.form.Count.TheVariants.{Absent, Given, Argument, Wrong}
 use Rattle.lp_format.specs.declared.form.Conversion.{Conversion}
-use Rattle.lp_format.specs.declared.form.Conversion.TheVariants.{Text, Decimal, Octal, SmallHex, LargeHex, CodePoint, Any, Percent}
+use Rattle.lp_format.specs.declared.form.Conversion.TheVariants.{Text, Decimal, Based, CodePoint, Any, Percent}
+use Rattle.lp_format.specs.declared.form.Base.{Base}
+use Rattle.lp_format.specs.declared.form.Base.TheVariants.{Octal, SmallHex, LargeHex}
 
 -- the integer, the text that a value is
 abbrev pub int_of : Value → Option ℤ
@@ -71,11 +73,17 @@ abbrev pub decimal_written : ℕ → Option ℤ → Result (List ℕ) FormatFaul
 decimal_written n None = Err (BadArg n)
 decimal_written n (Some x) = Ok (signed_decimal x)
 
+-- the digits of a number in another base
+abbrev pub digits_in : Base → ℕ → List ℕ
+digits_in Octal x = digits 8 false x
+digits_in SmallHex x = digits 16 false x
+digits_in LargeHex x = digits 16 true x
+
 -- `%o`, `%x`, `%X`: an integer from 0 up, in another base
-abbrev pub based_written : ℕ → ℕ → Bool → Option ℤ → Result (List ℕ) FormatFault
-based_written n base large None = Err (BadArg n)
-based_written n base large (Some (pos x)) = Ok (digits base large x)
-based_written n base large (Some (negsuc x)) = Err (BadArg n)
+abbrev pub based_written : ℕ → Base → Option ℤ → Result (List ℕ) FormatFault
+based_written n base None = Err (BadArg n)
+based_written n base (Some (pos x)) = Ok (digits_in base x)
+based_written n base (Some (negsuc x)) = Err (BadArg n)
 
 -- a code point: up to 1114111, and none of the 2048 that stand for no character
 abbrev pub is_code_point : ℕ → Bool
@@ -96,9 +104,7 @@ code_point_written n (Some c) = Ok (c ∷ [])
 abbrev pub value_written : (ObjId → Bool) → (Value → List ℕ) → ℕ → Option ℕ → Conversion → Value → Result (List ℕ) FormatFault
 value_written live spell n precision Text v = text_written n precision (text_of (as_read live v))
 value_written live spell n precision Decimal v = decimal_written n (int_of (as_read live v))
-value_written live spell n precision Octal v = based_written n 8 false (int_of (as_read live v))
-value_written live spell n precision SmallHex v = based_written n 16 false (int_of (as_read live v))
-value_written live spell n precision LargeHex v = based_written n 16 true (int_of (as_read live v))
+value_written live spell n precision (Based base) v = based_written n base (int_of (as_read live v))
 value_written live spell n precision CodePoint v = code_point_written n (code_point_of (int_of (as_read live v)))
 value_written live spell n precision Any v = Ok (spell v)
 value_written live spell n precision Percent v = Ok (37 ∷ [])
@@ -112,9 +118,7 @@ argument_written live spell n precision c (Some v) = value_written live spell n 
 abbrev pub is_percent : Conversion → Bool
 is_percent Text = false
 is_percent Decimal = false
-is_percent Octal = false
-is_percent SmallHex = false
-is_percent LargeHex = false
+is_percent (Based base) = false
 is_percent CodePoint = false
 is_percent Any = false
 is_percent Percent = true

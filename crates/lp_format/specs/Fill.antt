@@ -1,7 +1,7 @@
 -- Filling a text up to a width.
 use Rattle.std.specs.Prelude.{ℕ, ◌-◌, List, ◌++◌, Bool, true, false, not, ◌&&◌, Option, Some, None, length, take, drop, replicate, if◌then◌else◌}
 use Rattle.lp_format.specs.declared.form.Conversion.{Conversion}
-use Rattle.lp_format.specs.declared.form.Conversion.TheVariants.{Text, Decimal, Octal, SmallHex, LargeHex, CodePoint, Any, Percent}
+use Rattle.lp_format.specs.declared.form.Conversion.TheVariants.{Text, Decimal, Based, CodePoint, Any, Percent}
 use Rattle.lp_format.specs.declared.form.Directive.{Directive}
 use Rattle.lp_format.specs.Forms.{mark_len}
 
@@ -9,9 +9,7 @@ use Rattle.lp_format.specs.Forms.{mark_len}
 abbrev pub is_number : Conversion → Bool
 is_number Text = false
 is_number Decimal = true
-is_number Octal = true
-is_number SmallHex = true
-is_number LargeHex = true
+is_number (Based base) = true
 is_number CodePoint = false
 is_number Any = false
 is_number Percent = false

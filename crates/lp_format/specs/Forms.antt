@@ -6,7 +6,9 @@ use Rattle.lp_text.specs.Scans.{digits_number}
 use Rattle.lp_format.specs.declared.form.Count.{Count}
 use Rattle.lp_format.specs.declared.form.Count.TheVariants.{Absent, Given, Argument, Wrong}
 use Rattle.lp_format.specs.declared.form.Conversion.{Conversion}
-use Rattle.lp_format.specs.declared.form.Conversion.TheVariants.{Text, Decimal, Octal, SmallHex, LargeHex, CodePoint, Any, Percent}
+use Rattle.lp_format.specs.declared.form.Conversion.TheVariants.{Text, Decimal, Based, CodePoint, Any, Percent}
+use Rattle.lp_format.specs.declared.form.Base.{Base}
+use Rattle.lp_format.specs.declared.form.Base.TheVariants.{Octal, SmallHex, LargeHex}
 use Rattle.lp_format.specs.declared.form.Piece.{Piece}
 use Rattle.lp_format.specs.declared.form.Piece.TheVariants.{Bad, Made, Plain}
 
@@ -46,7 +48,7 @@ precision_len cs = if nat_eq (slice_index cs 0) 46 then 1 + count_len (drop 1 cs
 
 -- what a letter stands for
 abbrev pub conversion : ℕ → Option Conversion
-conversion c = if nat_eq c 37 then Some Percent else if nat_eq c 115 then Some Text else if nat_eq c 100 || nat_eq c 105 then Some Decimal else if nat_eq c 111 then Some Octal else if nat_eq c 120 then Some SmallHex else if nat_eq c 88 then Some LargeHex else if nat_eq c 99 then Some CodePoint else if nat_eq c 79 then Some Any else None
+conversion c = if nat_eq c 37 then Some Percent else if nat_eq c 115 then Some Text else if nat_eq c 100 || nat_eq c 105 then Some Decimal else if nat_eq c 111 then Some (Based Octal) else if nat_eq c 120 then Some (Based SmallHex) else if nat_eq c 88 then Some (Based LargeHex) else if nat_eq c 99 then Some CodePoint else if nat_eq c 79 then Some Any else None
 
 abbrev pub is_wrong : Count → Bool
 is_wrong Absent = false

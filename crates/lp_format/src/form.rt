@@ -28,18 +28,25 @@ pub(crate) enum Conversion {
     Text,
     /// `%d` and `%i`: an integer.
     Decimal,
-    /// `%o`: an integer from 0 up, in base 8.
-    Octal,
-    /// `%x`: an integer from 0 up, in base 16 with small letters.
-    SmallHex,
-    /// `%X`: an integer from 0 up, in base 16 with capitals.
-    LargeHex,
+    /// `%o`, `%x` and `%X`: an integer from 0 up, in another base.
+    Based(Base),
     /// `%c`: a code point.
     CodePoint,
     /// `%O`: any value.
     Any,
     /// `%%`: a `%`, without an argument.
     Percent,
+}
+
+/// A base other than 10.
+#[derive(Clone, Copy, Debug, PartialEq, Eq)]
+pub(crate) enum Base {
+    /// Base 8.
+    Octal,
+    /// Base 16 with small letters.
+    SmallHex,
+    /// Base 16 with capitals.
+    LargeHex,
 }
 
 /// A directive.
@@ -281,9 +288,9 @@ fn conversion_of(letter: char) -> Option<Conversion>
         '%' => Some(Conversion::Percent),
         's' => Some(Conversion::Text),
         'd' | 'i' => Some(Conversion::Decimal),
-        'o' => Some(Conversion::Octal),
-        'x' => Some(Conversion::SmallHex),
-        'X' => Some(Conversion::LargeHex),
+        'o' => Some(Conversion::Based(Base::Octal)),
+        'x' => Some(Conversion::Based(Base::SmallHex)),
+        'X' => Some(Conversion::Based(Base::LargeHex)),
         'c' => Some(Conversion::CodePoint),
         'O' => Some(Conversion::Any),
         _ => None,

@@ -1,16 +1,15 @@
 //! What directives write.
 ghost use Rattle.std.specs.Prelude.{◌≡◌, ◌≤◌, ◌<◌, ◌++◌, ◌+◌, All, MatchResult, None, Some, IfOk, OnOk, length, take, drop, slice_get, true, false};
-ghost use Rattle.std.specs.Fmt.{digits};
 ghost use Rattle.lp_cells.specs.Cells.{IsClosed, IsThere};
 ghost use Rattle.lp_values.specs.Read.{as_read as read};
 ghost use Rattle.lp_format.specs.Answers.{Appends, AppendsText, Becomes};
-ghost use Rattle.lp_format.specs.Conversions.{argument_measure, based_written, code_point_of as code_point_at, code_point_written, conversion_uses, count_uses, cut as cut_to, decimal_written, int_of, is_percent, measure_of, measured as measured_of, number_at, text_of, text_written, value_written, written};
+ghost use Rattle.lp_format.specs.Conversions.{argument_measure, based_written, code_point_of as code_point_at, code_point_written, conversion_uses, count_uses, cut as cut_to, digits_in, decimal_written, int_of, is_percent, measure_of, measured as measured_of, number_at, text_of, text_written, value_written, written};
 ghost use Rattle.lp_format.specs.Fill.{fill_place as fill_place_of, filled, filler as filler_of, has_zeros as has_zeros_of, is_number as is_number_of, missing as missing_of};
 ghost use Rattle.lp_format.specs.Formatted.{directive_text, piece_text, uses};
 ghost use Rattle.lp_format.specs.Spelled.{spelled};
 
 use crate::fault::FormatFault;
-use crate::form::{Conversion, Count, Directive, Piece, mark_len};
+use crate::form::{Base, Conversion, Count, Directive, Piece, mark_len};
 use crate::names::Names;
 use crate::out::Out;
 use crate::spell::{write_int, write_spelled};
@@ -166,9 +165,7 @@ fn write_value<L: Living + Names>(
     match conversion {
         Conversion::Text => write_text(out, v, precision, n, names),
         Conversion::Decimal => write_decimal(out, integer(v, names), n),
-        Conversion::Octal => write_octal(out, integer(v, names), n),
-        Conversion::SmallHex => write_small_hex(out, integer(v, names), n),
-        Conversion::LargeHex => write_large_hex(out, integer(v, names), n),
+        Conversion::Based(base) => write_based(out, integer(v, names), base, n),
         Conversion::CodePoint => write_code_point(out, integer(v, names), n),
         Conversion::Any => write_spelled(out, v, cells, names),
         Conversion::Percent => out.push('%'),
@@ -211,67 +208,36 @@ fn write_decimal(out: &mut Out, value: Option<i64>, n: u64) -> Result<(), Format
     }
 }
 
-/// Appends an integer from 0 up in base 8.
-fn write_octal(out: &mut Out, value: Option<i64>, n: u64) -> Result<(), FormatFault>
-    ensures { Appends result out.old out.new (based_written n 8 false value) }
+/// Appends an integer from 0 up in another base.
+fn write_based(out: &mut Out, value: Option<i64>, base: Base, n: u64) -> Result<(), FormatFault>
+    ensures { Appends result out.old out.new (based_written n base value) }
 {
     match value {
         Some(x) if x >= 0 => {
-            let spelled = octal(out.alloc(), x as u64)?;
-            out.push_all(spelled.as_slice())
+            let digits = digits_of(out.alloc(), base, x as u64)?;
+            out.push_all(digits.as_slice())
         }
         _ => Err(FormatFault::BadArg { n }),
     }
 }
 
-/// Appends an integer from 0 up in base 16 with small letters.
-fn write_small_hex(out: &mut Out, value: Option<i64>, n: u64) -> Result<(), FormatFault>
-    ensures { Appends result out.old out.new (based_written n 16 false value) }
+/// The digits of a number in another base.
+fn digits_of(alloc: Global, base: Base, n: u64) -> Result<Vec<char>, AllocError>
+    ensures { IfOk result (λ v. v.items ≡ digits_in base n) }
 {
-    match value {
-        Some(x) if x >= 0 => {
-            let spelled = small_hex(out.alloc(), x as u64)?;
-            out.push_all(spelled.as_slice())
-        }
-        _ => Err(FormatFault::BadArg { n }),
+    let text = in_base(alloc, base, n)?;
+    code_points(alloc, text.as_str())
+}
+
+/// A number in another base.
+fn in_base(alloc: Global, base: Base, n: u64) -> Result<String, AllocError>
+    ensures { IfOk result (λ s. s.bytes.items ≡ digits_in base n) }
+{
+    match base {
+        Base::Octal => format!(in alloc; "{n:o}"),
+        Base::SmallHex => format!(in alloc; "{n:x}"),
+        Base::LargeHex => format!(in alloc; "{n:X}"),
     }
-}
-
-/// Appends an integer from 0 up in base 16 with capitals.
-fn write_large_hex(out: &mut Out, value: Option<i64>, n: u64) -> Result<(), FormatFault>
-    ensures { Appends result out.old out.new (based_written n 16 true value) }
-{
-    match value {
-        Some(x) if x >= 0 => {
-            let spelled = large_hex(out.alloc(), x as u64)?;
-            out.push_all(spelled.as_slice())
-        }
-        _ => Err(FormatFault::BadArg { n }),
-    }
-}
-
-/// A number in base 8.
-fn octal(alloc: Global, n: u64) -> Result<Vec<char>, AllocError>
-    ensures { IfOk result (λ v. v.items ≡ digits 8 false n) }
-{
-    let text = format!(in alloc; "{n:o}")?;
-    code_points(alloc, text.as_str())
-}
-
-/// A number in base 16 with small letters.
-fn small_hex(alloc: Global, n: u64) -> Result<Vec<char>, AllocError>
-    ensures { IfOk result (λ v. v.items ≡ digits 16 false n) }
-{
-    let text = format!(in alloc; "{n:x}")?;
-    code_points(alloc, text.as_str())
-}
-
-/// A number in base 16 with capitals.
-fn large_hex(alloc: Global, n: u64) -> Result<Vec<char>, AllocError>
-    ensures { IfOk result (λ v. v.items ≡ digits 16 true n) }
-{
-    let text = format!(in alloc; "{n:X}")?;
-    code_points(alloc, text.as_str())
 }
 
 /// Appends the code point with a number.
@@ -347,8 +313,5 @@ fn has_zeros(d: Directive) -> bool
 fn is_number(conversion: Conversion) -> bool
     ensures { result ≡ is_number_of conversion }
 {
-    matches!(
-        conversion,
-        Conversion::Decimal | Conversion::Octal | Conversion::SmallHex | Conversion::LargeHex
-    )
+    matches!(conversion, Conversion::Decimal | Conversion::Based(_))
 }
