@@ -1,3 +1,4 @@
 pub mod CellLemmas
 pub mod ClosedLemmas
 pub mod MappingLemmas
+pub mod ObjectLemmas

@@ -1,11 +1,13 @@
 -- Mappings: lists of pairs in order of insertion, as read.
-use Rattle.std.specs.Prelude.{◌≡◌, ◌≤◌, Bool, ℕ, List, slice_get, [], ◌||◌, Option, None, is_some, filter, length, nat_lt, if◌then◌else◌}
+use Rattle.std.specs.Prelude.{◌≡◌, ◌≤◌, Bool, true, false, ℕ, List, slice_get, [], ◌||◌, Option, None, is_some, filter, length, nat_lt, if◌then◌else◌}
+use Rattle.std.specs.List.{count_by}
 use Rattle.std.specs.Option.{option_to_list}
 use Rattle.std.specs.Map.{lookup, remove_entry}
 use Rattle.indexmap.specs.IndexMap.{insert_entry, insert_all}
 use Rattle.lp_values.specs.Read.{as_read, live_part, value_eq, same}
 use Rattle.lp_values.specs.declared.id.ObjId.{ObjId}
 use Rattle.lp_values.specs.declared.value.Value.{Value}
+use Rattle.lp_values.specs.declared.value.Value.TheVariants.{Int, Str, Arr, Map, Obj}
 
 -- as read: a pair whose key is a destructed object is not there
 abbrev pub pairs_there : (ObjId → Bool) → List (Value × Value) → List (Value × Value)
@@ -42,3 +44,16 @@ pairs_dropped live ps k = remove_entry (value_eq (as_read live k)) ps
 -- the pairs of a new mapping: a later equal key wins at the first one's place
 abbrev pub pairs_of : List (Value × Value) → List (Value × Value)
 pairs_of ps = insert_all value_eq [] ps
+
+-- whether a value is a reference to an object, live or destructed
+abbrev pub is_object : Value → Bool
+is_object (Int n) = false
+is_object (Str s) = false
+is_object (Arr c) = false
+is_object (Map c) = false
+is_object (Obj o) = true
+
+-- how many keys are objects. Each `Pairs` keeps this number, so as an `abbrev` it would stand open in the goals of
+-- every crate that has a `Pairs`, where tactics then stop at their limits.
+unfoldable pub objects_in : List (Value × Value) → ℕ
+objects_in ps = count_by (λ p. is_object p.0) ps

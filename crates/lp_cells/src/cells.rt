@@ -248,6 +248,7 @@ impl Cells {
     }
 
     /// How many items an array has, or how many pairs are there in a mapping. Takes no memory.
+    /// In constant time for an array and for a mapping without objects among its keys.
     pub fn len<L: Living>(&self, id: CellId, live: &L) -> u64
         requires { IsSome (content_at self.now id) }
         ensures { option_map (size_read (L.live live.now)) (content_at self.now id) ≡ Some result }

@@ -2,10 +2,10 @@
 ghost use Rattle.std.specs.Prelude.{◌≡◌, ◌≢◌, ◌+◌, ◌<◌, ◌≤◌, ◌^◌, ◌↔◌, [], length, is_some, slice_get, if◌then◌else◌, IfOk, OnOk, OnErr};
 ghost use Rattle.std.specs.Map.{lookup, remove_entry};
 ghost use Rattle.std.specs.Map.Iter.{deref_pair};
-ghost use Rattle.std.specs.Option.{option_copied, option_map};
+ghost use Rattle.std.specs.Option.{option_copied, option_map, option_to_list};
 ghost use Rattle.indexmap.specs.IndexMap.{insert_all, insert_entry, spare};
 ghost use Rattle.lp_values.specs.Read.{as_read, live_part, value_eq};
-ghost use Rattle.lp_cells.specs.Mapping.{IsFullFor, has_room_for, pair_there, pairs_dropped, pairs_of, pairs_put, pairs_there, value_at_key};
+ghost use Rattle.lp_cells.specs.Mapping.{IsFullFor, has_room_for, is_object, objects_in, pair_there, pairs_dropped, pairs_of, pairs_put, pairs_there, value_at_key};
 ghost use Rattle.lp_cells.specs.Refusals.{UnlessFull};
 
 use crate::fault::{CellFault, MAX_ITEMS};
@@ -18,6 +18,8 @@ use std::marker::Model;
 #[derive(Drop)]
 pub struct Pairs {
     pairs: IndexMap<Value, Value>,
+    // How many of the keys are objects: where none is, no key can be dead.
+    objects: usize,
 }
 
 impl Model for Pairs {
@@ -27,15 +29,22 @@ impl Model for Pairs {
     ghost Value = { List (V × V) };
 
     ghost view = { λ t. t.pairs.entries };
+
+    ghost use Rattle.std.specs.Prelude.{◌≡◌};
+    ghost use Rattle.lp_cells.specs.Mapping.{objects_in};
+
+    ghost invariant = { λ t. t.objects ≡ objects_in t.pairs.entries };
 }
 
 impl Pairs {
     /// No pairs.
+    #[tactic(auto, using(crate::proofs::ObjectLemmas::objects_none))]
     pub fn new(alloc: Global) -> Pairs
         ensures { result ≡ [] }
     {
         Pairs {
             pairs: IndexMap::new(alloc),
+            objects: 0,
         }
     }
 
@@ -84,11 +93,18 @@ impl Pairs {
     }
 
     /// Puts a value at a key: at its place where the key is stored, else last.
+    #[tactic(auto, using(crate::proofs::ObjectLemmas::objects_within))]
     pub fn put(&mut self, key: Value, v: Value) -> Result<(), AllocError>
         ensures ok { OnOk result (self.new ≡ insert_entry value_eq self.old key v) }
         ensures err { OnErr result (self.new ≡ self.old) }
     {
-        self.pairs.insert(key, v)?;
+        let counts = is_object(&key);
+        let is_new = self.pairs.insert(key, v)?.is_none();
+        if is_new && counts {
+            // A map's length is far below the largest number, so the sum fits.
+            let _stored = self.pairs.len();
+            self.objects += 1;
+        }
         Ok(())
     }
 
@@ -97,11 +113,27 @@ impl Pairs {
         ensures after { self.new ≡ remove_entry (value_eq key.now) self.old }
         ensures found { result ≡ is_some (lookup (value_eq key.now) self.old) }
     {
-        self.pairs.shift_remove(key).is_some()
+        let was_stored = self.pairs.shift_remove(key).is_some();
+        if was_stored && is_object(key) {
+            self.objects -= 1;
+        }
+        was_stored
     }
 
-    /// How many pairs are there, as read. Takes no memory.
+    /// How many pairs are there, as read. Takes no memory. In constant time where no key is an object.
     pub fn count_there<L: Living>(&self, live: &L) -> usize
+        ensures value { result ≡ length (pairs_there (L.live live.now) self.now) }
+        ensures within { result ≤ length self.now }
+        ensures small { result < 2 ^ 63 }
+    {
+        if self.objects == 0 {
+            return self.len();
+        }
+        self.count_each_there(live)
+    }
+
+    /// How many pairs are there, as read, from a look at each.
+    fn count_each_there<L: Living>(&self, live: &L) -> usize
         ensures value { result ≡ length (pairs_there (L.live live.now) self.now) }
         ensures within { result ≤ length self.now }
         ensures small { result < 2 ^ 63 }
@@ -166,6 +198,7 @@ impl Pairs {
         self.pairs.reserve(1)?;
         sweep(&mut self.pairs, live);
         self.pairs.insert(key, v)?;
+        self.objects = count_objects(&self.pairs);
         Ok(())
     }
 
@@ -190,6 +223,39 @@ impl Pairs {
             }
         }
         Ok(())
+    }
+}
+
+/// Whether a value is a reference to an object.
+fn is_object(v: &Value) -> bool
+    ensures { result ≡ is_object v.now }
+{
+    matches!(v, Value::Obj(_))
+}
+
+/// How many keys are objects, from a look at each.
+#[tactic(auto, using(crate::proofs::ObjectLemmas::objects_none))]
+fn count_objects(pairs: &IndexMap<Value, Value>) -> usize
+    ensures { result ≡ objects_in pairs.now.entries }
+{
+    let mut count = 0;
+    for i in 0..pairs.len() {
+        if is_object_at(pairs, i) {
+            count += 1;
+        }
+    }
+    count
+}
+
+/// Whether the key at a place is an object.
+#[tactic(auto, unfolding(crate::specs::Mapping::objects_in))]
+fn is_object_at(pairs: &IndexMap<Value, Value>, i: usize) -> bool
+    requires { i < length pairs.now.entries }
+    ensures { objects_in (option_to_list (slice_get pairs.now.entries i)) ≡ (if result then 1 else 0) }
+{
+    match pairs.get_index(i) {
+        Some((key, _)) => is_object(key),
+        None => false,
     }
 }
 

@@ -1,8 +1,7 @@
-use Rattle.std.proofs.Common.{arith, length-append}
-use Rattle.lp_cells.proofs.MappingLemmas.{pairs_there_next}
+use Rattle.std.proofs.Common.{◌≡◌, ◌∙◌}
+use Rattle.lp_cells.specs.Mapping.{objects_in}
+use Rattle.lp_cells.proofs.ObjectLemmas.{length_without_objects}
 use Rattle.lp_cells.proofs.pairs.Pairs.count_there.Goals as goal
-use Rattle.lp_cells.proofs.pairs.Pairs.count_there.Goals.{then-is_there_at, else-is_there_at}
 
-pub loop-i-preserved : goal.loop-i-preserved
-loop-i-preserved g c =
-    elim c.if-is_there_at.branch [ then-is_there_at w ↦ rw (pairs_there_next, length-append) (grind arith) | else-is_there_at w ↦ rw (pairs_there_next, length-append) (grind arith) ]
+pub returns-then-self-eq0-clause-value : goal.returns-then-self-eq0-clause-value
+returns-then-self-eq0-clause-value g c = c.len.ensures.value ∙ length_without_objects (g.L.Living.live c.args.live.now) c.args.self.now (let n : objects_in c.args.self.now ≡ 0 = cc in n)
