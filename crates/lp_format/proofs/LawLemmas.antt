@@ -8,7 +8,7 @@ use Rattle.lp_format.specs.declared.fault.FormatFault.{FormatFault}
 use Rattle.lp_format.specs.declared.fault.FormatFault.TheVariants.{TooLong}
 use Rattle.lp_format.specs.Forms.{Placed}
 use Rattle.lp_format.specs.Formatted.{after, formatted, formatted_after, piece_text, short, uses}
-use Rattle.lp_format.specs.Laws.{AreTexts, IsFormatted, IsRefused, IsTold, IsWhole, Stops, uses_of}
+use Rattle.lp_format.specs.Laws.{AreTexts, IsFormatted, IsTold, Stops, uses_of}
 
 -- all pieces have texts, behind what there is so far and from place i of the arguments on
 record Whole (live : ObjId → Bool) (spell : Value → List ℕ) (args : List Value) (done : List ℕ) (i : ℕ) (ps : List Placed) (text : List ℕ) : Type 0 where

@@ -7,7 +7,6 @@ use Rattle.lp_format.specs.declared.form.Count.{Count}
 use Rattle.lp_format.specs.declared.form.Count.TheVariants.{Absent, Given, Argument, Wrong}
 use Rattle.lp_format.specs.declared.form.Conversion.{Conversion}
 use Rattle.lp_format.specs.declared.form.Conversion.TheVariants.{Text, Decimal, Based, CodePoint, Any, Percent}
-use Rattle.lp_format.specs.declared.form.Base.{Base}
 use Rattle.lp_format.specs.declared.form.Base.TheVariants.{Octal, SmallHex, LargeHex}
 use Rattle.lp_format.specs.declared.form.Piece.{Piece}
 use Rattle.lp_format.specs.declared.form.Piece.TheVariants.{Bad, Made, Plain}

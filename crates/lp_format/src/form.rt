@@ -1,6 +1,6 @@
 //! The pieces of a form.
 ghost use Rattle.std.specs.Prelude.{◌≡◌, ◌<◌, ◌≤◌, ◌+◌, length};
-ghost use Rattle.lp_format.specs.Forms.{behind_left as behind_left_of, behind_marks as behind_marks_of, behind_precision as behind_precision_of, behind_width as behind_width_of, conversion as conversion_named, count as count_of, count_len as count_length, digits_count, directive as directive_of, is_wrong as wrong, lettered as lettered_as, limited as limited_to, mark_len as mark_length, marked as marked_as, marked_len as marked_length, needed as needed_as, piece as piece_of, piece_len as piece_length, precision as precision_of, precision_len as precision_length};
+ghost use Rattle.lp_format.specs.Forms.{behind_left as behind_left_of, behind_marks as behind_marks_of, behind_precision as behind_precision_of, behind_width as behind_width_of, conversion as conversion_named, count as count_of, count_len as count_length, digits_count, directive as directive_of, is_wrong as wrong, limited as limited_to, mark_len as mark_length, marked as marked_as, marked_len as marked_length, needed as needed_as, piece as piece_of, piece_len as piece_length, precision as precision_of, precision_len as precision_length};
 
 use lp_text::form::{point, rest_of};
 use lp_text::scan::{digit_count, magnitude};

@@ -1,12 +1,12 @@
 //! How values are spelled.
-ghost use Rattle.std.specs.Prelude.{◌≡◌, ◌∷◌, [], ◌++◌, All, OnOk, IfOk, map, nat_lt};
+ghost use Rattle.std.specs.Prelude.{◌≡◌, All, OnOk, map};
 ghost use Rattle.lp_cells.specs.Cells.{IsClosed, IsPairThere, IsThere};
 ghost use Rattle.lp_cells.specs.Mapping.{pair_there, pairs_there};
 ghost use Rattle.std.specs.Fmt.{signed_decimal};
 ghost use Rattle.std.specs.Map.Iter.{deref_pair};
 ghost use Rattle.std.specs.Option.{option_map, option_to_list};
 ghost use Rattle.lp_format.specs.Answers.{AppendsText};
-ghost use Rattle.lp_format.specs.Spelled.{array_spelled, deepest as deepest_of, hidden, is_among as among, mapping_spelled, object_spelled, pair_spelled, quoted as quoted_text, quoted_point, separator, spaced, spelled, spelled_within};
+ghost use Rattle.lp_format.specs.Spelled.{array_spelled, deepest as deepest_of, hidden, is_among as among, mapping_spelled, object_spelled, pair_spelled, quoted as quoted_text, quoted_point, separator, spelled, spelled_within};
 
 use crate::fault::FormatFault;
 use crate::names::Names;

@@ -1,9 +1,9 @@
 //! What directives write.
-ghost use Rattle.std.specs.Prelude.{◌≡◌, ◌≤◌, ◌<◌, ◌++◌, ◌+◌, All, MatchResult, None, Some, IfOk, OnOk, length, take, drop, slice_get, true, false};
+ghost use Rattle.std.specs.Prelude.{◌≡◌, ◌≤◌, ◌<◌, ◌++◌, ◌+◌, All, MatchResult, None, Some, IfOk, OnOk, length, take, drop, slice_get};
 ghost use Rattle.lp_cells.specs.Cells.{IsClosed, IsThere};
 ghost use Rattle.lp_values.specs.Read.{as_read as read};
-ghost use Rattle.lp_format.specs.Answers.{Appends, AppendsText, Becomes};
-ghost use Rattle.lp_format.specs.Conversions.{argument_measure, based_written, code_point_of as code_point_at, code_point_written, conversion_uses, count_uses, cut as cut_to, digits_in, decimal_written, int_of, is_percent, measure_of, measured as measured_of, number_at, text_of, text_written, value_written, written};
+ghost use Rattle.lp_format.specs.Answers.{Appends, Becomes};
+ghost use Rattle.lp_format.specs.Conversions.{based_written, code_point_of as code_point_at, code_point_written, conversion_uses, count_uses, cut as cut_to, digits_in, decimal_written, int_of, measure_of, measured as measured_of, text_of, text_written, value_written, written};
 ghost use Rattle.lp_format.specs.Fill.{fill_place as fill_place_of, filled, filler as filler_of, has_zeros as has_zeros_of, is_number as is_number_of, missing as missing_of};
 ghost use Rattle.lp_format.specs.Formatted.{directive_text, piece_text, uses};
 ghost use Rattle.lp_format.specs.Spelled.{spelled};

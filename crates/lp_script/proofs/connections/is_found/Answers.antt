@@ -1,4 +1,4 @@
-use Rattle.std.proofs.Common.{arith, eqb, rules}
+use Rattle.std.proofs.Common.{eqb, rules}
 use Rattle.std.proofs.lemmas.List.Folds.{list_any_at}
 use Rattle.lp_script.proofs.connections.is_found.Goals as goal
 
