@@ -45,6 +45,8 @@ fn single_texts(rt: HostRuntime) -> Result<(), Fail> {
     gives(&rt, alloc, part(alloc, s, 1, 3)?, "b{c")?;
     gives(&rt, alloc, part(alloc, s, 5, 99)?, "Ω")?;
     gives(&rt, alloc, part(alloc, s, 3, 2)?, "")?;
+    let row = code_points(alloc, "abcd")?;
+    gives(&rt, alloc, part(alloc, row.as_slice(), 1, 2)?, "bc")?;
     Ok(())
 }
 
