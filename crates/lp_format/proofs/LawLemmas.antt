@@ -1,14 +1,14 @@
 -- What pieces give, behind what there is so far.
-use Rattle.std.proofs.Common.{◌≡◌, ◌∙◌, ◌≤◌, ◌<◌, ◌+◌, ℕ, List, [], ◌∷◌, ◌++◌, Bool, true, false, Result, Ok, Err, cond, length, nat_lt, ap, subst, sym, refl, append_assoc, append-nil, arith}
-use Rattle.std.proofs.lemmas.List.{length-append}
+use Rattle.std.proofs.Common.{◌≡◌, ◌∙◌, ◌≤◌, ◌<◌, ◌+◌, ℕ, List, [], ◌∷◌, ◌++◌, Bool, true, false, Result, Ok, Err, cond, drop, length, suc, nat_lt, ap, subst, sym, refl, append_assoc, append-nil, arith}
+use Rattle.std.proofs.lemmas.List.{drop-drop, length-append}
 use Rattle.std.specs.List.{concat}
 use Rattle.lp_values.specs.declared.id.ObjId.{ObjId}
 use Rattle.lp_values.specs.declared.value.Value.{Value}
 use Rattle.lp_format.specs.declared.fault.FormatFault.{FormatFault}
 use Rattle.lp_format.specs.declared.fault.FormatFault.TheVariants.{TooLong}
-use Rattle.lp_format.specs.Forms.{Placed}
+use Rattle.lp_format.specs.Forms.{Placed, behind_left, behind_marks, behind_width, count_len, mark_len, marked_len, precision_len}
 use Rattle.lp_format.specs.Formatted.{after, formatted, formatted_after, piece_text, short, uses}
-use Rattle.lp_format.specs.Laws.{AreTexts, IsFormatted, IsTold, Stops, uses_of}
+use Rattle.lp_format.specs.Laws.{AreTexts, IsFormatted, IsPassed, IsTold, Stops, uses_of}
 
 -- all pieces have texts, behind what there is so far and from place i of the arguments on
 record Whole (live : ObjId → Bool) (spell : Value → List ℕ) (args : List Value) (done : List ℕ) (i : ℕ) (ps : List Placed) (text : List ℕ) : Type 0 where
@@ -96,3 +96,20 @@ from_start live spell args ps (Err fault) w =
 -- what pieces give, told as a whole
 pub is_told : IsTold
 is_told live spell args ps = from_start live spell args ps (formatted live spell args ps) (told live spell args [] 0 ps (omega arith))
+
+-- five fronts of a list passed one after another
+passed_all : (a b w p : ℕ) (cs : List ℕ) → drop 1 (drop p (drop w (drop b (drop a cs)))) ≡ drop (a + b + w + p + 1) cs
+passed_all a b w p cs =
+    let n : a + (b + (w + (p + 1))) ≡ a + b + w + p + 1 = omega arith in
+    drop-drop 1 p (drop w (drop b (drop a cs))) ∙ drop-drop (p + 1) w (drop b (drop a cs)) ∙ drop-drop (w + (p + 1)) b (drop a cs) ∙ drop-drop (b + (w + (p + 1))) a cs ∙ ap (λ (x : ℕ). drop x cs) n
+
+-- what follows a directive is what follows its letter
+pub is_passed : IsPassed
+unfolding marked_len
+is_passed cs =
+    let a = mark_len 45 cs in
+    let b = mark_len 48 (behind_left cs) in
+    let w = count_len (behind_marks cs) in
+    let p = precision_len (behind_width cs) in
+    let n : a + b + w + p + 2 ≡ suc (a + b + w + p + 1) = omega arith in
+    ap (λ (x : ℕ). drop x (37 ∷ cs)) n ∙ sym (passed_all a b w p cs)

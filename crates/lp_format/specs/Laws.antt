@@ -1,12 +1,12 @@
--- What formatting gives as a whole, told without going piece by piece.
-use Rattle.std.specs.Prelude.{◌≡◌, ◌<◌, ◌≤◌, ◌+◌, ℕ, List, [], ◌∷◌, ◌++◌, Bool, length, Result, Ok, Err}
+-- What formatting gives as a whole, told without going piece by piece; and where pieces end.
+use Rattle.std.specs.Prelude.{◌≡◌, ◌<◌, ◌≤◌, ◌+◌, ℕ, List, [], ◌∷◌, ◌++◌, Bool, drop, length, Result, Ok, Err}
 use Rattle.std.specs.Bool.{⊤}
 use Rattle.std.specs.List.{concat}
 use Rattle.lp_values.specs.declared.id.ObjId.{ObjId}
 use Rattle.lp_values.specs.declared.value.Value.{Value}
 use Rattle.lp_format.specs.declared.fault.FormatFault.{FormatFault}
 use Rattle.lp_format.specs.declared.fault.FormatFault.TheVariants.{TooLong}
-use Rattle.lp_format.specs.Forms.{Placed}
+use Rattle.lp_format.specs.Forms.{Placed, behind_precision, marked_len}
 use Rattle.lp_format.specs.Formatted.{formatted, piece_text, uses}
 
 -- how many arguments pieces take together
@@ -52,3 +52,7 @@ IsFormatted live spell args ps (Err fault) = IsRefused live spell args ps fault
 -- what pieces give is formatted so
 abbrev pub IsTold : Type 0
 IsTold = (live : ObjId → Bool) (spell : Value → List ℕ) (args : List Value) (ps : List Placed) → IsFormatted live spell args ps (formatted live spell args ps)
+
+-- what follows a directive is what follows its letter
+abbrev pub IsPassed : Type 0
+IsPassed = (cs : List ℕ) → drop (marked_len cs) (37 ∷ cs) ≡ drop 1 (behind_precision cs)

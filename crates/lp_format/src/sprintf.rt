@@ -4,7 +4,7 @@ ghost use Rattle.lp_cells.specs.Cells.{IsClosed, IsThere};
 ghost use Rattle.lp_format.specs.Answers.{Gives};
 ghost use Rattle.lp_format.specs.Forms.{pieces};
 ghost use Rattle.lp_format.specs.Formatted.{formatted};
-ghost use Rattle.lp_format.specs.Laws.{IsTold};
+ghost use Rattle.lp_format.specs.Laws.{IsPassed, IsTold};
 ghost use Rattle.lp_format.specs.Spelled.{spelled};
 
 use crate::fault::FormatFault;
@@ -76,4 +76,9 @@ pub fn sprintf<L: Living + Names>(
 /// that has one, or with which the text is too long.
 pub fn law_whole()
     ensures { IsTold }
+{}
+
+/// Law: what follows a directive in a form is what follows its letter.
+pub fn law_passed()
+    ensures { IsPassed }
 {}
