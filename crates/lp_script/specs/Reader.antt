@@ -1,9 +1,9 @@
 -- A reader of scripts, as a caller sees it.
 use Rattle.std.specs.Prelude.{◌≡◌, ℕ, ◌+◌, ◌<◌, ◌≤◌, List, [], ◌∷◌, ◌++◌, length, take, drop, nat_le, Bool, true, false, Option, Some, None, Result, Ok, Err, ⊤, ◌⊎◌}
 use Rattle.lp_io.specs.Told.{before_giving}
-use Rattle.lp_meaning.specs.declared.item.Item.{Item}
-use Rattle.lp_meaning.specs.declared.item.Item.TheVariants as items
-use Rattle.lp_meaning.specs.Script.{Context, Over as over, beginning, after_item, after_items, Fits, AllFit, spelling, spellings, longest_input, IsBadScript, IsTooLarge}
+use Rattle.lp_events.specs.declared.item.Item.{Item}
+use Rattle.lp_events.specs.declared.item.Item.TheVariants as items
+use Rattle.lp_events.specs.Script.{Context, Over as over, beginning, after_item, after_items, Fits, AllFit, spelling, spellings, longest_input, IsBadScript, IsTooLarge}
 use Rattle.lp_script.specs.Behind.{Behind}
 use Rattle.lp_script.specs.declared.behind.Refusal.TheVariants as refusals
 use Rattle.lp_script.specs.declared.fault.ScriptFault.{ScriptFault}

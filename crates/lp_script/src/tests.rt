@@ -1,9 +1,9 @@
 use super::*;
 use lp_io::{MemSink, MemSource, PutFault};
-use lp_meaning::event::Event;
-use lp_meaning::item::Item;
-use lp_meaning::octets::{ObjectName, Octets};
-use lp_meaning::out::{Out, Outs};
+use lp_events::event::Event;
+use lp_events::item::Item;
+use lp_events::octets::{ObjectName, Octets};
+use lp_events::out::{Out, Outs};
 use lp_tree::path::FilePath;
 use lp_values::text::Text;
 use std::alloc::Global;

@@ -4,11 +4,11 @@ use Rattle.std.proofs.lemmas.List.{length-take, length-take-le, take-append-le, 
 use Rattle.std.specs.List.{list_all}
 use Rattle.std.specs.Prelude.{Ok, Err}
 use Rattle.lp_io.specs.Told.{before_giving}
-use Rattle.lp_meaning.specs.declared.item.Item.{Item}
-use Rattle.lp_meaning.specs.declared.item.Item.TheVariants as items
-use Rattle.lp_meaning.specs.declared.event.Event.TheVariants.{Connect, Line, Gone, Tick, Reload, Swap}
-use Rattle.lp_meaning.specs.Script.{IsScript, longest_input, spelling, event_spelling, spellings}
-use Rattle.lp_meaning.specs.Run.{is_run_yet}
+use Rattle.lp_events.specs.declared.item.Item.{Item}
+use Rattle.lp_events.specs.declared.item.Item.TheVariants as items
+use Rattle.lp_events.specs.declared.event.Event.TheVariants.{Connect, Line, Gone, Tick, Reload, Swap}
+use Rattle.lp_events.specs.Script.{IsScript, longest_input, spelling, event_spelling, spellings}
+use Rattle.lp_small.specs.Run.{is_run_yet}
 use Rattle.lp_script.specs.declared.phase.Phase.{Phase}
 use Rattle.lp_script.specs.declared.phase.Phase.TheVariants.{Taking, Giving, Over}
 use Rattle.lp_script.specs.declared.phase.Ending.TheVariants.{Whole, Bad, Large, Failed}

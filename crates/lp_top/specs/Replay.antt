@@ -3,12 +3,12 @@ use Rattle.std.specs.Prelude.{◌≡◌, ℕ, ◌≤◌, List, [], ◌∷◌, �
 use Rattle.std.specs.List.{list_all}
 use Rattle.lp_io.specs.Told.{after_adding, IsCut}
 use Rattle.lp_tree.specs.declared.fault.Fault.{Fault}
-use Rattle.lp_meaning.specs.declared.item.Item.{Item}
-use Rattle.lp_meaning.specs.declared.item.Item.TheVariants as items
-use Rattle.lp_meaning.specs.Script.{IsScript, IsBadScript, IsTooLarge, files_of, events_of, longest_input}
-use Rattle.lp_meaning.specs.Transcript.{transcript}
-use Rattle.lp_meaning.specs.World.{World, master_path}
-use Rattle.lp_meaning.specs.Run.{Starts, MakesNone, outputs, world_after, is_run_yet, BeginsWithItems, IsNotRunYet, has_started, Blocks, file_at}
+use Rattle.lp_events.specs.declared.item.Item.{Item}
+use Rattle.lp_events.specs.declared.item.Item.TheVariants as items
+use Rattle.lp_events.specs.Script.{IsScript, IsBadScript, IsTooLarge, files_of, events_of, longest_input}
+use Rattle.lp_events.specs.Transcript.{transcript}
+use Rattle.lp_small.specs.World.{World, master_path}
+use Rattle.lp_small.specs.Run.{Starts, MakesNone, outputs, world_after, is_run_yet, BeginsWithItems, IsNotRunYet, has_started, Blocks, file_at}
 use Rattle.lp_script.specs.declared.phase.Phase.TheVariants.{Giving}
 use Rattle.lp_script.specs.declared.fault.ScriptFault.{ScriptFault}
 use Rattle.lp_script.specs.declared.fault.ScriptFault.TheVariants as script

@@ -1,14 +1,14 @@
 //! The command `replay`: reads a script, and writes its transcript.
 ghost use Rattle.std.specs.Prelude.{◌≡◌, ◌≢◌, ℕ, ◌≤◌, List, [], ◌∷◌, ◌++◌, Some, true, false, IfOk, IfErr, OnOk, OnErr, ◌⊎◌, ◌↔◌, length};
 ghost use Rattle.lp_io.specs.Counts.{Counts, Rose};
-ghost use Rattle.lp_meaning.specs.declared.item.Item.{Item as I};
-ghost use Rattle.lp_meaning.specs.declared.item.Item.TheVariants.{End as the_end};
-ghost use Rattle.lp_meaning.specs.Script.{IsScript, longest_input};
+ghost use Rattle.lp_events.specs.declared.item.Item.{Item as I};
+ghost use Rattle.lp_events.specs.declared.item.Item.TheVariants.{End as the_end};
+ghost use Rattle.lp_events.specs.Script.{IsScript, longest_input};
 ghost use Rattle.lp_io.specs.Told.{after_adding};
-ghost use Rattle.lp_meaning.specs.Script.{events_of, files_of};
-ghost use Rattle.lp_meaning.specs.Transcript.{block};
-ghost use Rattle.lp_meaning.specs.World.{World, master_path};
-ghost use Rattle.lp_meaning.specs.Run.{is_run_yet as run_yet, has_started, turn, Starts};
+ghost use Rattle.lp_events.specs.Script.{events_of, files_of};
+ghost use Rattle.lp_events.specs.Transcript.{block};
+ghost use Rattle.lp_small.specs.World.{World, master_path};
+ghost use Rattle.lp_small.specs.Run.{is_run_yet as run_yet, has_started, turn, Starts};
 ghost use Rattle.lp_small.specs.Running.{world_of};
 ghost use Rattle.lp_script.specs.Reader.{fresh, GoesOn, HasGiven, Reads, IsAfter};
 ghost use Rattle.std.specs.Option.{option_copied};
@@ -18,9 +18,9 @@ ghost use Rattle.lp_top.specs.Replay.{AreRunYet, EndsReading, IsReadingEnd, IsAt
 use crate::status::{Faults, Status};
 use crate::words::are_replay;
 use lp_io::{Sink, Source, put_all};
-use lp_meaning::event::Event;
-use lp_meaning::item::Item;
-use lp_meaning::octets::Octets;
+use lp_events::event::Event;
+use lp_events::item::Item;
+use lp_events::octets::Octets;
 use lp_script::{Reader, ScriptFault, one_spelling, write_outs};
 use lp_small::live::{Live, StartFault, start};
 use lp_tree::fault::{Fault, FaultKind};

@@ -1,7 +1,7 @@
 use Rattle.std.proofs.Common.{◌≡◌, ◌<◌, ◌≤◌, ◌++◌, ◌∷◌, [], subst, refl, arith, true}
 use Rattle.std.proofs.Math.Nat.{le_trans}
-use Rattle.lp_meaning.specs.Script.{longest_input, IsScript}
-use Rattle.lp_meaning.specs.Run.{is_run_yet}
+use Rattle.lp_events.specs.Script.{longest_input, IsScript}
+use Rattle.lp_small.specs.Run.{is_run_yet}
 use Rattle.std.specs.Prelude.{Ok}
 use Rattle.lp_script.specs.Reader.{HasGiven, IsAfter}
 use Rattle.lp_top.proofs.Reading.{goes_on, cut_within}

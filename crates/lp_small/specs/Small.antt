@@ -5,16 +5,16 @@ use Rattle.std.specs.Cmp.Lexicographic.{pointwise}
 use Rattle.std.specs.Str.{chars}
 use Rattle.std.specs.Str.Lossy.{utf8_valid_len}
 use Rattle.std.specs.Str.Parse.{digits_value}
-use Rattle.lp_meaning.specs.declared.small.Kind.{Kind}
-use Rattle.lp_meaning.specs.declared.small.Kind.TheVariants as kinds
-use Rattle.lp_meaning.specs.declared.small.Token.{Token}
-use Rattle.lp_meaning.specs.declared.small.Literal.{Literal}
-use Rattle.lp_meaning.specs.declared.small.Literal.TheVariants.{Int, Text, ThisObject}
-use Rattle.lp_meaning.specs.declared.small.Statement.{Statement}
-use Rattle.lp_meaning.specs.declared.small.Statement.TheVariants.{Write, Return}
-use Rattle.lp_meaning.specs.declared.small.Applied.{Applied}
-use Rattle.lp_meaning.specs.declared.small.Applied.TheVariants.{Connect, Logon}
-use Rattle.lp_meaning.specs.declared.small.Function.{Function}
+use Rattle.lp_small.specs.declared.small.Kind.{Kind}
+use Rattle.lp_small.specs.declared.small.Kind.TheVariants as kinds
+use Rattle.lp_small.specs.declared.small.Token.{Token}
+use Rattle.lp_small.specs.declared.small.Literal.{Literal}
+use Rattle.lp_small.specs.declared.small.Literal.TheVariants.{Int, Text, ThisObject}
+use Rattle.lp_small.specs.declared.small.Statement.{Statement}
+use Rattle.lp_small.specs.declared.small.Statement.TheVariants.{Write, Return}
+use Rattle.lp_small.specs.declared.small.Applied.{Applied}
+use Rattle.lp_small.specs.declared.small.Applied.TheVariants.{Connect, Logon}
+use Rattle.lp_small.specs.declared.small.Function.{Function}
 
 -- a space, a tab or a newline
 abbrev pub is_blank : ℕ → Bool

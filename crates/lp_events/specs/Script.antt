@@ -6,10 +6,10 @@ use Rattle.std.specs.Cmp.Lexicographic.{slice_cmp}
 use Rattle.std.specs.declared.cmp.Ordering.{Ordering}
 use Rattle.std.specs.declared.cmp.Ordering.TheVariants.{Less}
 use Rattle.std.specs.Int.Digits.{digits_of}
-use Rattle.lp_meaning.specs.declared.event.Event.{Event}
-use Rattle.lp_meaning.specs.declared.event.Event.TheVariants.{Connect, Line, Gone, Tick, Reload, Swap}
-use Rattle.lp_meaning.specs.declared.item.Item.{Item}
-use Rattle.lp_meaning.specs.declared.item.Item.TheVariants as items
+use Rattle.lp_events.specs.declared.event.Event.{Event}
+use Rattle.lp_events.specs.declared.event.Event.TheVariants.{Connect, Line, Gone, Tick, Reload, Swap}
+use Rattle.lp_events.specs.declared.item.Item.{Item}
+use Rattle.lp_events.specs.declared.item.Item.TheVariants as items
 
 -- a number in decimal, without sign and without a leading zero
 unfoldable pub numeral : ℕ → List ℕ

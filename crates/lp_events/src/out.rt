@@ -1,6 +1,6 @@
 //! Outputs of a turn.
 ghost use Rattle.std.specs.Prelude.{◌≡◌, ◌++◌, ◌∷◌, [], OnOk, OnErr};
-ghost use Rattle.lp_meaning.specs.declared.out.Out.{Out as O};
+ghost use Rattle.lp_events.specs.declared.out.Out.{Out as O};
 
 use lp_values::text::Text;
 use std::alloc::{AllocError, Global};
@@ -29,7 +29,7 @@ pub struct Outs {
 
 impl Model for Outs {
     ghost use Rattle.std.specs.Prelude.{List};
-    ghost use Rattle.lp_meaning.specs.declared.out.Out.{Out};
+    ghost use Rattle.lp_events.specs.declared.out.Out.{Out};
 
     ghost Value = { List Out };
 

@@ -1,9 +1,9 @@
 -- Transcripts: the bytes of the outputs of turns.
 use Rattle.std.specs.Prelude.{◌≡◌, ℕ, List, [], ◌∷◌, ◌++◌, length, flat_map, nat_eq, if◌then◌else◌, codes}
 use Rattle.std.specs.Str.{encode_utf8_all}
-use Rattle.lp_meaning.specs.Script.{numeral, counted}
-use Rattle.lp_meaning.specs.declared.out.Out.{Out}
-use Rattle.lp_meaning.specs.declared.out.Out.TheVariants.{Text, Hide, Show, Close, Log}
+use Rattle.lp_events.specs.Script.{numeral, counted}
+use Rattle.lp_events.specs.declared.out.Out.{Out}
+use Rattle.lp_events.specs.declared.out.Out.TheVariants.{Text, Hide, Show, Close, Log}
 
 -- the bytes of one output
 unfoldable pub output_spelling : Out → List ℕ

@@ -4,15 +4,15 @@ use Rattle.std.specs.Fmt.{signed_decimal}
 use Rattle.lp_values.specs.declared.id.ObjId.{ObjId}
 use Rattle.lp_values.specs.declared.value.Value.{Value}
 use Rattle.lp_values.specs.declared.value.Value.TheVariants as values
-use Rattle.lp_meaning.specs.declared.out.Out.{Out}
-use Rattle.lp_meaning.specs.declared.out.Out.TheVariants as outs
-use Rattle.lp_meaning.specs.declared.small.Literal.{Literal}
-use Rattle.lp_meaning.specs.declared.small.Literal.TheVariants.{Int, Text, ThisObject}
-use Rattle.lp_meaning.specs.declared.small.Statement.{Statement}
-use Rattle.lp_meaning.specs.declared.small.Statement.TheVariants.{Write, Return}
-use Rattle.lp_meaning.specs.declared.small.Applied.{Applied}
-use Rattle.lp_meaning.specs.Small.{function_of}
-use Rattle.lp_meaning.specs.World.{World, functions_of, name_of, number_of}
+use Rattle.lp_events.specs.declared.out.Out.{Out}
+use Rattle.lp_events.specs.declared.out.Out.TheVariants as outs
+use Rattle.lp_small.specs.declared.small.Literal.{Literal}
+use Rattle.lp_small.specs.declared.small.Literal.TheVariants.{Int, Text, ThisObject}
+use Rattle.lp_small.specs.declared.small.Statement.{Statement}
+use Rattle.lp_small.specs.declared.small.Statement.TheVariants.{Write, Return}
+use Rattle.lp_small.specs.declared.small.Applied.{Applied}
+use Rattle.lp_small.specs.Small.{function_of}
+use Rattle.lp_small.specs.World.{World, functions_of, name_of, number_of}
 
 -- for whom a function runs: its object, and `this_player()`
 pub record Env : Type 0 where

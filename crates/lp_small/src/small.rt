@@ -74,7 +74,7 @@ pub struct Body {
 
 impl Model for Body {
     ghost use Rattle.std.specs.Prelude.{List};
-    ghost use Rattle.lp_meaning.specs.declared.small.Statement.{Statement};
+    ghost use Rattle.lp_small.specs.declared.small.Statement.{Statement};
 
     ghost Value = { List Statement };
 
@@ -133,7 +133,7 @@ pub struct Unit {
 
 impl Model for Unit {
     ghost use Rattle.std.specs.Prelude.{List};
-    ghost use Rattle.lp_meaning.specs.declared.small.Function.{Function};
+    ghost use Rattle.lp_small.specs.declared.small.Function.{Function};
 
     ghost Value = { List Function };
 

@@ -1,4 +1,4 @@
-//! What the driver means: scripts, transcripts, worlds, turns and runs.
+//! Scripts and transcripts: items, events and outputs, and how they are spelled.
 //!
 //! The definitions stand in `specs/`. Here are the types that they speak of.
 #![tactic(auto)]
@@ -7,4 +7,3 @@ pub mod event;
 pub mod item;
 pub mod octets;
 pub mod out;
-pub mod small;

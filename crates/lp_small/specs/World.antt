@@ -2,7 +2,7 @@
 use Rattle.std.specs.Prelude.{◌≡◌, ℕ, suc, ℤ, pos, List, [], ◌∷◌, ◌++◌, length, Bool, true, false, nat_eq, nat_le, not, filter, map, if◌then◌else◌, Option, Some, None, unwrap_or, slice_get, is_none, codes, ◌||◌}
 use Rattle.std.specs.Fmt.{signed_decimal}
 use Rattle.lp_values.specs.declared.id.ObjId.{ObjId}
-use Rattle.lp_meaning.specs.declared.small.Function.{Function}
+use Rattle.lp_small.specs.declared.small.Function.{Function}
 
 -- an object: its name, and the functions of its program
 pub record Object : Type 0 where

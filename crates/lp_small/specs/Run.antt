@@ -7,19 +7,19 @@ use Rattle.lp_tree.specs.declared.fault.FaultKind.TheVariants as faults
 use Rattle.lp_values.specs.declared.id.ObjId.{ObjId}
 use Rattle.lp_values.specs.declared.value.Value.{Value}
 use Rattle.lp_values.specs.declared.value.Value.TheVariants as values
-use Rattle.lp_meaning.specs.declared.event.Event.{Event}
-use Rattle.lp_meaning.specs.declared.event.Event.TheVariants.{Connect, Line, Gone, Tick, Reload, Swap}
-use Rattle.lp_meaning.specs.declared.item.Item.{Item}
-use Rattle.lp_meaning.specs.declared.item.Item.TheVariants as items
-use Rattle.lp_meaning.specs.declared.out.Out.{Out}
-use Rattle.lp_meaning.specs.declared.out.Out.TheVariants as outs
-use Rattle.lp_meaning.specs.declared.small.Function.{Function}
-use Rattle.lp_meaning.specs.declared.small.Applied.TheVariants as names
-use Rattle.lp_meaning.specs.Script.{IsScript, IsFront, IsBegun, IsBadScript, IsTooLarge, AllFit, beginning, spellings, files_of, events_of, longest_input}
-use Rattle.lp_meaning.specs.Transcript.{block, blocks, transcript}
-use Rattle.lp_meaning.specs.Small.{tokens_of, kinds_of, IsUnit, IsUnexpected, line_at}
-use Rattle.lp_meaning.specs.World.{World, master, master_path, world_of_master, object_of, number_of, with_connection, without_connection}
-use Rattle.lp_meaning.specs.SmallLanguage.{Env, Ran, applied, is_zero}
+use Rattle.lp_events.specs.declared.event.Event.{Event}
+use Rattle.lp_events.specs.declared.event.Event.TheVariants.{Connect, Line, Gone, Tick, Reload, Swap}
+use Rattle.lp_events.specs.declared.item.Item.{Item}
+use Rattle.lp_events.specs.declared.item.Item.TheVariants as items
+use Rattle.lp_events.specs.declared.out.Out.{Out}
+use Rattle.lp_events.specs.declared.out.Out.TheVariants as outs
+use Rattle.lp_small.specs.declared.small.Function.{Function}
+use Rattle.lp_small.specs.declared.small.Applied.TheVariants as names
+use Rattle.lp_events.specs.Script.{IsScript, IsFront, IsBegun, IsBadScript, IsTooLarge, AllFit, beginning, spellings, files_of, events_of, longest_input}
+use Rattle.lp_events.specs.Transcript.{block, blocks, transcript}
+use Rattle.lp_small.specs.Small.{tokens_of, kinds_of, IsUnit, IsUnexpected, line_at}
+use Rattle.lp_small.specs.World.{World, master, master_path, world_of_master, object_of, number_of, with_connection, without_connection}
+use Rattle.lp_small.specs.SmallLanguage.{Env, Ran, applied, is_zero}
 
 -- the bytes of a file
 abbrev pub file_at : List (List ℕ × List ℕ) → List ℕ → Option (List ℕ)

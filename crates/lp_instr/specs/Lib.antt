@@ -1,0 +1,3 @@
+pub mod EfunList
+pub mod Code
+pub mod Sound
