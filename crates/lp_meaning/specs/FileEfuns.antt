@@ -9,7 +9,7 @@ use Rattle.lp_values.specs.declared.value.Value.TheVariants.{Int, Str}
 use Rattle.lp_values.specs.declared.error.ErrorKind.TheVariants.{TooNested}
 use Rattle.lp_values.specs.Errors.{bad_save, plain}
 use Rattle.lp_cells.specs.Cells.{Store}
-use Rattle.lp_meaning.specs.Script.{is_part_byte}
+use Rattle.lp_events.specs.Script.{is_part_byte}
 use Rattle.lp_text.specs.Pieces.{pieces}
 use Rattle.lp_ops.specs.Operands.{Opened, Number, Chars}
 use Rattle.lp_instr.specs.declared.efun.Efun.{Efun}
