@@ -9,7 +9,7 @@ use Rattle.lp_ops.specs.Prices.{share}
 use Rattle.lp_values.specs.Errors.{bad_arg}
 use Rattle.lp_instr.specs.declared.efun.Efun.{Efun}
 use Rattle.lp_instr.specs.declared.efun.Efun.TheVariants.{AllInventory, Write, TellObject, TellRoom, Say, Printf, Users, Explode, Implode, LowerCase, UpperCase, Capitalize, Strstr, Trim, Sprintf, Sscanf, ToString, Allocate, Member, Copy, Filter, Map, MIndices, MValues, Mkmapping, ReadFile, WriteFile, SaveObject, RestoreObject}
-use Rattle.lp_instr.specs.EfunKinds.{Kind, AnInt, AText, AnObject, AnArray, AMapping, Anything, TextOrObject, CellOrText, kinds}
+use Rattle.lp_instr.specs.EfunKinds.{Kind, AnInt, AText, AnObject, AnArray, AMapping, Anything, TextOrObject, CellOrText}
 use Rattle.lp_instr.specs.EfunList.{efun_name}
 use Rattle.lp_language.specs.Course.{State, zero_value}
 use Rattle.lp_language.specs.Operations.{seen, total_size}

@@ -15,6 +15,7 @@ pub mod SaveText
 pub mod Questions
 pub mod EventTurns
 pub mod Ticks
+pub mod FrontEnd
 pub mod Closing
 pub mod ClosingLaws
 pub mod IdleAndKept
