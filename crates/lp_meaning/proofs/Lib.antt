@@ -1,2 +1,9 @@
 pub mod Unique
 pub mod Lists
+mod Worlds
+mod Stays
+mod StayCalls
+mod StayLoads
+mod StayMoves
+mod StayEfuns
+mod StayCalling
