@@ -1,0 +1,67 @@
+//! The code of a tree does what the tree means.
+#![tactic(auto)]
+
+ghost use Rattle.lp_isa.specs.SoundCode.{SoundCodeNeverFails, TranslatedCodeIsSound, TranslatedInitialisersAreSound};
+ghost use Rattle.lp_isa.specs.Work.{SoundCodeEnds};
+ghost use Rattle.lp_sim.specs.Examples.{Examples, HasCode};
+ghost use Rattle.lp_isa.specs.Runs.{BodiesKeep, DoesTheMeaning, InitialisersKeep, KeepsTheInitialisers, KeepsTheMeaning};
+
+/// Wherever the code stands for a function's body, it makes the calls of every list that fits the
+/// body, in the same order, and ends with the same value or stop, outputs, budget and world.
+pub fn code_keeps_the_meaning()
+    ensures { KeepsTheMeaning }
+{}
+
+/// The same of the initialisers of a program.
+pub fn initialisers_keep_the_meaning()
+    ensures { KeepsTheInitialisers }
+{}
+
+/// The same in the words of the machine alone, one instruction at a time.
+pub fn code_does_the_meaning()
+    ensures { DoesTheMeaning }
+{}
+
+/// What small pieces of LPC give.
+pub fn law_examples()
+    ensures { Examples }
+{}
+
+/// Code that keeps the invariant never comes to an instruction that finds too little on the stack,
+/// or to a place outside of its function.
+pub fn sound_code_never_fails()
+    ensures { SoundCodeNeverFails }
+{}
+
+/// Code that stands for a function's body keeps the invariant, with some greatest height, where
+/// each instruction names what is there.
+pub fn translated_code_is_sound()
+    ensures { TranslatedCodeIsSound }
+{}
+
+/// A function's body removes nothing from the world, adds nothing to the budget, and changes of the
+/// running commands at most the text of the innermost one.
+pub fn bodies_keep_what_was()
+    ensures { BodiesKeep }
+{}
+
+/// So do initialisers.
+pub fn initialisers_keep_what_was()
+    ensures { InitialisersKeep }
+{}
+
+/// Each instruction of sound code leaves less to do, so that a run ends, or asks, after finitely
+/// many.
+pub fn sound_code_ends()
+    ensures { SoundCodeEnds }
+{}
+
+/// So does the code of initialisers.
+pub fn translated_initialisers_are_sound()
+    ensures { TranslatedInitialisersAreSound }
+{}
+
+/// There is code that stands for two small functions.
+pub fn law_code()
+    ensures { HasCode }
+{}
