@@ -1,7 +1,8 @@
 -- The efuns: their names in the order of their numbers, and how many arguments each takes.
-use Rattle.std.specs.Prelude.{ℕ, List, [], ◌∷◌, ◌≤◌, ⊤, Bool, nat_eq, Option, Some, None, codes, if◌then◌else◌}
+use Rattle.std.specs.Prelude.{◌≡◌, ℕ, List, [], ◌∷◌, ◌≤◌, ◌+◌, ⊤, Bool, nat_eq, filter, length, slice_get, Option, Some, None, codes, if◌then◌else◌}
 use Rattle.std.specs.Cmp.Lexicographic.{pointwise}
 use Rattle.lp_instr.specs.declared.efun.Efun.{Efun}
+use Rattle.lp_instr.specs.declared.efuns.Arity.{Arity}
 use Rattle.lp_instr.specs.declared.efun.Efun.TheVariants.{ThisObject, ThisPlayer, ThisInteractive, PreviousObject, CallOther, CloneObject, LoadObject, FindObject, Destruct, ObjectName, LoadName, ProgramName, Clonep, Objectp, Intp, Stringp, Pointerp, Mappingp, Living, Interactive, FunctionExists, EnableCommands, Shadow, QueryShadowing, Unshadow, Environment, AllInventory, FirstInventory, NextInventory, Present, MoveObject, AddAction, Command, QueryVerb, NotifyFail, InputTo, Write, TellObject, TellRoom, Say, Printf, Users, Exec, RemoveInteractive, Time, SetHeartBeat, CallOut, RemoveCallOut, FindCallOut, Random, Throw, RaiseError, Strlen, Explode, Implode, LowerCase, UpperCase, Capitalize, Strstr, Trim, Sprintf, Sscanf, ToInt, ToString, Sizeof, Allocate, Member, Copy, Filter, Map, MIndices, MValues, MDelete, Mkmapping, Min, Max, Abs, ReadFile, WriteFile, FileSize, Rm, SaveObject, RestoreObject}
 
 -- the name of an efun
@@ -106,11 +107,30 @@ efun_in (e ∷ es) w = if is_name (efun_name e) w then Some e else efun_in es w
 unfoldable pub efun_named : List ℕ → Option Efun
 efun_named w = efun_in efuns w
 
--- how many arguments an efun takes: at least and at most, or any number more
-pub record Arity : Type 0 where
-  pub least : ℕ
-  pub most : Option ℕ
+-- the efuns whose names have so many letters
+abbrev pub efuns_of_length : ℕ → List Efun
+efuns_of_length n = filter (λ e. nat_eq (length (efun_name e)) n) efuns
 
+-- where an efun stands in a list, counted from 0
+abbrev pub place_in : List Efun → Efun → ℕ
+place_in [] e = 0
+place_in (x ∷ xs) e = if is_name (efun_name x) (efun_name e) then 0 else 1 + place_in xs e
+
+-- the number of an efun
+unfoldable pub efun_number : Efun → ℕ
+efun_number e = place_in efuns e
+
+-- each efun stands at its number in the list, and nowhere else
+pub record AreNumbered : Type 0 where
+  pub there : (e : Efun) → slice_get efuns (efun_number e) ≡ Some e
+  pub only : (n : ℕ) (e : Efun) → slice_get efuns n ≡ Some e → n ≡ efun_number e
+
+-- each efun is found by its name, and by no other
+pub record AreNamed : Type 0 where
+  pub found : (e : Efun) → efun_named (efun_name e) ≡ Some e
+  pub only : (w : List ℕ) (e : Efun) → efun_named w ≡ Some e → w ≡ efun_name e
+
+-- how many arguments an efun takes: at least and at most, or any number more
 abbrev pub from_to : ℕ → ℕ → Arity
 from_to m n = record { least = m; most = Some n }
 

@@ -4,4 +4,5 @@
 #![tactic(auto)]
 
 pub mod efun;
+pub mod efuns;
 pub mod instr;

@@ -5,3 +5,4 @@ pub mod Operations
 pub mod Scope
 pub mod Eval
 pub mod Exec
+pub mod Afterwards

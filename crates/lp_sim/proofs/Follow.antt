@@ -7,7 +7,8 @@ use Rattle.lp_language.specs.Course.{Scene, State, Stop, End, Gives, Stops, Cour
 use Rattle.lp_instr.specs.Code.{Code, Catching}
 use Rattle.lp_isa.specs.Machine.{Moment, Next, stop_at, stopped, goes, act, act_at}
 use Rattle.lp_isa.specs.Translates.{One}
-use Rattle.lp_isa.specs.Runs.{Comes, there, later, Follows, EndsAfter, GoesAfter}
+use Rattle.lp_language.specs.Afterwards.{EndsAfter, GoesAfter}
+use Rattle.lp_isa.specs.Runs.{Comes, there, later, Follows}
 
 pub comes_trans : {code : Code} {c : Scene} {x y z : Next} → Comes code c x y → Comes code c y z → Comes code c x z
 comes_trans there q = q

@@ -21,9 +21,10 @@ use Rattle.lp_language.specs.Exec.{Flow, On, Out, Again, Back, then_next, after_
 use Rattle.lp_instr.specs.Code.{Code, Catching, case_place}
 use Rattle.lp_isa.specs.Machine.{Next, Ended, stop_at, stopped, goes, end_then, on_some, on_top, row_next, case_fits, table_place, is_text_at}
 use Rattle.lp_isa.specs.Translates.{Line, One, TakesAll, MakesRun, MakesRunIf, MakesValueIf, Clears, MakesOnes, MakesInit, Jumps, MakesTest, JumpsOver, IsCase, OtherIs, MakesStmt, MakesStmts, MakesElse, MakesParts, MakesFun, MakesInitialiser, MakesInitialisers, MakesInitOf}
-use Rattle.lp_isa.specs.Runs.{Comes, there, Follows, After, EndsAfter, GoesAfter}
-use Rattle.lp_sim.proofs.Leave.{after_same}
-use Rattle.lp_sim.proofs.Tame.{eval_after, exec_after, run_if_after, write_slots_after}
+use Rattle.lp_language.specs.Afterwards.{After, EndsAfter, GoesAfter}
+use Rattle.lp_isa.specs.Runs.{Comes, there, Follows}
+use Rattle.lp_language.proofs.Prices.{after_same}
+use Rattle.lp_language.proofs.Bodies.{eval_after, exec_after, run_if_after, write_slots_after}
 use Rattle.lp_sim.proofs.Follow.{comes_trans, comes_to, one_step, step_on, step_to, follows_after, follows_then, follows_on, follows_known, follows_cond, Within, within_more, sink, ExprEnd}
 use Rattle.lp_sim.proofs.Exprs.{one_true, after_expr, writes_comes, expr_follows}
 

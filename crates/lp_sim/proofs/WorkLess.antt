@@ -17,8 +17,8 @@ use Rattle.lp_instr.specs.Code.{Code, Catching, Table, parent_row, case_place}
 use Rattle.lp_isa.specs.Machine.{Next, stop_at, goes, push_end, end_then, take_arguments, on_one, on_two, on_three, on_end, bring, rotate, on_some, end_catch, awaits, marked, on_top, row_next, place_in, case_fits, table_place, act, act_at}
 use Rattle.lp_instr.specs.Sound.{Shape, By, LeadsTo, CasesLead, TableLeads, IsFine}
 use Rattle.lp_isa.specs.Work.{is_turn, ahead, three_to, catches_work, work, work_of, NextLess, SoundCodeEnds}
-use Rattle.lp_isa.specs.Runs.{EndsAfter}
-use Rattle.lp_sim.proofs.Leave.{after_same, unary_after, binary_after_all, item_after, range_after_all, stepped_after, new_array_after, new_mapping_after, put_item_after, copied_after, scan_after, answer_after, local_after, global_after}
+use Rattle.lp_language.specs.Afterwards.{EndsAfter}
+use Rattle.lp_language.proofs.Prices.{after_same, unary_after, binary_after_all, item_after, range_after_all, stepped_after, new_array_after, new_mapping_after, put_item_after, copied_after, scan_after, answer_after, local_after, global_after}
 
 -- a jump goes on, or leads to a turn, which is paid
 abbrev Onward : List Instr → ℕ → ℕ → Type 0

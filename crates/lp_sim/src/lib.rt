@@ -4,7 +4,7 @@
 ghost use Rattle.lp_isa.specs.SoundCode.{SoundCodeNeverFails, TranslatedCodeIsSound, TranslatedInitialisersAreSound};
 ghost use Rattle.lp_isa.specs.Work.{SoundCodeEnds};
 ghost use Rattle.lp_sim.specs.Examples.{Examples, HasCode};
-ghost use Rattle.lp_isa.specs.Runs.{BodiesKeep, DoesTheMeaning, InitialisersKeep, KeepsTheInitialisers, KeepsTheMeaning};
+ghost use Rattle.lp_isa.specs.Runs.{DoesTheMeaning, KeepsTheInitialisers, KeepsTheMeaning};
 
 /// Wherever the code stands for a function's body, it makes the calls of every list that fits the
 /// body, in the same order, and ends with the same value or stop, outputs, budget and world.
@@ -37,17 +37,6 @@ pub fn sound_code_never_fails()
 /// each instruction names what is there.
 pub fn translated_code_is_sound()
     ensures { TranslatedCodeIsSound }
-{}
-
-/// A function's body removes nothing from the world, adds nothing to the budget, and changes of the
-/// running commands at most the text of the innermost one.
-pub fn bodies_keep_what_was()
-    ensures { BodiesKeep }
-{}
-
-/// So do initialisers.
-pub fn initialisers_keep_what_was()
-    ensures { InitialisersKeep }
 {}
 
 /// Each instruction of sound code leaves less to do, so that a run ends, or asks, after finitely

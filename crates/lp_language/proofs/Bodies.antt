@@ -15,8 +15,8 @@ use Rattle.lp_language.specs.Eval.{Site, eval, eval_all, eval_last, eval_pairs, 
 use Rattle.lp_language.specs.Exec.{Flow, On, Out, Again, Back, then_next, after_body, goes_on, run, run_if, test_if, value_if, turn, turns, do_turns, write_slots, with_row, is_pair, each_turns, cleared, before, declares, first_of, chosen, exec, exec_all, exec_else, exec_chosen}
 use Rattle.lp_language.specs.Resolve.{Function, Variable, own_variables, parents_of, variables_before, version_of}
 use Rattle.lp_language.specs.Exec.{body_of, initialise, initialises}
-use Rattle.lp_isa.specs.Runs.{After, EndsAfter, GoesAfter, BodiesKeep, InitialisersKeep}
-use Rattle.lp_sim.proofs.Leave.{after_same, after_trans, pay_after, unary_after, binary_after_all, item_after, range_after_all, stepped_after, new_array_after, new_mapping_after, put_item_after, copied_after, scan_after, answer_after, local_after, global_after}
+use Rattle.lp_language.specs.Afterwards.{After, EndsAfter, GoesAfter, BodiesKeep, InitialisersKeep}
+use Rattle.lp_language.proofs.Prices.{after_same, after_trans, pay_after, unary_after, binary_after_all, item_after, range_after_all, stepped_after, new_array_after, new_mapping_after, put_item_after, copied_after, scan_after, answer_after, local_after, global_after}
 
 pub then_after : {A B : Type 0} (r : State) (t : Course A) (go : A → State → Course B) → GoesAfter r t → ((x : A) (s : State) → After r s → GoesAfter r (go x s)) → GoesAfter r (and_then t go)
 then_after r (Over (Gives x s)) go h g = g x s h

@@ -30,8 +30,8 @@ use Rattle.lp_values.specs.Read.{as_read}
 use Rattle.lp_values.specs.declared.value.Value.TheVariants as values
 use Rattle.lp_ops.specs.Operands.{opened}
 use Rattle.lp_language.specs.World.{object_at, with_cells, with_object}
-use Rattle.lp_isa.specs.Runs.{After, EndsAfter}
-use Rattle.lp_sim.proofs.Kept.{keeps_same, keeps_trans, commands_same, commands_trans, keeps_cell, keeps_item, keeps_pairs, keeps_variable}
+use Rattle.lp_language.specs.Afterwards.{After, EndsAfter}
+use Rattle.lp_language.proofs.Kept.{keeps_same, keeps_trans, commands_same, commands_trans, keeps_cell, keeps_item, keeps_pairs, keeps_variable}
 
 pub after_same : (s : State) → After s s
 after_same s = record { no_more = omega arith; keeps = keeps_same s.world; commands = commands_same s.commands }
