@@ -332,3 +332,29 @@ fn mappings(rt: HostRuntime) -> Result<(), Fail> {
     assert_eq!(rt; number(from_end), Err(ErrorKind::BadOperands));
     Ok(())
 }
+
+#[test]
+fn mappings_of_texts(rt: HostRuntime) -> Result<(), Fail> {
+    let alloc = rt.alloc();
+    let mut cells = Cells::new(alloc);
+    let mut left = Vec::new(alloc);
+    left.push((text(alloc, "b")?, Value::Int(1)))?;
+    left.push((text(alloc, "a")?, Value::Int(2)))?;
+    let mut right = Vec::new(alloc);
+    right.push((text(alloc, "b")?, Value::Int(3)))?;
+    let a = Value::Map(cells.new_map(left)?);
+    let b = Value::Map(cells.new_map(right)?);
+    let sum = apply(&rt, alloc, BinOp::Add, &a, &b, &mut cells)?;
+    assert!(rt; cells.is_there(&sum));
+    if let Value::Map(c) = &sum {
+        let keys = (text(alloc, "b")?, text(alloc, "a")?);
+        assert_eq!(rt;
+            cells.pair(*c, 0),
+            Some((&keys.0, &Value::Int(3))),
+            "an equal key keeps its place"
+        );
+        assert_eq!(rt; cells.pair(*c, 1), Some((&keys.1, &Value::Int(2))));
+        assert_eq!(rt; cells.pairs(*c).len(), 2);
+    }
+    Ok(())
+}

@@ -13,7 +13,9 @@ const HELLO: &str =
 struct Replayed {
     status: u8,
     at: Option<u64>,
+    faults: Vec<(u32, FaultKind)>,
     reads: u64,
+    writes: u64,
     bytes: Vec<u8>,
 }
 
@@ -29,21 +31,41 @@ fn ran(
     failing: &[u64],
     takes: usize,
 ) -> Result<Replayed, AllocError> {
+    ran_over(rt, words, script, failing, &[], takes)
+}
+
+/// The same over a sink whose calls with these numbers fail.
+fn ran_over(
+    rt: &HostRuntime,
+    words: &[&str],
+    script: &[u8],
+    failing: &[u64],
+    failing_writes: &[u64],
+    takes: usize,
+) -> Result<Replayed, AllocError> {
     let mut all = Vec::new(rt.alloc());
     for word in words {
         all.push(String::from_str(rt.alloc(), word)?)?;
     }
     let bytes = Octets::from_vec(script.to_vec(rt.alloc())?);
     let mut input = MemSource::new(bytes, failing.to_vec(rt.alloc())?);
-    let mut out = MemSink::new(rt.alloc(), Vec::new(rt.alloc()), takes);
+    let mut out = MemSink::new(rt.alloc(), failing_writes.to_vec(rt.alloc())?, takes);
     let status = run(rt.alloc(), all.as_slice(), &mut input, &mut out);
+    let mut faults = Vec::new(rt.alloc());
+    if let Status::NoMaster { faults: found } = &status {
+        for fault in found.as_slice() {
+            faults.push((fault.line, fault.kind))?;
+        }
+    }
     Ok(Replayed {
         status: code(&status),
         at: match status {
             Status::BadScript { at } => Some(at),
             _ => None,
         },
+        faults,
         reads: input.calls(),
+        writes: out.calls(),
         bytes: out.as_slice().to_vec(rt.alloc())?,
     })
 }
@@ -161,6 +183,58 @@ fn words_and_devices(rt: HostRuntime) -> Result<(), Fail> {
     );
     let stuck = ran(&rt, &["replay"], bytes, &[], 0)?;
     assert_eq!(rt; stuck.status, 6);
+    Ok(())
+}
+
+// The flush is the sink's last call: a replay that left it out would be done where it fails.
+#[test]
+fn failing_sinks(rt: HostRuntime) -> Result<(), Fail> {
+    let text = script(&rt, HELLO, "connect 1\nend\n")?;
+    let bytes = text.as_bytes();
+    let whole = ran(&rt, &["replay"], bytes, &[], 65536)?;
+    assert_eq!(rt; whole.status, 0);
+    let flush = ran_over(&rt, &["replay"], bytes, &[], &[whole.writes], 65536)?;
+    assert_eq!(rt; flush.status, 6);
+    assert_eq!(rt; flush.bytes.as_slice(), whole.bytes.as_slice());
+    let write = ran_over(&rt, &["replay"], bytes, &[], &[1], 65536)?;
+    assert_eq!(rt; write.status, 6);
+    assert!(rt; write.bytes.is_empty());
+    Ok(())
+}
+
+#[test]
+fn masters_that_are_not_made(rt: HostRuntime) -> Result<(), Fail> {
+    let none = ran(
+        &rt,
+        &["replay"],
+        b"mudscript 1 0 0\nstart\nend\n",
+        &[],
+        65536,
+    )?;
+    assert_eq!(rt; none.status, 3);
+    assert_eq!(rt; none.faults.as_slice(), [(0, FaultKind::NoFile)].as_slice());
+    let text = script(&rt, "\nint logon( {", "end\n")?;
+    let wrong = ran(&rt, &["replay"], text.as_bytes(), &[], 65536)?;
+    assert_eq!(rt; wrong.status, 3);
+    assert_eq!(rt;
+        wrong.faults.as_slice(),
+        [(2, FaultKind::Unexpected)].as_slice()
+    );
+    assert!(rt; wrong.bytes.is_empty());
+    Ok(())
+}
+
+// A file that is not whole within the bytes that a script may have, while the input goes on.
+#[test]
+fn too_large_input(rt: HostRuntime) -> Result<(), Fail> {
+    let mut bytes = b"mudscript 1 0 0\nfile /a 99999999999\n".to_vec(rt.alloc())?;
+    bytes.resize(67108865, b'x')?;
+    let large = ran(&rt, &["replay"], bytes.as_slice(), &[], 65536)?;
+    assert_eq!(rt; large.status, 4);
+    bytes.truncate(67108864);
+    let bad = ran(&rt, &["replay"], bytes.as_slice(), &[], 65536)?;
+    assert_eq!(rt; bad.status, 2);
+    assert_eq!(rt; bad.at, Some(16));
     Ok(())
 }
 
