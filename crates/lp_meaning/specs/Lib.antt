@@ -18,4 +18,5 @@ pub mod Ticks
 pub mod FrontEnd
 pub mod Closing
 pub mod ClosingLaws
+pub mod Computing
 pub mod IdleAndKept

@@ -1,6 +1,5 @@
 -- Environments and inventories, and chains of shadows, as lists.
 use Rattle.std.specs.Prelude.{ℕ, zero, suc, List, [], ◌∷◌, Bool, true, false, not, ◌||◌, if◌then◌else◌, Option, Some, None, option_map, is_some, filter, find, flat_map, map, length, ◌++◌}
-use Rattle.std.specs.List.{list_any}
 use Rattle.lp_values.specs.declared.id.ObjId.{ObjId}
 use Rattle.lp_language.specs.World.{Lying, Shadowing, is_object}
 
@@ -90,21 +89,6 @@ may_shadow places shadows by victim =
     else (if is_some (environment places by) then Some HasEnvironment
     else (if is_some (shadowing shadows victim) then Some VictimShadows
     else None))))
-
--- The chain that a call from outside goes through: the shadows from the outermost inwards, and the object itself last.
--- Where the caller is a shadow in it, the search begins just inside the caller.
-abbrev pub inside_of : ObjId → List ObjId → List ObjId
-inside_of caller [] = []
-inside_of caller (s ∷ ss) = if is_object s caller then ss else inside_of caller ss
-
--- the objects that a call searches, in order
-abbrev pub chain_for : List Shadowing → Option ObjId → ObjId → List ObjId
-chain_for shadows caller o =
-    let chain : List ObjId = shadows_of shadows o in
-    elim caller [
-      | Some c ↦ if list_any (is_object c) chain then inside_of c chain ++ o ∷ [] else chain ++ o ∷ []
-      | None ↦ chain ++ o ∷ []
-    ]
 
 -- why an item may not be moved
 pub data MoveNo : Type 0 where
