@@ -7,3 +7,5 @@ mod StayLoads
 mod StayMoves
 mod StayEfuns
 mod StayCalling
+mod StayFiles
+pub mod Kept
