@@ -1,20 +1,13 @@
 -- Nothing is lost and no budget is won.
-use Rattle.std.proofs.Common.{◌≡◌, ℕ, ◌+◌, ◌-◌, ◌*◌, ◌<◌, ◌≤◌, Bool, true, false, cond, List, [], ◌∷◌, Option, Some, None, refl, sym, ap, subst, arith}
+use Rattle.std.proofs.Common.{◌≡◌, ℕ, ◌+◌, ◌-◌, ◌*◌, ◌<◌, ◌≤◌, List, Option, Some, None, sym, subst, arith}
 use Rattle.lp_values.specs.declared.value.Value.{Value}
-use Rattle.lp_values.specs.Errors.{bad_arg}
 use Rattle.lp_ops.specs.Operands.{Opened, size_of}
 use Rattle.lp_ops.specs.Prices.{size_made}
-use Rattle.lp_ops.specs.declared.effect.Effect.{Effect}
-use Rattle.lp_events.specs.declared.out.Out.{Out}
-use Rattle.lp_events.specs.declared.event.Event.{Event}
 use Rattle.lp_instr.specs.declared.efun.Efun.{Efun}
 use Rattle.lp_instr.specs.EfunKinds.{kinds}
-use Rattle.lp_instr.specs.EfunList.{efun_name}
-use Rattle.lp_language.specs.World.{World, Keeps}
-use Rattle.lp_language.specs.Course.{AreSameCommands, Scene, State, Failed, End, Gives, Stops, Asked, Internal, Parent, OfEfun, Apply, Other, Initialise, Command, Load, Read, Check, Ask, Reply, Outcome, CanAnswer, Course, Over, Asks, and_then, gives, stops, pay, outcome_of, Answers, ends, asks_one, stated, Called, meant, told}
+use Rattle.lp_language.specs.Course.{Scene, State, End, Gives, Stops, Asked, Internal, Parent, OfEfun, Apply, Other, Initialise, Command, Load, Read, Check, Ask, Reply, CanAnswer, Course, Over, outcome_of, Answers, ends, asks_one, stated, meant, told}
 use Rattle.lp_language.specs.Afterwards.{After, EndsAfter}
-use Rattle.lp_language.specs.Operations.{finished, living, cells_of, seen}
-use Rattle.lp_language.proofs.Kept.{keeps_same, keeps_trans}
+use Rattle.lp_language.specs.Operations.{living, cells_of, seen}
 use Rattle.lp_language.proofs.Prices.{after_same, pay_after, finished_after}
 use Rattle.lp_meaning.specs.Askers.{Asker, asker_of, state_of, plainly}
 use Rattle.lp_meaning.specs.FunctionCalls.{nothing_called, internal_call, parent_call, other_call, apply_call, initialise_call}
@@ -28,7 +21,7 @@ use Rattle.lp_meaning.specs.FileEfuns.{files}
 use Rattle.lp_meaning.specs.SaveText.{save_form}
 use Rattle.lp_meaning.specs.Questions.{Group, Computes, OfWorld, Calls, OfFiles, group, deed_end, value_end, acting, kinds_looked_at, efun_in, efun_call, meaning_of}
 use Rattle.lp_meaning.specs.FrontEnd.{FrontEnd, IsTold, unchanged}
-use Rattle.lp_meaning.specs.Closing.{means, Has}
+use Rattle.lp_meaning.specs.Closing.{means}
 use Rattle.lp_meaning.specs.NothingLost.{is_command, level, StaysBelow, NothingIsLost, OutcomesCanBe}
 use Rattle.lp_meaning.proofs.Stays.{stays_from, then_stays, paid_stays, either_stays, plainly_stays}
 use Rattle.lp_meaning.proofs.StayCalls.{internal_stays, parent_stays, other_stays, apply_stays, initialise_stays}

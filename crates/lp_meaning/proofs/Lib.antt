@@ -9,3 +9,6 @@ mod StayEfuns
 mod StayCalling
 mod StayFiles
 pub mod Kept
+pub mod Answered
+mod Turning
+pub mod Computed

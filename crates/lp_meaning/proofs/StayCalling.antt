@@ -1,9 +1,9 @@
 -- Efuns that may call LPC lose nothing and win no budget.
-use Rattle.std.proofs.Common.{◌≡◌, ℕ, ◌+◌, ◌-◌, ◌*◌, ◌<◌, ◌≤◌, Bool, true, false, cond, List, [], ◌∷◌, ◌++◌, Option, Some, None, refl, subst, arith}
-use Rattle.std.specs.Prelude.{pos, codes, ◌&&◌, ◌||◌, not, drop}
+use Rattle.std.proofs.Common.{ℕ, ◌+◌, ◌*◌, ◌<◌, cond, List, [], ◌∷◌, ◌++◌, Option, Some, None, refl}
+use Rattle.std.specs.Prelude.{codes, ◌&&◌, ◌||◌, not, drop}
 use Rattle.lp_values.specs.declared.id.ObjId.{ObjId}
 use Rattle.lp_values.specs.declared.value.Value.{Value}
-use Rattle.lp_values.specs.declared.value.Value.TheVariants.{Int, Str, Obj}
+use Rattle.lp_values.specs.declared.value.Value.TheVariants.{Str, Obj}
 use Rattle.lp_values.specs.declared.error.ErrorKind.TheVariants.{BadTarget}
 use Rattle.lp_values.specs.Errors.{plain}
 use Rattle.lp_ops.specs.Operands.{Opened, Number, Chars, Array, Mapping, Object}
@@ -11,9 +11,9 @@ use Rattle.lp_ops.specs.Operators.{array}
 use Rattle.lp_events.specs.declared.out.Out.TheVariants as outs
 use Rattle.lp_instr.specs.declared.efun.Efun.{Efun}
 use Rattle.lp_instr.specs.declared.efun.Efun.TheVariants as efuns
-use Rattle.lp_language.specs.World.{World, object_at, is_live}
-use Rattle.lp_language.specs.Course.{Scene, State, Failed, Apply, Other, Command, Course, Over, and_then, gives, stops, zero_value}
-use Rattle.lp_language.specs.Operations.{is_false, finished, with_world}
+use Rattle.lp_language.specs.World.{object_at, is_live}
+use Rattle.lp_language.specs.Course.{Scene, State, Failed, Other, Command, Course, Over, and_then, gives, stops, zero_value}
+use Rattle.lp_language.specs.Operations.{is_false, finished}
 use Rattle.lp_language.specs.Afterwards.{After}
 use Rattle.lp_language.proofs.Prices.{finished_after}
 use Rattle.lp_meaning.specs.Places.{environment, inventory, is_at}
@@ -23,10 +23,10 @@ use Rattle.lp_meaning.specs.FileLoads.{text_target, as_target, live_object, mast
 use Rattle.lp_meaning.specs.MovesAndCommands.{is_living}
 use Rattle.lp_meaning.specs.EfunArguments.{arg, text_arg, items_arg, object_arg, value_arg}
 use Rattle.lp_meaning.specs.ComputingEfuns.{written, format}
-use Rattle.lp_meaning.specs.CallingEfuns.{one_value, with_live, with_target, call_other, clone_object, masks, may_begin, with_shadow, shadow_answered, shadow, present_among, present_in, nobody, is_beside, present_text, present, move_to, move_object, command, write_to, write_text, tell_each, speaker, say_in, say, formatted_text, printf, per_item, kept_item, mapped_item, object_for, over_items, calls}
+use Rattle.lp_meaning.specs.CallingEfuns.{one_value, with_live, with_target, call_other, clone_object, masks, may_begin, with_shadow, shadow_answered, shadow, present_among, present_in, nobody, is_beside, present_text, present, move_to, move_object, command, write_to, write_text, tell_each, speaker, say_in, formatted_text, printf, per_item, kept_item, mapped_item, object_for, over_items, calls}
 use Rattle.lp_meaning.specs.NothingLost.{StaysBelow}
 use Rattle.lp_meaning.proofs.Worlds.{keeps_these}
-use Rattle.lp_meaning.proofs.Stays.{after_world, then_stays, cond_stays, either_stays, value_stays, for_player_stays, told_after}
+use Rattle.lp_meaning.proofs.Stays.{after_world, then_stays, cond_stays, value_stays, for_player_stays, told_after}
 use Rattle.lp_meaning.proofs.StayLoads.{target_stays, as_target_stays, clone_stays, master_stays}
 use Rattle.lp_meaning.proofs.StayMoves.{tell_stays, moving_stays}
 

@@ -1,32 +1,22 @@
 -- Calls, loads, moves and commands lose nothing and win no budget.
-use Rattle.std.proofs.Common.{◌≡◌, ℕ, zero, suc, ◌+◌, ◌-◌, ◌*◌, ◌<◌, ◌≤◌, Bool, true, false, cond, List, [], ◌∷◌, ◌++◌, Option, Some, None, refl, arith}
-use Rattle.std.specs.Prelude.{nat_lt, nat_eq, pos, drop, codes, ◌||◌, is_some}
+use Rattle.std.proofs.Common.{ℕ, ◌-◌, ◌*◌, ◌≤◌, cond, List, ◌∷◌, Option, Some, None, refl, arith}
+use Rattle.std.specs.Prelude.{nat_lt, codes}
 use Rattle.lp_values.specs.declared.id.ObjId.{ObjId}
-use Rattle.lp_values.specs.declared.id.ProgId.{ProgId}
 use Rattle.lp_values.specs.declared.value.Value.{Value}
-use Rattle.lp_values.specs.declared.value.Value.TheVariants.{Int, Str, Obj}
-use Rattle.lp_tree.specs.declared.fault.Fault.{Fault}
-use Rattle.lp_tree.specs.declared.pragma.Pragmas.{Pragmas}
-use Rattle.lp_tree.specs.Units.{ItemTree}
-use Rattle.lp_language.specs.World.{World, Version, Sentence, object_at, object_named, is_live}
-use Rattle.lp_language.specs.Course.{Scene, State, Place, Typed, Cause, Thrown, Failed, Spent, Stop, End, Gives, Stops, Loading, LoadKind, Wanted, Inherited, Asked, Internal, Parent, OfEfun, Apply, Other, Initialise, Command, Load, Read, Check, Ask, Reply, Plain, WasRead, IsSound, IsFaulty, Course, Over, gives, stops, zero_value}
+use Rattle.lp_language.specs.Course.{Scene, State, Place, Failed, End, Gives, Stops, Ask, Course, Over, stops}
 use Rattle.lp_language.specs.Afterwards.{After, EndsAfter, GoesAfter}
-use Rattle.lp_language.specs.Eval.{Site}
 use Rattle.lp_language.specs.Exec.{body_of, initialisers_of, first_locals}
-use Rattle.lp_language.specs.Resolve.{Found, Target, internal, of_parent, shadow_target, first_with, chain_of, function_of, heritage_of}
-use Rattle.lp_language.specs.Operations.{is_false}
+use Rattle.lp_language.specs.Resolve.{Found, Target, internal, of_parent, shadow_target, first_with, chain_of, function_of}
 use Rattle.lp_language.proofs.Bodies.{bodies_keep, initialisers_keep}
-use Rattle.lp_language.proofs.Prices.{after_same, after_trans}
-use Rattle.lp_values.specs.declared.error.ErrorKind.TheVariants.{TooDeep, BadTarget, NoClone, TooMany}
+use Rattle.lp_language.proofs.Prices.{after_same}
+use Rattle.lp_values.specs.declared.error.ErrorKind.TheVariants.{TooDeep}
 use Rattle.lp_values.specs.Errors.{plain}
-use Rattle.lp_meaning.specs.Places.{Init, MoveNo, moved, may_move, inits_of_move}
-use Rattle.lp_meaning.specs.Actions.{holds, matching, verb_of, argument_in}
-use Rattle.lp_meaning.specs.WorldSteps.{connection_of, entered, with_new_object, with_new_version, next_version, next_object, has_room, is_clone_name, as_name, master_name, version_of_object}
-use Rattle.lp_meaning.specs.Askers.{Asker, asker_of, state_of, ask_reply, ask_value, plainly, told, tell}
+use Rattle.lp_meaning.specs.WorldSteps.{entered}
+use Rattle.lp_meaning.specs.Askers.{asker_of, state_of}
 use Rattle.lp_meaning.specs.FunctionCalls.{placed_end, placed, entering, calling, nothing_called, calling_if, calling_target, internal_call, parent_call, other_call, apply_call, initialise_call, callers_behind, goes_to_shadows, place_of, site_in}
 use Rattle.lp_meaning.specs.NothingLost.{StaysBelow}
-use Rattle.lp_meaning.proofs.Worlds.{keeps_these, keeps_entered, keeps_new_version, keeps_new_object}
-use Rattle.lp_meaning.proofs.Stays.{after_world, stays_from, stays_body, then_stays, case_stays, cond_stays, paying_stays, paid_stays, either_stays, plainly_stays, reply_stays, value_stays, for_player_stays, told_after}
+use Rattle.lp_meaning.proofs.Worlds.{keeps_entered}
+use Rattle.lp_meaning.proofs.Stays.{after_world, stays_from, stays_body, case_stays, cond_stays, paid_stays, either_stays, plainly_stays}
 
 -- Calls
 

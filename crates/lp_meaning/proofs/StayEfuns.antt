@@ -1,12 +1,12 @@
 -- Efuns lose nothing and win no budget.
-use Rattle.std.proofs.Common.{◌≡◌, ℕ, ◌+◌, ◌-◌, ◌*◌, ◌<◌, ◌≤◌, Bool, true, false, cond, List, [], ◌∷◌, ◌++◌, Option, Some, None, refl, subst, arith}
-use Rattle.std.specs.Prelude.{ℤ, ◌%◌, pos, negsuc, codes, ◌&&◌, ◌||◌, not, drop, nat_eq, nat_lt, length, is_some}
+use Rattle.std.proofs.Common.{◌≡◌, ℕ, Bool, true, false, cond, List, [], ◌∷◌, Option, Some, None, refl}
+use Rattle.std.specs.Prelude.{ℤ, ◌%◌, pos, negsuc, not, drop, nat_eq, nat_lt, length}
 use Rattle.std.specs.Ordering.{int_eq}
 use Rattle.lp_values.specs.declared.id.CellId.{CellId}
 use Rattle.lp_values.specs.declared.id.ObjId.{ObjId}
 use Rattle.lp_values.specs.declared.value.Value.{Value}
 use Rattle.lp_values.specs.declared.error.ErrorKind.TheVariants as errors
-use Rattle.lp_cells.specs.Cells.{Store, pairs_at}
+use Rattle.lp_cells.specs.Cells.{pairs_at}
 use Rattle.lp_cells.specs.Cells.{content_set}
 use Rattle.lp_cells.specs.Mapping.{pairs_dropped}
 use Rattle.lp_cells.specs.declared.content.Content.TheVariants as content
@@ -18,17 +18,16 @@ use Rattle.lp_ops.specs.Operands.{Opened, Number, Chars, Array, Mapping, Object}
 use Rattle.lp_events.specs.declared.out.Out.TheVariants as outs
 use Rattle.lp_instr.specs.declared.efun.Efun.{Efun}
 use Rattle.lp_instr.specs.declared.efun.Efun.TheVariants.{ThisObject, ThisPlayer, ThisInteractive, PreviousObject, CallOther, CloneObject, LoadObject, FindObject, Destruct, ObjectName, LoadName, ProgramName, Clonep, Objectp, Intp, Stringp, Pointerp, Mappingp, Living, Interactive, FunctionExists, EnableCommands, Shadow, QueryShadowing, Unshadow, Environment, AllInventory, FirstInventory, NextInventory, Present, MoveObject, AddAction, Command, QueryVerb, NotifyFail, InputTo, Write, TellObject, TellRoom, Say, Printf, Users, Exec, RemoveInteractive, Time, SetHeartBeat, CallOut, RemoveCallOut, FindCallOut, Random, Throw, RaiseError, Strlen, Explode, Implode, LowerCase, UpperCase, Capitalize, Strstr, Trim, Sprintf, Sscanf, ToInt, ToString, Sizeof, Allocate, Member, Copy, Filter, Map, MIndices, MValues, MDelete, Mkmapping, Min, Max, Abs, ReadFile, WriteFile, FileSize, Rm, SaveObject, RestoreObject}
-use Rattle.lp_language.specs.World.{World, CallOut as CallOutOf, Keeps, object_at, is_live, with_object}
+use Rattle.lp_language.specs.World.{World, CallOut as CallOutOf, Keeps, object_at, is_live}
 use Rattle.lp_language.specs.Course.{AreSameCommands, Typed, Scene, State}
 use Rattle.lp_language.specs.Operations.{with_world, with_store, cells_of, living}
 use Rattle.lp_language.specs.Afterwards.{After}
-use Rattle.lp_language.proofs.Kept.{keeps_trans, keeps_pairs, commands_trans}
-use Rattle.lp_language.proofs.Prices.{after_same, after_trans}
+use Rattle.lp_language.proofs.Kept.{keeps_pairs, commands_trans}
 use Rattle.lp_meaning.specs.Timers.{beats, beat_off, beat_on, earliest}
 use Rattle.lp_meaning.specs.WorldSteps.{connection_of, is_connected, destructed, destruction, with_holder, without_connection}
 use Rattle.lp_meaning.specs.Askers.{told}
 use Rattle.lp_meaning.specs.EfunArguments.{arg, int_arg, text_arg, object_arg, value_arg}
-use Rattle.lp_meaning.specs.WorldEfuns.{Deed, Yields, Throws, zero as nil, one as yes_one, answers_object, changes, object_or_this, of_object, of_live, living_object, enabled, with_shadows_less, with_sentence, holder_for, has_function, is_flag, add_action, with_fail, failing, with_waiting, free_connection, input_to, exec, remove_interactive, with_beats, set_heart_beat, with_call_out, call_out_after, call_out, seconds_left, without_one, with_generator, random, pairs_left, m_delete, deed}
+use Rattle.lp_meaning.specs.WorldEfuns.{Deed, Yields, Throws, zero as nil, one as yes_one, changes, object_or_this, of_object, of_live, living_object, enabled, with_shadows_less, with_sentence, holder_for, has_function, is_flag, add_action, with_fail, failing, with_waiting, free_connection, input_to, exec, remove_interactive, with_beats, set_heart_beat, with_call_out, call_out_after, call_out, seconds_left, without_one, with_generator, random, pairs_left, m_delete, deed}
 use Rattle.lp_meaning.proofs.Worlds.{keeps_these, keeps_object, keeps_destructed}
 use Rattle.lp_meaning.proofs.Stays.{after_world}
 

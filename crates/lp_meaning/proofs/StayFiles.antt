@@ -1,6 +1,6 @@
 -- Efuns on files lose nothing and win no budget: what is restored makes new cells alone.
-use Rattle.std.proofs.Common.{◌≡◌, ℕ, zero, suc, ◌+◌, ◌-◌, ◌*◌, ◌<◌, ◌≤◌, Bool, true, false, cond, List, [], ◌∷◌, ◌++◌, Option, Some, None, refl, sym, ap, ◌∙◌, subst, arith, length, length-append, unwrap_or, map}
-use Rattle.std.specs.Prelude.{codes, slice_get, slice_set, nat_eq, nat_lt, nat_le, drop, ◌&&◌, ◌||◌, not, is_some, slice_index, encode_utf8_all, pos, chars}
+use Rattle.std.proofs.Common.{◌≡◌, ℕ, zero, suc, ◌+◌, ◌*◌, ◌<◌, ◌≤◌, Bool, true, false, cond, List, [], ◌∷◌, ◌++◌, Option, Some, None, refl, ap, ◌∙◌, arith, length, length-append, unwrap_or, map}
+use Rattle.std.specs.Prelude.{codes, slice_get, nat_eq, nat_lt, drop, ◌&&◌, ◌||◌, is_some, slice_index, encode_utf8_all, pos, chars}
 use Rattle.std.specs.List.{before_first}
 use Rattle.std.specs.Str.Lossy.{utf8_valid_len}
 use Rattle.indexmap.specs.IndexMap.{insert_entry}
@@ -10,11 +10,10 @@ use Rattle.lp_text.specs.Scans.{digits_number, signed}
 use Rattle.std.proofs.lemmas.List.{length-set}
 use Rattle.lp_values.specs.declared.id.CellId.{CellId}
 use Rattle.lp_values.specs.declared.value.Value.{Value}
-use Rattle.lp_values.specs.declared.value.Value.TheVariants.{Int, Str, Arr, Map, Obj}
+use Rattle.lp_values.specs.declared.value.Value.TheVariants.{Int, Str, Arr, Map}
 use Rattle.lp_cells.specs.declared.content.Content.{Content}
 use Rattle.lp_cells.specs.declared.content.Content.TheVariants as content
-use Rattle.lp_cells.specs.declared.content.Kind.TheVariants as kind
-use Rattle.lp_cells.specs.Cells.{Store, content_at, content_set, kind_of, with_cell}
+use Rattle.lp_cells.specs.Cells.{Store, content_at, content_set, kind_of}
 use Rattle.lp_language.proofs.Kept.{SameKinds, there_by_kinds, kinds_with_cell, kinds_set, keeps_cells, keeps_trans}
 use Rattle.lp_ops.specs.Operands.{Opened}
 use Rattle.lp_instr.specs.declared.efun.Efun.{Efun}

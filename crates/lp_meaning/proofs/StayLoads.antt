@@ -1,27 +1,27 @@
 -- Loads and clones lose nothing and win no budget.
-use Rattle.std.proofs.Common.{◌≡◌, ℕ, zero, suc, ◌+◌, ◌-◌, ◌*◌, ◌<◌, ◌≤◌, Bool, true, false, cond, List, [], ◌∷◌, ◌++◌, Option, Some, None, refl, arith, map}
+use Rattle.std.proofs.Common.{ℕ, zero, suc, ◌+◌, ◌-◌, ◌*◌, ◌<◌, ◌≤◌, cond, List, [], ◌∷◌, Option, Some, None, refl, arith, map}
 use Rattle.std.specs.Prelude.{nat_lt, codes}
 use Rattle.lp_values.specs.declared.id.ObjId.{ObjId}
 use Rattle.lp_values.specs.declared.id.ProgId.{ProgId}
 use Rattle.lp_values.specs.declared.value.Value.{Value}
-use Rattle.lp_values.specs.declared.value.Value.TheVariants.{Int, Str, Arr, Map, Obj}
+use Rattle.lp_values.specs.declared.value.Value.TheVariants.{Obj}
 use Rattle.lp_values.specs.declared.error.ErrorKind.TheVariants.{BadTarget, NoClone, TooMany}
 use Rattle.lp_values.specs.Errors.{plain}
 use Rattle.lp_tree.specs.declared.fault.Fault.{Fault}
 use Rattle.lp_tree.specs.declared.fault.FaultKind.TheVariants as faults
 use Rattle.lp_tree.specs.declared.pragma.Pragmas.{Pragmas}
 use Rattle.lp_tree.specs.Units.{ItemTree}
-use Rattle.lp_language.specs.World.{World, Version, object_at, object_named, is_live}
-use Rattle.lp_language.specs.Course.{State, Cause, Thrown, Failed, Spent, Stop, End, Gives, Stops, Loading, LoadKind, Wanted, Inherited, Apply, Initialise, Load, Read, Check, Ask, Reply, Plain, WasRead, IsSound, IsFaulty, Course, Over, and_then, in_any_case, gives, stops, zero_value}
+use Rattle.lp_language.specs.World.{Version, object_at, object_named}
+use Rattle.lp_language.specs.Course.{State, Cause, Thrown, Failed, Spent, Stop, End, Gives, Stops, LoadKind, Wanted, Inherited, Apply, Initialise, Load, Read, Check, Ask, Reply, Plain, WasRead, IsSound, IsFaulty, Course, Over, and_then, in_any_case, gives, stops, zero_value}
 use Rattle.lp_language.specs.Afterwards.{After, EndsAfter}
 use Rattle.lp_language.specs.Resolve.{heritage_of}
-use Rattle.lp_language.proofs.Prices.{after_same, after_trans}
+use Rattle.lp_language.proofs.Prices.{after_same}
 use Rattle.lp_meaning.specs.WorldSteps.{with_new_object, with_new_version, next_version, next_object, has_room, is_clone_name, as_name, file_of_name, master_name, version_of_object}
-use Rattle.lp_meaning.specs.Askers.{Asker, asker_of, state_of, ask_reply, ask_value, told}
-use Rattle.lp_meaning.specs.FileLoads.{Parent, Made, fault_record, faulty, initialised_parts, initialising, beginning, logged_cause, begun_end, making, is_under_way, parents_in, known_version, version_known, first_missing, simul_missing, simul_names, object_of_value, with_object_of, after_load, unless_there, file_fault, version_now, after_check, checking, parent_loaded, parent_missing, with_parents, after_read, reading, with_simul, nested_in, under_way, load_call, could_not_load, loaded_value, load_value, text_target, live_object, as_target, with_clone_number, clone_name, object_reply, cloning, clone_of, master_call}
+use Rattle.lp_meaning.specs.Askers.{Asker, asker_of, state_of, ask_reply, ask_value}
+use Rattle.lp_meaning.specs.FileLoads.{Parent, Made, fault_record, faulty, initialised_parts, initialising, beginning, logged_cause, begun_end, making, is_under_way, parents_in, version_known, first_missing, simul_missing, simul_names, object_of_value, with_object_of, after_load, unless_there, file_fault, version_now, after_check, checking, parent_loaded, parent_missing, with_parents, after_read, reading, with_simul, nested_in, under_way, load_call, loaded_value, load_value, text_target, live_object, as_target, with_clone_number, clone_name, object_reply, cloning, clone_of, master_call}
 use Rattle.lp_meaning.specs.NothingLost.{StaysBelow}
 use Rattle.lp_meaning.proofs.Worlds.{keeps_these, keeps_new_version, keeps_new_object}
-use Rattle.lp_meaning.proofs.Stays.{after_world, ends_from, stays_from, then_stays, case_stays, cond_stays, paid_stays, either_stays, reply_stays, value_stays, told_after}
+use Rattle.lp_meaning.proofs.Stays.{after_world, stays_from, then_stays, case_stays, cond_stays, paid_stays, either_stays, reply_stays, value_stays, told_after}
 
 module _ (n : ℕ) (r : State) (low : 2 * r.budget + 0 < n) where
   faulty_stays : (fs : List Fault) (s : State) → After r s → StaysBelow n r (faulty fs s)

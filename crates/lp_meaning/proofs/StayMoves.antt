@@ -1,24 +1,24 @@
 -- Messages, moves and commands lose nothing and win no budget.
-use Rattle.std.proofs.Common.{◌≡◌, ℕ, ◌+◌, ◌*◌, ◌<◌, ◌≤◌, Bool, true, false, cond, List, [], ◌∷◌, ◌++◌, Option, Some, None, refl, subst, arith}
+use Rattle.std.proofs.Common.{◌≡◌, ℕ, ◌+◌, ◌*◌, ◌<◌, cond, List, [], ◌∷◌, Some, None, refl, subst}
 use Rattle.std.specs.Prelude.{codes, pos, ◌&&◌, drop}
 use Rattle.lp_values.specs.declared.id.ObjId.{ObjId}
 use Rattle.lp_values.specs.declared.value.Value.{Value}
 use Rattle.lp_values.specs.declared.value.Value.TheVariants.{Int, Str}
 use Rattle.lp_values.specs.Errors.{plain}
 use Rattle.lp_events.specs.declared.out.Out.TheVariants as outs
-use Rattle.lp_language.specs.World.{World, Sentence, is_live}
+use Rattle.lp_language.specs.World.{Sentence, is_live}
 use Rattle.lp_language.specs.Course.{AreSameCommands, Typed, State, Failed, End, Gives, Stops, Apply, Ask, Course, Over, Asks, and_then, in_any_case, gives, stops, zero_value}
 use Rattle.lp_language.specs.Afterwards.{After, EndsAfter}
 use Rattle.lp_language.specs.Operations.{is_false}
-use Rattle.lp_language.proofs.Prices.{after_same, after_trans}
-use Rattle.lp_meaning.specs.Places.{Init, MoveNo, moved, may_move, inits_of_move}
+use Rattle.lp_language.proofs.Prices.{after_same}
+use Rattle.lp_meaning.specs.Places.{Init, moved, may_move, inits_of_move}
 use Rattle.lp_meaning.specs.Actions.{holds, matching, verb_of, argument_in}
 use Rattle.lp_meaning.specs.WorldSteps.{connection_of}
-use Rattle.lp_meaning.specs.Askers.{Asker, asker_of, state_of, ask_value, plainly, told, for_player, tell}
+use Rattle.lp_meaning.specs.Askers.{Asker, asker_of, state_of, ask_value, told, for_player, tell}
 use Rattle.lp_meaning.specs.MovesAndCommands.{moved_world, may_init, inits, move_error, moving, fail_text, argument_value, trying, without_command, commanding, command_call}
 use Rattle.lp_meaning.specs.NothingLost.{StaysBelow}
 use Rattle.lp_meaning.proofs.Worlds.{keeps_these}
-use Rattle.lp_meaning.proofs.Stays.{after_world, then_stays, case_stays, cond_stays, either_stays, plainly_stays, value_stays, for_player_stays, told_after}
+use Rattle.lp_meaning.proofs.Stays.{after_world, then_stays, cond_stays, either_stays, plainly_stays, value_stays, for_player_stays, told_after}
 
 module _ (n : ℕ) (r : State) (low : 2 * r.budget + 0 < n) where
   pub tell_stays : (by : Asker) (o : ObjId) (text : List ℕ) (s : State) → After r s → StaysBelow n r (tell by o text s)

@@ -1,17 +1,17 @@
 -- Courses that lose nothing: how they are put together.
-use Rattle.std.proofs.Common.{◌≡◌, ℕ, ◌+◌, ◌-◌, ◌*◌, ◌<◌, ◌≤◌, Bool, true, false, cond, List, [], ◌∷◌, ◌++◌, Option, Some, None, refl, sym, subst, arith}
+use Rattle.std.proofs.Common.{◌≡◌, ℕ, ◌+◌, ◌-◌, ◌*◌, ◌<◌, ◌≤◌, Bool, true, false, cond, List, Option, Some, None, refl, sym, subst, arith}
 use Rattle.std.specs.Prelude.{nat_lt}
 use Rattle.std.proofs.lemmas.Bool.{ltb-false}
 use Rattle.lp_values.specs.declared.id.ObjId.{ObjId}
 use Rattle.lp_values.specs.declared.value.Value.{Value}
 use Rattle.lp_events.specs.declared.out.Out.{Out}
-use Rattle.lp_language.specs.World.{World, Keeps}
-use Rattle.lp_language.specs.Course.{AreSameCommands, Scene, State, Spent, Stop, End, Gives, Stops, here, Asked, Internal, Parent, OfEfun, Apply, Other, Initialise, Command, Load, Read, Check, Ask, Reply, Plain, Answer, Returned, Stopped, Outcome, CanAnswer, after, end_of_reply, end_of_answer, end_of_outcome, Course, Over, Asks, and_then, in_any_case, gives, stops, pay, paying}
-use Rattle.lp_language.specs.Afterwards.{After, EndsAfter, AsksAfter, GoesAfter}
-use Rattle.lp_language.proofs.Kept.{keeps_same, keeps_trans}
-use Rattle.lp_language.proofs.Prices.{after_same, after_trans, answer_after}
-use Rattle.lp_meaning.specs.Askers.{Asker, question, ask_reply, ask_value, plainly, told, with_player_back, for_player, tell}
-use Rattle.lp_meaning.specs.NothingLost.{is_command, level, AskedBelow, StaysBelow}
+use Rattle.lp_language.specs.World.{Keeps}
+use Rattle.lp_language.specs.Course.{AreSameCommands, State, Spent, End, Gives, Stops, here, Asked, Internal, Parent, OfEfun, Apply, Other, Initialise, Command, Load, Read, Check, Answer, Returned, Stopped, Outcome, CanAnswer, after, end_of_reply, Course, Over, Asks, and_then, in_any_case, paying}
+use Rattle.lp_language.specs.Afterwards.{After, EndsAfter, GoesAfter}
+use Rattle.lp_language.proofs.Kept.{keeps_trans}
+use Rattle.lp_language.proofs.Prices.{after_trans, answer_after}
+use Rattle.lp_meaning.specs.Askers.{Asker, question, ask_reply, ask_value, plainly, told, with_player_back, for_player}
+use Rattle.lp_meaning.specs.NothingLost.{is_command, StaysBelow}
 
 -- another world that keeps the state's
 pub after_world : (r s t : State) → After r s → t.budget ≡ s.budget → t.commands ≡ s.commands → Keeps s.world t.world → After r t

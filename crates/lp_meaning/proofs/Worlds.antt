@@ -1,9 +1,8 @@
 -- No step of the driver loses a version, an object or a cell.
-use Rattle.std.proofs.Common.{◌≡◌, ◌⊎◌, inl, inr, ◌++◌, ℕ, ◌≤◌, Bool, true, false, cond, List, [], ◌∷◌, Option, Some, None, refl, ap, sym, subst, unwrap_or, length, arith, length-append}
+use Rattle.std.proofs.Common.{◌≡◌, inl, inr, ℕ, ◌≤◌, Bool, true, false, cond, List, [], ◌∷◌, Option, Some, None, refl, ap, sym, subst, unwrap_or, length, arith}
 use Rattle.std.specs.Prelude.{slice_get, slice_set}
 use Rattle.lp_values.specs.declared.id.ObjId.{ObjId}
 use Rattle.lp_values.specs.declared.id.ProgId.{ProgId}
-use Rattle.lp_values.specs.declared.value.Value.{Value}
 use Rattle.lp_cells.specs.Cells.{IsThere}
 use Rattle.lp_language.specs.World.{World, Version, Object, IsSameVersion, IsSameObject, Keeps, object_at, version_at, with_object, with_version, no_version, is_live}
 use Rattle.lp_language.proofs.Kept.{keeps_same, keeps_trans, same_version, same_object, object_kept, get_kept, set_kept}

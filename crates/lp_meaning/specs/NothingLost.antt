@@ -1,5 +1,6 @@
 -- What it says that nothing is lost and no budget is won, and that each question has an outcome.
-use Rattle.std.specs.Prelude.{◌≡◌, ◌≤◌, ◌<◌, ◌+◌, ◌*◌, ℕ, List, Option, Some}
+use Rattle.std.specs.Prelude.{◌≡◌, ◌<◌, ◌+◌, ◌*◌, ◌⊎◌, ℕ, List, Some}
+use Rattle.lp_tree.specs.declared.fault.Fault.{Fault}
 use Rattle.lp_events.specs.declared.event.Event.{Event}
 use Rattle.lp_events.specs.declared.out.Out.{Out}
 use Rattle.lp_language.specs.World.{File, World, Keeps}
@@ -7,7 +8,7 @@ use Rattle.lp_language.specs.Course.{State, Asked, Command, Ask, Reply, Outcome,
 use Rattle.lp_language.specs.Afterwards.{EndsAfter}
 use Rattle.lp_meaning.specs.Askers.{state_of}
 use Rattle.lp_meaning.specs.FrontEnd.{FrontEnd}
-use Rattle.lp_meaning.specs.Closing.{means, Has, Turns}
+use Rattle.lp_meaning.specs.Closing.{means, Has, Turns, MakesNoMaster, Run}
 
 -- How much a question may lead to: twice its budget, and one more for a command, which pays nothing before it asks.
 abbrev pub is_command : Asked → ℕ
@@ -43,3 +44,12 @@ TurnsKeep = (front : FrontEnd) (w : World) (event : Event) (outs : List Out) (ne
 -- Each question has an outcome.
 abbrev pub EveryQuestionIsAnswered : Type 0
 EveryQuestionIsAnswered = (front : FrontEnd) (a : Ask) → (o : Outcome) × Has front a o
+
+-- Each event has its turn.
+abbrev pub EveryEventHasATurn : Type 0
+EveryEventHasATurn = (front : FrontEnd) (w : World) (event : Event) → (outs : List Out) × (next : World) × Turns front w event outs next
+
+-- Each script has a run, or no master.
+abbrev pub EveryScriptHasARun : Type 0
+EveryScriptHasARun = (front : FrontEnd) (seed moment : ℕ) (files : List File) (events : List Event)
+    → ((outputs : List (List Out)) × (last : World) × Run front seed moment files events outputs last) ⊎ ((faults : List Fault) × MakesNoMaster front files seed moment faults)
