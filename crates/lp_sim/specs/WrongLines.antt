@@ -7,9 +7,8 @@ use Rattle.lp_tree.specs.declared.operator.Step.TheVariants.{Up}
 use Rattle.lp_tree.specs.declared.expr.Edge.TheVariants.{Front}
 use Rattle.lp_tree.specs.declared.stmt.Label.TheVariants as labels
 use Rattle.lp_tree.specs.declared.stmt.Constant.TheVariants as constants
-use Rattle.lp_tree.specs.Trees.{Tree, Int, Text, Catch, Sscanf, Index, PostStep, Binary, AndThen, Assign, NoTree, OneMore}
-use Rattle.lp_tree.specs.Statements.{StmtTree, StmtTrees, Run, Block, While, Foreach, Switch, Return, MoreStmts, NoStmt, NoPart, LabelPart, StmtPart}
-use Rattle.lp_values.specs.declared.id.CellId.{CellId}
+use Rattle.lp_tree.specs.Trees.{Tree, Text, Catch, Sscanf, Index, PostStep, Binary, AndThen, Assign, NoTree, OneMore}
+use Rattle.lp_tree.specs.Statements.{StmtTrees, Run, While, Foreach, Switch, Return, MoreStmts, NoStmt, NoPart, LabelPart, StmtPart}
 use Rattle.lp_values.specs.declared.value.Value.{Value}
 use Rattle.lp_values.specs.declared.value.Value.TheVariants as values
 use Rattle.lp_values.specs.Read.{value_eq}
@@ -19,7 +18,7 @@ use Rattle.lp_instr.specs.declared.instr.Instr.TheVariants as instr
 use Rattle.lp_instr.specs.declared.instr.Case.TheVariants as cases
 use Rattle.lp_instr.specs.Code.{Code, Table, Catching}
 use Rattle.lp_language.specs.World.{with_cells}
-use Rattle.lp_language.specs.Course.{State, Stop, Spent, Cause, Thrown, Failed, here, caught, End, Gives, Stops, Course, Over, Asks, and_then, gives, stops, zero_value}
+use Rattle.lp_language.specs.Course.{State, Stop, Spent, here, caught, End, Gives, Stops, Course, Over, Asks, and_then, gives, stops, zero_value}
 use Rattle.lp_language.specs.Resolve.{Function}
 use Rattle.lp_language.specs.Operations.{is_false, binary, scan}
 use Rattle.lp_language.specs.Eval.{eval}
