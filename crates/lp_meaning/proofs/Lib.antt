@@ -12,3 +12,4 @@ pub mod Kept
 pub mod Answered
 mod Turning
 pub mod Computed
+mod KeptVersions

@@ -1,5 +1,5 @@
 -- Which objects and versions are idle, and which versions are kept.
-use Rattle.std.specs.Prelude.{◌≡◌, ℕ, zero, suc, ◌-◌, List, [], ◌∷◌, ◌++◌, length, map, filter, Bool, true, not, ◌&&◌, nat_eq, nat_le, Some, Contains, slice_get, if◌then◌else◌}
+use Rattle.std.specs.Prelude.{◌≡◌, ◌<◌, ◌↔◌, ℕ, zero, suc, ◌-◌, List, [], ◌∷◌, ◌++◌, length, map, filter, Bool, true, not, ◌&&◌, nat_eq, nat_le, Some, Contains, slice_get, if◌then◌else◌}
 use Rattle.std.specs.List.{list_any}
 use Rattle.lp_values.specs.declared.id.ProgId.{ProgId}
 use Rattle.lp_language.specs.World.{Object, World, version_at}
@@ -30,3 +30,12 @@ live_number w = length (filter (λ x. x.is_live) w.objects)
 
 abbrev pub kept_number : World → ℕ
 kept_number w = length (kept_versions w)
+
+-- A world in order: each parent of a version has a lower number, and the version of each live object is there.
+pub record IsOrdered (w : World) : Type 0 where
+  pub lower : (v p : ProgId) → Contains (version_at w v).parents p → p.0 < v.0
+  pub there : (n : ℕ) (x : Object) → slice_get w.objects n ≡ Some x → x.is_live ≡ true → x.version.0 < length w.versions
+
+-- There the list has just the kept versions.
+abbrev pub ListHasTheKept : Type 0
+ListHasTheKept = (w : World) → IsOrdered w → (v : ProgId) → (Contains (kept_versions w) v) ↔ (IsKept w v)

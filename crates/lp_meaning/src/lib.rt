@@ -9,6 +9,7 @@ ghost use Rattle.lp_language.specs.Course.{Reply};
 ghost use Rattle.lp_meaning.specs.ClosingLaws.{ListIsClosing, OneEnd, OneOutcome, OneRun, OneTurn};
 ghost use Rattle.lp_meaning.specs.Computing.{ComputedIsMeant};
 ghost use Rattle.lp_meaning.specs.EventTurns.{Start};
+ghost use Rattle.lp_meaning.specs.IdleAndKept.{ListHasTheKept};
 ghost use Rattle.lp_meaning.specs.NothingLost.{EveryEventHasATurn, EveryQuestionIsAnswered, EveryScriptHasARun, NothingIsLost, OutcomesCanBe, TurnsKeep};
 
 /// A question has one outcome.
@@ -76,4 +77,10 @@ pub fn every_script_has_a_run()
 /// they are those of the run.
 pub fn computed_is_meant()
     ensures { ComputedIsMeant }
+{}
+
+/// In a world in order the list of kept versions has just those that a live object has or a kept
+/// version names as a parent.
+pub fn list_has_the_kept()
+    ensures { ListHasTheKept }
 {}
