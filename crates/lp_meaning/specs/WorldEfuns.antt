@@ -33,7 +33,7 @@ use Rattle.lp_meaning.specs.WorldSteps.{as_name, load_name, version_of_object, c
 use Rattle.lp_meaning.specs.Askers.{told}
 use Rattle.lp_meaning.specs.EfunArguments.{arg, int_arg, text_arg, object_arg, object_in, value_arg, bad}
 
--- What a row does: a value, a new cell or an error, in a state that it may have changed; or a throw.
+-- What an efun does: a value, a new cell or an error, in a state that it may have changed; or a throw.
 pub data Deed : Type 0 where
   Yields : Effect → State → Deed
   Throws : Value → Deed
@@ -58,7 +58,7 @@ changes w e s = Yields e (with_world s w)
 abbrev pub object_or_this : Scene → State → List Opened → ℕ → Option ObjId
 object_or_this c s xs n = elim (slice_get xs n) [ Some x ↦ object_in x | None ↦ if is_live s.world c.this then Some c.this else None ]
 
--- a row about an object; without one the argument is bad
+-- an efun about an object; without one the argument is bad
 abbrev pub of_object : Efun → ℕ → Option ObjId → State → (ObjId → Deed) → Deed
 of_object e n None s go = Yields (bad e n) s
 of_object e n (Some o) s go = go o
