@@ -14,13 +14,13 @@ use Rattle.lp_language.specs.World.{World, Version, Object, IsSameVersion, IsSam
 use Rattle.lp_language.specs.Course.{Typed, AreSameCommands}
 use Rattle.lp_language.specs.Operations.{with_variable}
 
-same_version : (v : Version) → IsSameVersion v v
+pub same_version : (v : Version) → IsSameVersion v v
 same_version v = record { path = refl; items = refl; parents = refl; pragmas = refl; simuls = refl }
 
 version_trans : (u v w : Version) → IsSameVersion u v → IsSameVersion v w → IsSameVersion u w
 version_trans u v w a b = record { path = b.path ∙ a.path; items = b.items ∙ a.items; parents = b.parents ∙ a.parents; pragmas = b.pragmas ∙ a.pragmas; simuls = b.simuls ∙ a.simuls }
 
-same_object : (x : Object) → IsSameObject x x
+pub same_object : (x : Object) → IsSameObject x x
 same_object x = record { name = refl; version = refl }
 
 object_trans : (x y z : Object) → IsSameObject x y → IsSameObject y z → IsSameObject x z
@@ -55,7 +55,7 @@ commands_trans (a ∷ xs) (b ∷ bs) [] h g = g
 commands_trans (a ∷ xs) (b ∷ bs) (c ∷ cs) h g = (h.0 ∙ g.0, h.1 ∙ g.1)
 
 -- cells
-abbrev SameKinds : Store → Store → Type 0
+abbrev pub SameKinds : Store → Store → Type 0
 SameKinds old new = (c : CellId) (y : Content) → content_at old c ≡ Some y → kind_of (content_at new c) ≡ kind_of (Some y)
 
 array_kind : (o : Option Content) → kind_of o ≡ kind.Array → IsSome (as_items o)
@@ -78,7 +78,7 @@ mapping_there old new c k (Some (Array vs)) e h = cc
 mapping_there old new c k (Some (Mapping ps)) e h = mapping_kind (content_at new c) (k c (Mapping ps) e)
 mapping_there old new c k None e h = cc
 
-there_by_kinds : (old new : Store) → SameKinds old new → KeepsThere old new
+pub there_by_kinds : (old new : Store) → SameKinds old new → KeepsThere old new
 there_by_kinds old new k (Int n) h = tt
 there_by_kinds old new k (Str s) h = tt
 there_by_kinds old new k (Arr c) h = array_there old new c k (content_at old c) refl h
@@ -89,26 +89,26 @@ slot_of : (o : Option (Option Content)) (y : Content) → unwrap_or o None ≡ S
 slot_of None y e = cc
 slot_of (Some x) y e = ap Some e
 
-get_kept : {A : Type 0} (xs ys : List A) (i : ℕ) (x : A) → slice_get xs i ≡ Some x → slice_get (xs ++ ys) i ≡ Some x
+pub get_kept : {A : Type 0} (xs ys : List A) (i : ℕ) (x : A) → slice_get xs i ≡ Some x → slice_get (xs ++ ys) i ≡ Some x
 get_kept [] ys i x h = cc
 get_kept (y ∷ xs) ys zero x h = h
 get_kept (y ∷ xs) ys (suc i) x h = get_kept xs ys i x h
 
-set_kept : {A : Type 0} (xs : List A) (i j : ℕ) (a b : A) → slice_get xs j ≡ Some b → (slice_get (slice_set xs i a) j ≡ Some b) ⊎ ((slice_get (slice_set xs i a) j ≡ Some a) × (slice_get xs i ≡ Some b))
+pub set_kept : {A : Type 0} (xs : List A) (i j : ℕ) (a b : A) → slice_get xs j ≡ Some b → (slice_get (slice_set xs i a) j ≡ Some b) ⊎ ((slice_get (slice_set xs i a) j ≡ Some a) × (slice_get xs i ≡ Some b))
 set_kept [] i j a b h = inl h
 set_kept (z ∷ xs) zero zero a b h = inr (refl, h)
 set_kept (z ∷ xs) zero (suc j) a b h = inl h
 set_kept (z ∷ xs) (suc i) zero a b h = inl h
 set_kept (z ∷ xs) (suc i) (suc j) a b h = set_kept xs i j a b h
 
-kinds_with_cell : (cells : Store) (x : Content) → SameKinds cells (with_cell cells x)
+pub kinds_with_cell : (cells : Store) (x : Content) → SameKinds cells (with_cell cells x)
 kinds_with_cell cells x c y e = ap (λ o. kind_of (unwrap_or o None)) (get_kept cells (Some x ∷ []) c.0 (Some y) (slot_of (slice_get cells c.0) y e))
 
-kinds_set : (cells : Store) (c : CellId) (x : Content) → kind_of (content_at cells c) ≡ kind_of (Some x) → SameKinds cells (content_set cells c x)
+pub kinds_set : (cells : Store) (c : CellId) (x : Content) → kind_of (content_at cells c) ≡ kind_of (Some x) → SameKinds cells (content_set cells c x)
 kinds_set cells c x k d y e =
     elim (set_kept cells c.0 d.0 (Some x) (Some y) (slot_of (slice_get cells d.0) y e)) [ inl was ↦ ap (λ o. kind_of (unwrap_or o None)) was | inr both ↦ ap (λ o. kind_of (unwrap_or o None)) both.0 ∙ sym k ∙ ap (λ o. kind_of (unwrap_or o None)) both.1 ]
 
-keeps_cells : (w : World) (cells : Store) → KeepsThere w.cells cells → length w.cells ≤ length cells → Keeps w (with_cells w cells)
+pub keeps_cells : (w : World) (cells : Store) → KeepsThere w.cells cells → length w.cells ≤ length cells → Keeps w (with_cells w cells)
 keeps_cells w cells k l = record {
   versions = λ n v e. (v, e, same_version v);
   objects = λ n x e. (x, e, same_object x);
@@ -141,7 +141,7 @@ keeps_pairs w c ps qs h = keeps_set w c (Mapping qs) (mapping_at (content_at w.c
 object_was : (o : Option Object) (x : Object) → o ≡ Some x → unwrap_or o no_object ≡ x
 object_was o x e = ap (λ o. unwrap_or o no_object) e
 
-object_kept : (w : World) (o : ObjId) (y : Object) → IsSameObject (object_at w o) y → (n : ℕ) (x : Object) → slice_get w.objects n ≡ Some x → (x' : Object) × (slice_get (slice_set w.objects o.0 y) n ≡ Some x') × IsSameObject x x'
+pub object_kept : (w : World) (o : ObjId) (y : Object) → IsSameObject (object_at w o) y → (n : ℕ) (x : Object) → slice_get w.objects n ≡ Some x → (x' : Object) × (slice_get (slice_set w.objects o.0 y) n ≡ Some x') × IsSameObject x x'
 object_kept w o y h n x e =
     elim (set_kept w.objects o.0 n y x e) [ inl was ↦ (x, was, same_object x) | inr both ↦ (y, both.0, subst (λ z. IsSameObject z y) (object_was (slice_get w.objects o.0) x both.1) h) ]
 

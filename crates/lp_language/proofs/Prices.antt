@@ -39,7 +39,7 @@ after_same s = record { no_more = omega arith; keeps = keeps_same s.world; comma
 pub after_trans : (r s t : State) → After r s → After s t → After r t
 after_trans r s t a b = record { no_more = (let x = a.no_more in let y = b.no_more in omega arith); keeps = keeps_trans r.world s.world t.world a.keeps b.keeps; commands = commands_trans r.commands s.commands t.commands a.commands b.commands }
 
-after_cond : {A : Type 0} (r : State) (b : Bool) (x y : End A) → EndsAfter r x → EndsAfter r y → EndsAfter r (cond b x y)
+pub after_cond : {A : Type 0} (r : State) (b : Bool) (x y : End A) → EndsAfter r x → EndsAfter r y → EndsAfter r (cond b x y)
 after_cond r true x y p q = p
 after_cond r false x y p q = q
 
@@ -49,12 +49,12 @@ pay_after r k s f h g =
     after_cond r (nat_lt s.budget k) (Stops (here Spent) (record s { budget = 0 })) (f (record s { budget = s.budget - k })) (record { no_more = omega arith; keeps = h.keeps; commands = h.commands }) (g (record s { budget = s.budget - k }) (record { no_more = omega arith; keeps = h.keeps; commands = h.commands }))
 
 -- the same, where the state that is left counts
-pay_at : {A : Type 0} (r : State) (k : ℕ) (s : State) (f : State → End A) → After r s → (After r (record s { budget = s.budget - k }) → EndsAfter r (f (record s { budget = s.budget - k }))) → EndsAfter r (pay k s f)
+pub pay_at : {A : Type 0} (r : State) (k : ℕ) (s : State) (f : State → End A) → After r s → (After r (record s { budget = s.budget - k }) → EndsAfter r (f (record s { budget = s.budget - k }))) → EndsAfter r (pay k s f)
 pay_at r k s f h g =
     let a = h.no_more in
     after_cond r (nat_lt s.budget k) (Stops (here Spent) (record s { budget = 0 })) (f (record s { budget = s.budget - k })) (record { no_more = omega arith; keeps = h.keeps; commands = h.commands }) (g (record { no_more = omega arith; keeps = h.keeps; commands = h.commands }))
 
-finished_after : (r : State) (n : ℕ) (e : Effect) (s : State) → After r s → EndsAfter r (finished n e s)
+pub finished_after : (r : State) (n : ℕ) (e : Effect) (s : State) → After r s → EndsAfter r (finished n e s)
 finished_after r n (effects.Gives v) s h = pay_after r n s (Gives v) h (λ t l. l)
 finished_after r n (effects.Makes x) s h =
     let w = with_cells s.world (with_cell (cells_of s) x) in

@@ -11,14 +11,14 @@ use Rattle.lp_meaning.specs.FrontEnd.{FrontEnd, unchanged, Tells, IsTold}
 use Rattle.lp_meaning.specs.Closing.{means, Has, Ends, Starts, RunsFrom, over, then}
 use Rattle.lp_meaning.specs.ClosingLaws.{OneOutcome, OneTurn, OneRun}
 
-some_one : {A : Type 0} {x y : A} → Some x ≡ Some y → x ≡ y
+pub some_one : {A : Type 0} {x y : A} → Some x ≡ Some y → x ≡ y
 some_one {x = x} p = ap (λ o. unwrap_or o x) p
 
-abbrev IsThere : {A : Type 0} → Option A → Type 0
+abbrev pub IsThere : {A : Type 0} → Option A → Type 0
 IsThere (Some x) = Unit {0}
 IsThere None = ⊥
 
-some_none : {A : Type 0} {x : A} → Some x ≡ None → ⊥
+pub some_none : {A : Type 0} {x : A} → Some x ≡ None → ⊥
 some_none p = subst IsThere p tt
 
 one_reply : (front : FrontEnd) (a : Ask) (q : Asked) (r s : Reply) → Tells front a q r → Tells front a q s → r ≡ s

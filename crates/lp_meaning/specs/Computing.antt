@@ -1,6 +1,6 @@
 -- The meaning computed: each question is answered by a recursion of so many levels at most, and there is no answer where
 -- these are not enough. What questions mean and what an event does are arguments, so that other meanings can be tried too.
-use Rattle.std.specs.Prelude.{ℕ, zero, suc, List, [], ◌∷◌, ◌++◌, Option, Some, None, option_map}
+use Rattle.std.specs.Prelude.{◌≡◌, ℕ, zero, suc, List, [], ◌∷◌, ◌++◌, Option, Some, None, option_map}
 use Rattle.lp_tree.specs.declared.fault.Fault.{Fault}
 use Rattle.lp_events.specs.declared.event.Event.{Event}
 use Rattle.lp_events.specs.declared.out.Out.{Out}
@@ -9,7 +9,7 @@ use Rattle.lp_language.specs.Course.{State, End, Gives, Stops, Asked, Internal, 
 use Rattle.lp_meaning.specs.EventTurns.{Start, Begins, NoMaster, starting, at_rest}
 use Rattle.lp_meaning.specs.Ticks.{turn}
 use Rattle.lp_meaning.specs.FrontEnd.{FrontEnd, read_reply, check_reply, unchanged}
-use Rattle.lp_meaning.specs.Closing.{means}
+use Rattle.lp_meaning.specs.Closing.{means, Run}
 
 -- what questions mean, and what each event does
 pub record Rules : Type 0 where
@@ -49,13 +49,13 @@ pub record Passed : Type 0 where
   pub world : World
 
 -- after one event more
-abbrev pub passed : List (List Out) → End (Unit {0}) → Passed
-passed before (Gives x s) = record { outputs = before ++ s.outputs ∷ []; world = s.world }
-passed before (Stops x s) = record { outputs = before ++ s.outputs ∷ []; world = s.world }
+abbrev pub passed : (Passed → Option Passed) → List (List Out) → End (Unit {0}) → Option Passed
+passed next before (Gives x s) = next (record { outputs = before ++ s.outputs ∷ []; world = s.world })
+passed next before (Stops x s) = None
 
 abbrev pub passing : Rules → FrontEnd → ℕ → List Event → Passed → Option Passed
 passing r front n [] p = Some p
-passing r front n (e ∷ es) p = elim (follow (answer r.answers front n) (r.turns e (at_rest p.world))) [ Some x ↦ passing r front n es (passed p.outputs x) | None ↦ None ]
+passing r front n (e ∷ es) p = elim (follow (answer r.answers front n) (r.turns e (at_rest p.world))) [ Some x ↦ passed (λ q. passing r front n es q) p.outputs x | None ↦ None ]
 
 -- what a script comes to: the outputs of its events, that of the start first; or no master, for these faults
 pub data Shown : Type 0 where
@@ -70,3 +70,8 @@ started r front n events (Stops x s) = None
 -- a run computed
 unfoldable pub computed : Rules → FrontEnd → ℕ → ℕ → ℕ → List File → List Event → Option Shown
 computed r front n seed moment files events = elim (follow (answer r.answers front n) (starting (at_rest (new_world files seed moment)))) [ Some e ↦ started r front n events e | None ↦ None ]
+
+-- What is computed is so: where a run by the rules that hold gives outputs, they are those of the run.
+abbrev pub ComputedIsMeant : Type 0
+ComputedIsMeant = (front : FrontEnd) (n seed moment : ℕ) (files : List File) (events : List Event) (outputs : List (List Out))
+    → computed rules front n seed moment files events ≡ Some (Outputs outputs) → (last : World) × Run front seed moment files events outputs last

@@ -186,16 +186,25 @@ checking kind by name items pragmas parents s =
     let v : Version = version_now s.world name items pragmas parents simuls in
     and_then (ask_reply (Check (file_of_name name) items pragmas parents simuls) [] by s) (λ r s. after_check kind by name v r s)
 
+-- A parent is loaded, and then the file is read again, unless an object of its name lives by then.
+abbrev pub parent_loaded : Asker → List ℕ → List Made → (List Made → State → Course Reply) → Parent → State → Course Reply
+parent_loaded by name made again p s =
+    and_then (ask_reply (Load p.name Inherited) [] by s) (λ r s.
+    after_load r s (λ o s.
+    unless_there name s (again (record { name = p.name; version = (object_at s.world o).version } ∷ made))))
+
+-- A parent that is not known is loaded, unless its load is under way already, or loads are nested too deep.
+abbrev pub parent_missing : Asker → ℕ → List ℕ → List Made → (List Made → State → Course Reply) → Parent → State → Course Reply
+parent_missing by nested name made again p s =
+    if is_under_way p.name by.loads then faulty (file_fault name p.line faults.Cycle ∷ []) s
+    else (if nat_lt 63 nested then faulty (file_fault name p.line faults.InheritDepth ∷ []) s
+    else parent_loaded by name made again p s)
+
 -- What was read names parents. The first that is not known is loaded, and then the file is read again; once all are known it is checked.
 abbrev pub with_parents : LoadKind → Asker → ℕ → List ℕ → List Made → (List Made → State → Course Reply) → List ItemTree → Pragmas → State → Course Reply
 with_parents kind by nested name made again items pragmas s = elim (first_missing s.world made (parents_in items)) [
   | None ↦ checking kind by name items pragmas (map (version_known s.world made) (parents_in items)) s
-  | Some p ↦
-      if is_under_way p.name by.loads then faulty (file_fault name p.line faults.Cycle ∷ []) s
-      else (if nat_lt 63 nested then faulty (file_fault name p.line faults.InheritDepth ∷ []) s
-      else and_then (ask_reply (Load p.name Inherited) [] by s) (λ r s.
-      after_load r s (λ o s.
-      unless_there name s (again (record { name = p.name; version = (object_at s.world o).version } ∷ made)))))
+  | Some p ↦ parent_missing by nested name made again p s
 ]
 
 -- what a reading leads to: its faults end the load

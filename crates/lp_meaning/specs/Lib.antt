@@ -18,5 +18,6 @@ pub mod Ticks
 pub mod FrontEnd
 pub mod Closing
 pub mod ClosingLaws
+pub mod NothingLost
 pub mod Computing
 pub mod IdleAndKept

@@ -3,13 +3,14 @@ use Rattle.std.specs.Prelude.{ℕ, ℤ, pos, negsuc, ◌+◌, ◌-◌, ◌%◌, 
 use Rattle.std.specs.List.{list_any}
 use Rattle.std.specs.Ordering.{int_eq}
 use Rattle.rand_xoshiro.specs.SplitMix64.{mix_u64}
+use Rattle.lp_values.specs.declared.id.CellId.{CellId}
 use Rattle.lp_values.specs.declared.id.ObjId.{ObjId}
 use Rattle.lp_values.specs.declared.value.Value.{Value}
 use Rattle.lp_values.specs.declared.value.Value.TheVariants as values
 use Rattle.lp_values.specs.declared.error.ErrorKind.TheVariants as errors
 use Rattle.lp_values.specs.Errors.{error}
 use Rattle.lp_cells.specs.declared.content.Content.TheVariants as content
-use Rattle.lp_cells.specs.Cells.{content_set, stored_pairs}
+use Rattle.lp_cells.specs.Cells.{content_set, pairs_at}
 use Rattle.lp_cells.specs.Mapping.{pairs_dropped}
 use Rattle.lp_events.specs.declared.out.Out.TheVariants as outs
 use Rattle.lp_ops.specs.declared.effect.Effect.{Effect}
@@ -259,9 +260,13 @@ random (pos n) s =
     if nat_eq n 0 then Yields zero s
     else changes (with_generator s.world (mix_u64 s.world.generator).1) (int (pos ((mix_u64 s.world.generator).0 % n))) s
 
--- Mappings: a key is dropped, and the answer is the same mapping
+-- Mappings: a key is dropped, and the answer is the same mapping, which is there.
+abbrev pub pairs_left : State → CellId → Option (List (Value × Value)) → Value → Deed
+pairs_left s c None k = Yields (Gives (values.Map c)) s
+pairs_left s c (Some ps) k = Yields (Gives (values.Map c)) (with_store s (content_set (cells_of s) c (content.Mapping (pairs_dropped (living s) ps k))))
+
 abbrev pub m_delete : State → Opened → Value → Deed
-m_delete s (Mapping c ps) k = Yields (Gives (values.Map c)) (with_store s (content_set (cells_of s) c (content.Mapping (pairs_dropped (living s) (stored_pairs (cells_of s) c) k))))
+m_delete s (Mapping c ps) k = pairs_left s c (pairs_at (cells_of s) c) k
 m_delete s x k = Yields zero s
 
 -- What an efun of this group does, in a function of this scene, with these arguments, as they are and as read.

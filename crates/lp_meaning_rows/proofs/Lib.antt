@@ -6,3 +6,4 @@ mod Commands
 mod Time
 mod Files
 mod WrongRules
+mod Runs

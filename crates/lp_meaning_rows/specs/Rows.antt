@@ -5,12 +5,14 @@ use Rattle.lp_tree.specs.declared.fault.FaultKind.TheVariants.{NoFile}
 use Rattle.lp_tree.specs.Statements.{StmtTree, StmtTrees, NoStmt, MoreStmts}
 use Rattle.lp_tree.specs.Units.{ItemTree}
 use Rattle.lp_events.specs.declared.event.Event.{Event}
+use Rattle.lp_events.specs.declared.out.Out.{Out}
 use Rattle.lp_events.specs.Transcript.{transcript}
 use Rattle.lp_instr.specs.EfunList.{is_name}
 pub use Rattle.lp_language.specs.World.{File}
-use Rattle.lp_language.specs.World.{no_pragmas}
+use Rattle.lp_language.specs.World.{World, no_pragmas}
 use Rattle.lp_meaning.specs.WorldSteps.{file_at}
 use Rattle.lp_meaning.specs.FrontEnd.{Reading, Declares, HasFault, FrontEnd}
+use Rattle.lp_meaning.specs.Closing.{Run}
 use Rattle.lp_meaning.specs.Computing.{Rules, rules, Shown, Outputs, Refused, computed}
 
 -- A source: its path and its text, and what reading it gives. The trees are those that its text spells; none of these files has
@@ -88,3 +90,14 @@ Gives r text = GivesBy rules r text
 -- a row has no master, for these faults
 abbrev pub Refuses : Row → List Fault → Type 0
 Refuses r faults = shown_by rules r ≡ Some (Refused faults)
+
+-- a run of a row has this transcript
+pub record RunsTo (r : Row) (text : List ℕ) : Type 0 where
+  pub outputs : List (List Out)
+  pub last : World
+  pub runs : Run (front_end r) 0 r.moment (files_of r) r.events outputs last
+  pub spells : transcript outputs ≡ text
+
+-- So what a row gives is the transcript of its run.
+abbrev pub RowsAreRuns : Type 0
+RowsAreRuns = (r : Row) (text : List ℕ) → Gives r text → RunsTo r text

@@ -10,6 +10,7 @@ ghost use Rattle.lp_meaning_rows.specs.Calls.{CallsRows};
 ghost use Rattle.lp_meaning_rows.specs.Loads.{LoadsRows};
 ghost use Rattle.lp_meaning_rows.specs.Places.{PlacesRows};
 ghost use Rattle.lp_meaning_rows.specs.Commands.{CommandsRows};
+ghost use Rattle.lp_meaning_rows.specs.Rows.{RowsAreRuns};
 ghost use Rattle.lp_meaning_rows.specs.Time.{TimeRows};
 ghost use Rattle.lp_meaning_rows.specs.Files.{FilesRows};
 ghost use Rattle.lp_meaning_rows.specs.WrongRules.{WrongRules};
@@ -53,4 +54,9 @@ pub fn rows_on_files()
 /// gives one transcript by the meaning, and another by them.
 pub fn wrong_rules_are_refused()
     ensures { WrongRules }
+{}
+
+/// What a row gives is the transcript of its run: the rows are tests of the meaning itself.
+pub fn rows_are_runs()
+    ensures { RowsAreRuns }
 {}
