@@ -1,4 +1,5 @@
 -- Calls, loads, moves and commands lose nothing and win no budget.
+use Rattle.lp_meaning.specs.Limits.{max_depth}
 use Rattle.std.proofs.Common.{ℕ, ◌-◌, ◌*◌, ◌≤◌, cond, List, ◌∷◌, Option, Some, None, refl, arith}
 use Rattle.std.specs.Prelude.{nat_lt, codes}
 use Rattle.lp_values.specs.declared.id.ObjId.{ObjId}
@@ -27,11 +28,11 @@ placed_after r p (Stops x s) h = h
 pub entering_stays : (n : ℕ) (r : State) (c : Scene) (body : State → Course Value) (s : State) → 2 * s.budget ≤ n → After r s → ((t : State) → GoesAfter t (body t)) → StaysBelow n r (entering c body s)
 entering_stays n r c body s low h B =
     let inside : State → Course Value = λ s. placed (place_of s.world c) (body (record s { world = entered s.world c.this c.version })) in
-    paid_stays n r 1 s (λ s. cond (nat_lt 100 c.depth) (stops (Failed (plain TooDeep)) s) (inside s)) h (λ enough l.
+    paid_stays n r 1 s (λ s. cond (nat_lt max_depth c.depth) (stops (Failed (plain TooDeep)) s) (inside s)) h (λ enough l.
     let s1 : State = record s { budget = s.budget - 1 } in
     let t : State = record s1 { world = entered s1.world c.this c.version } in
     let at = after_world r s1 t l refl refl (keeps_entered s1.world c.this c.version) in
-    cond_stays n r (nat_lt 100 c.depth) (stops (Failed (plain TooDeep)) s1) (inside s1) l
+    cond_stays n r (nat_lt max_depth c.depth) (stops (Failed (plain TooDeep)) s1) (inside s1) l
     (case_stays n r (body t) (λ e. Over (placed_end (place_of s1.world c) e)) (stays_from n r t (body t) at (stays_body n t (body t) (omega (arith, low, enough)) (B t))) (λ e h. placed_after r (place_of s1.world c) e h)))
 
 module _ (n : ℕ) (a : Ask) (low : 2 * a.budget ≤ n) where

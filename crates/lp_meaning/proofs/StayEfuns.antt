@@ -1,4 +1,5 @@
 -- Efuns lose nothing and win no budget.
+use Rattle.lp_meaning.specs.Limits.{max_call_outs}
 use Rattle.std.proofs.Common.{◌≡◌, ℕ, Bool, true, false, cond, List, [], ◌∷◌, Option, Some, None, refl}
 use Rattle.std.specs.Prelude.{ℤ, ◌%◌, pos, negsuc, not, drop, nat_eq, nat_lt, length}
 use Rattle.std.specs.Ordering.{int_eq}
@@ -113,9 +114,9 @@ module _ (r : State) where
   call_after c s vs fun (negsuc n) h = h
   call_after c s vs fun (pos n) h =
       let w : World = with_call_out s.world c.this fun n (drop 2 vs) in
-      let room : Deed = cond (nat_lt (length s.world.call_outs) 100000) (changes w nil s) (Yields (refused errors.TooMany) s) in
+      let room : Deed = cond (nat_lt (length s.world.call_outs) max_call_outs) (changes w nil s) (Yields (refused errors.TooMany) s) in
       deed_cond (not (has_function s.world c.this fun)) (Yields (refused errors.NoFunction) s) room h
-      (deed_cond (nat_lt (length s.world.call_outs) 100000) (changes w nil s) (Yields (refused errors.TooMany) s) (these_after w nil s h refl refl refl) h)
+      (deed_cond (nat_lt (length s.world.call_outs) max_call_outs) (changes w nil s) (Yields (refused errors.TooMany) s) (these_after w nil s h refl refl refl) h)
 
   call_out_stays : (c : Scene) (s : State) (vs : List Value) (xs : List Opened) → After r s → DeedAfter r (call_out c s vs xs)
   call_out_stays c s vs xs h =

@@ -1,4 +1,6 @@
 -- Efuns on files lose nothing and win no budget: what is restored makes new cells alone.
+use Rattle.lp_values.specs.Limits.{max_items}
+use Rattle.lp_meaning.specs.Limits.{max_saved_levels}
 use Rattle.std.proofs.Common.{◌≡◌, ℕ, zero, suc, ◌+◌, ◌*◌, ◌<◌, ◌≤◌, Bool, true, false, cond, List, [], ◌∷◌, ◌++◌, Option, Some, None, refl, ap, ◌∙◌, arith, length, length-append, unwrap_or, map}
 use Rattle.std.specs.Prelude.{codes, slice_get, nat_eq, nat_lt, drop, ◌&&◌, ◌||◌, is_some, slice_index, encode_utf8_all, pos, chars}
 use Rattle.std.specs.List.{before_first}
@@ -112,7 +114,7 @@ array_grew : (a : Store) (b : Bool) (t : List ℕ) (r : Rest) (vs : List Value) 
 array_grew a b t r vs x h g =
     let c = next_cell r in
     let begun = (cell_begun b t (content.Array []) r).cells in
-    grew_cond a (nat_lt 10000 (length vs)) None (Some (Arr c, record x { cells = content_set x.cells c (content.Array vs) })) tt
+    grew_cond a (nat_lt max_items (length vs)) None (Some (Arr c, record x { cells = content_set x.cells c (content.Array vs) })) tt
     (grows_trans a x.cells (content_set x.cells c (content.Array vs)) (grows_trans a begun x.cells (grows_trans a r.cells begun h (begun_grows b t (content.Array []) r)) g)
     (set_grows x.cells c (content.Array vs) (new_kind b t (content.Array []) r x.cells g)))
 
@@ -120,7 +122,7 @@ mapping_grew : (a : Store) (b : Bool) (t : List ℕ) (r : Rest) (ps : List (Valu
 mapping_grew a b t r ps x h g =
     let c = next_cell r in
     let begun = (cell_begun b t (content.Mapping []) r).cells in
-    grew_cond a (nat_lt 10000 (length ps)) None (Some (Map c, record x { cells = content_set x.cells c (content.Mapping ps) })) tt
+    grew_cond a (nat_lt max_items (length ps)) None (Some (Map c, record x { cells = content_set x.cells c (content.Mapping ps) })) tt
     (grows_trans a x.cells (content_set x.cells c (content.Mapping ps)) (grows_trans a begun x.cells (grows_trans a r.cells begun h (begun_grows b t (content.Mapping []) r)) g)
     (set_grows x.cells c (content.Mapping ps) (new_kind b t (content.Mapping []) r x.cells g)))
 
@@ -191,9 +193,9 @@ named_grew a name (Some p) h = h
 line_of_grew : (a : Store) (t : List ℕ) (r : Rest) → Grows a r.cells → Grew a (line_of t r)
 line_of_grew a t r h =
     let name : List ℕ = before_first (λ c. nat_eq c 32) t in
-    let v : Reading Value = value_read (3 + length t + length t) 100 (left (drop (length name + 1) t) r) in
+    let v : Reading Value = value_read (3 + length t + length t) max_saved_levels (left (drop (length name + 1) t) r) in
     grew_cond a (is_variable_name name && nat_lt (length name) (length t)) (named name (whole v)) None
-    (named_grew a name (whole v) (whole_grew a v (value_grew (3 + length t + length t) 100 a (left (drop (length name + 1) t) r) h))) tt
+    (named_grew a name (whole v) (whole_grew a v (value_grew (3 + length t + length t) max_saved_levels a (left (drop (length name + 1) t) r) h))) tt
 
 line_grew : (a : Store) (bytes : List ℕ) (r : Rest) → Grows a r.cells → Grew a (line_read bytes r)
 line_grew a bytes r h = grew_cond a (nat_eq (utf8_valid_len bytes) (length bytes)) (line_of (chars bytes) r) None (line_of_grew a (chars bytes) r h) tt

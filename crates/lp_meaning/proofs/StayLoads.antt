@@ -1,4 +1,5 @@
 -- Loads and clones lose nothing and win no budget.
+use Rattle.lp_meaning.specs.Limits.{max_nested, load_price}
 use Rattle.std.proofs.Common.{ℕ, zero, suc, ◌+◌, ◌-◌, ◌*◌, ◌<◌, ◌≤◌, cond, List, [], ◌∷◌, Option, Some, None, refl, arith, map}
 use Rattle.std.specs.Prelude.{nat_lt, codes}
 use Rattle.lp_values.specs.declared.id.ObjId.{ObjId}
@@ -92,8 +93,8 @@ module _ (n : ℕ) (r : State) (low : 2 * r.budget + 0 < n) where
       → After r s → ((made : List Made) (s : State) → After r s → StaysBelow n r (again made s)) → StaysBelow n r (parent_missing by nested name made again p s)
   missing_stays by nested name made again p s h g =
       let deep : Course Reply = faulty (file_fault name p.line faults.InheritDepth ∷ []) s in
-      cond_stays n r (is_under_way p.name by.loads) (faulty (file_fault name p.line faults.Cycle ∷ []) s) (cond (nat_lt 63 nested) deep (parent_loaded by name made again p s)) (faulty_stays (file_fault name p.line faults.Cycle ∷ []) s h)
-      (cond_stays n r (nat_lt 63 nested) deep (parent_loaded by name made again p s) (faulty_stays (file_fault name p.line faults.InheritDepth ∷ []) s h) (loaded_stays by name made again p s h g))
+      cond_stays n r (is_under_way p.name by.loads) (faulty (file_fault name p.line faults.Cycle ∷ []) s) (cond (nat_lt max_nested (suc nested)) deep (parent_loaded by name made again p s)) (faulty_stays (file_fault name p.line faults.Cycle ∷ []) s h)
+      (cond_stays n r (nat_lt max_nested (suc nested)) deep (parent_loaded by name made again p s) (faulty_stays (file_fault name p.line faults.InheritDepth ∷ []) s h) (loaded_stays by name made again p s h g))
 
   with_parents_stays : (kind : LoadKind) (by : Asker) (nested : ℕ) (name : List ℕ) (made : List Made) (again : List Made → State → Course Reply) (items : List ItemTree) (pragmas : Pragmas) (s : State)
       → After r s → ((made : List Made) (s : State) → After r s → StaysBelow n r (again made s)) → StaysBelow n r (with_parents kind by nested name made again items pragmas s)
@@ -175,6 +176,6 @@ load_stays n a name kind low =
     let nested = nested_in kind a.loads in
     let by = under_way (asker_of a) name nested in
     let s0 = state_of a in
-    let s : State = record s0 { budget = s0.budget - 1000 } in
-    paid_stays n s0 1000 s0 (λ s. with_simul kind by name s (λ s. reading (suc s.budget) kind by nested name [] s)) (after_same s0) (λ enough l.
+    let s : State = record s0 { budget = s0.budget - load_price } in
+    paid_stays n s0 load_price s0 (λ s. with_simul kind by name s (λ s. reading (suc s.budget) kind by nested name [] s)) (after_same s0) (λ enough l.
     stays_from n s0 s (with_simul kind by name s (λ s. reading (suc s.budget) kind by nested name [] s)) l (with_simul_stays n s (omega (arith, low, enough)) kind by name s (λ s. reading (suc s.budget) kind by nested name [] s) (after_same s) (λ t h. reading_stays n s (omega (arith, low, enough)) (suc t.budget) kind by nested name [] t h)))

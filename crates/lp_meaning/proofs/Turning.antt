@@ -1,4 +1,5 @@
 -- Turns and the start lose nothing, and end.
+use Rattle.lp_meaning.specs.Limits.{max_connections}
 use Rattle.std.proofs.Common.{◌≡◌, ◌⊎◌, inl, inr, ℕ, ◌+◌, ◌*◌, Bool, true, false, cond, List, [], ◌∷◌, Option, Some, None, refl, subst, arith}
 use Rattle.std.specs.Prelude.{codes, length, nat_lt, ◌&&◌}
 use Rattle.lp_tree.specs.declared.fault.Fault.{Fault}
@@ -160,7 +161,7 @@ module _ (w : World) where
       let t : State = record s { world = numbered k s.world } in
       let l = keeps_more s (numbered k s.world) h refl refl refl in
       let asked : Course (Unit {0}) = and_then (driver_master (codes "connect") [] t) (λ d s. admitted k (free_object s.world d.value) s) in
-      keeps_cond (nat_lt (length s.world.connections) 200) asked (done (told (outs.Close k ∷ []) t))
+      keeps_cond (nat_lt (length s.world.connections) max_connections) asked (done (told (outs.Close k ∷ []) t))
       (keeps_then (driver_master (codes "connect") [] t) (λ d s. admitted k (free_object s.world d.value) s) (master_keeps (codes "connect") [] t l) (λ d s h. admitted_keeps k (free_object s.world d.value) s h)) l
 
   taken_keeps : (k : ℕ) (o : ObjId) (x : Waiting) (text : List ℕ) (s : State) → Keeps w s.world → KeepsOn w (line_taken k o x text s)

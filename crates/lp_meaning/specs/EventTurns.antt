@@ -1,4 +1,5 @@
 -- Calls that the driver makes, the start, and one turn for each event.
+use Rattle.lp_meaning.specs.Limits.{max_connections, full_budget}
 use Rattle.std.specs.Prelude.{ℕ, zero, suc, ◌-◌, List, [], ◌∷◌, ◌++◌, length, take, filter, find, Bool, true, false, not, ◌&&◌, Option, Some, None, nat_eq, nat_lt, chars, codes, if◌then◌else◌}
 use Rattle.std.specs.Str.{is_utf8}
 use Rattle.lp_tree.specs.declared.fault.Fault.{Fault}
@@ -18,11 +19,7 @@ use Rattle.lp_meaning.specs.FileLoads.{loaded_value, text_target, live_object}
 
 -- Calls of the driver
 
--- Each has a budget of its own, begins with no running command, and has a `this_player()`, if any.
-abbrev pub full_budget : ℕ
-full_budget = 1000000
-
--- the state in which such a call begins
+-- Each has the full budget, begins with no running command, and has a `this_player()`, if any: the state in which it begins.
 abbrev pub begun : Option ObjId → State → State
 begun player s = record s { locals = []; player = player; commands = []; budget = full_budget }
 
@@ -184,7 +181,7 @@ admitted k (Some o) s =
 -- Connect: where 200 connections are open it is closed; else the master's `connect` answers its object.
 abbrev pub connect_turn : ℕ → State → Course (Unit {0})
 connect_turn k s =
-    if nat_lt (length s.world.connections) 200 then
+    if nat_lt (length s.world.connections) max_connections then
     and_then (driver_master (codes "connect") [] (record s { world = numbered k s.world })) (λ d s. admitted k (free_object s.world d.value) s)
     else done (told (outs.Close k ∷ []) (record s { world = numbered k s.world }))
 

@@ -1,4 +1,5 @@
 -- Efuns on files, with the leave of the master, and saving and restoring.
+use Rattle.lp_values.specs.Limits.{max_code_points}
 use Rattle.std.specs.Prelude.{ℕ, suc, List, [], ◌∷◌, ◌++◌, length, drop, map, Bool, not, ◌&&◌, Option, Some, None, is_some, nat_eq, nat_le, nat_lt, pos, negsuc, chars, codes, encode_utf8_all, slice_get, slice_index, slice_set, unwrap_or, if◌then◌else◌}
 use Rattle.std.specs.List.{list_all}
 use Rattle.std.specs.Ordering.{int_eq}
@@ -69,7 +70,7 @@ bytes_of w (Some path) = file_at w.files path
 
 -- the text of bytes that are UTF-8 and no longer than a text may be, else 0
 abbrev pub text_or_zero : List ℕ → Value
-text_or_zero bytes = if nat_eq (utf8_valid_len bytes) (length bytes) && nat_le (length (chars bytes)) 100000 then Str (chars bytes) else zero_value
+text_or_zero bytes = if nat_eq (utf8_valid_len bytes) (length bytes) && nat_le (length (chars bytes)) max_code_points then Str (chars bytes) else zero_value
 
 -- what reading a file answers
 abbrev pub read_value : Option (List ℕ) → Value

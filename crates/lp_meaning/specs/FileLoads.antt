@@ -1,4 +1,5 @@
 -- Loads and clones.
+use Rattle.lp_meaning.specs.Limits.{max_nested, load_price}
 use Rattle.std.specs.Prelude.{ℕ, zero, suc, ◌+◌, List, [], ◌∷◌, ◌++◌, map, find, Bool, not, ◌||◌, Option, Some, None, option_map, is_some, unwrap_or, nat_lt, codes, decimal, encode_utf8_all, chars, if◌then◌else◌}
 use Rattle.std.specs.List.{list_any}
 use Rattle.lp_tree.specs.declared.pragma.Pragmas.{Pragmas}
@@ -197,7 +198,7 @@ parent_loaded by name made again p s =
 abbrev pub parent_missing : Asker → ℕ → List ℕ → List Made → (List Made → State → Course Reply) → Parent → State → Course Reply
 parent_missing by nested name made again p s =
     if is_under_way p.name by.loads then faulty (file_fault name p.line faults.Cycle ∷ []) s
-    else (if nat_lt 63 nested then faulty (file_fault name p.line faults.InheritDepth ∷ []) s
+    else (if nat_lt max_nested (suc nested) then faulty (file_fault name p.line faults.InheritDepth ∷ []) s
     else parent_loaded by name made again p s)
 
 -- What was read names parents. The first that is not known is loaded, and then the file is read again; once all are known it is checked.
@@ -242,7 +243,7 @@ abbrev pub load_call : Ask → List ℕ → LoadKind → Course Reply
 load_call a name kind =
     let nested : ℕ = nested_in kind a.loads in
     let by : Asker = under_way (asker_of a) name nested in
-    paying 1000 (state_of a) (λ s. with_simul kind by name s (λ s. reading (suc s.budget) kind by nested name [] s))
+    paying load_price (state_of a) (λ s. with_simul kind by name s (λ s. reading (suc s.budget) kind by nested name [] s))
 
 -- What names an object
 

@@ -1,4 +1,5 @@
 -- Calls: which function a call reaches, and its entry.
+use Rattle.lp_meaning.specs.Limits.{max_depth}
 use Rattle.std.specs.Prelude.{ℕ, suc, List, [], ◌∷◌, Bool, ◌||◌, Option, Some, None, nat_lt, codes, if◌then◌else◌}
 use Rattle.lp_values.specs.declared.id.ObjId.{ObjId}
 use Rattle.lp_values.specs.declared.value.Value.{Value}
@@ -75,7 +76,7 @@ place_of_asker w by = elim by.scene [ Some c ↦ Some (place_of w c) | None ↦ 
 abbrev pub entering : Scene → (State → Course Value) → State → Course Value
 entering c body s =
     paying 1 s (λ s.
-    if nat_lt 100 c.depth then stops (Failed (plain TooDeep)) s
+    if nat_lt max_depth c.depth then stops (Failed (plain TooDeep)) s
     else placed (place_of s.world c) (body (record s { world = entered s.world c.this c.version })))
 
 -- a function of an object runs, with its parameters as its first locals

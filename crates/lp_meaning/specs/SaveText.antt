@@ -1,4 +1,6 @@
 -- The text of saved values: how it is spelled, and what is read of it.
+use Rattle.lp_values.specs.Limits.{max_code_points, max_items}
+use Rattle.lp_meaning.specs.Limits.{max_saved_levels}
 use Rattle.std.specs.Prelude.{ℕ, zero, suc, ◌+◌, List, [], ◌∷◌, ◌++◌, length, take, drop, map, filter, flat_map, fold, Bool, true, false, not, ◌&&◌, ◌||◌, Option, Some, None, unwrap_or, slice_get, slice_index, nat_eq, nat_le, nat_lt, chars, codes, decimal, encode_utf8_all, position, if◌then◌else◌}
 use Rattle.std.specs.Char.{is_ascii_digit}
 use Rattle.std.specs.Fmt.{signed_decimal}
@@ -69,7 +71,7 @@ walked live cells (suc n) w v =
 
 -- all values are gone over; 100 levels are spelled
 abbrev pub walk_of : (ObjId → Bool) → Store → List Value → Walk
-walk_of live cells vs = fold (walked live cells 100) (record { met = []; again = []; is_deep = false }) vs
+walk_of live cells vs = fold (walked live cells max_saved_levels) (record { met = []; again = []; is_deep = false }) vs
 
 -- the cells that occur more than once, by first place: the first has the number 1
 abbrev pub shared_in : Walk → List CellId
@@ -127,7 +129,7 @@ spelt live cells shared (suc n) s (Map c) =
 
 -- a line for each variable
 abbrev pub line_spelt : (ObjId → Bool) → Store → List CellId → Spelt → List ℕ × Value → Spelt
-line_spelt live cells shared s p = add (codes "\n") (spelt live cells shared 100 (add (p.0 ++ codes " ") s) p.1)
+line_spelt live cells shared s p = add (codes "\n") (spelt live cells shared max_saved_levels (add (p.0 ++ codes " ") s) p.1)
 
 -- the first line, and then the variables
 abbrev pub text_spelt : (ObjId → Bool) → Store → List CellId → List (List ℕ × Value) → List ℕ
@@ -204,7 +206,7 @@ text_read done true [] = None
 text_read done true (c ∷ cs) = elim (escaped c) [ Some d ↦ text_read (done ++ d ∷ []) false cs | None ↦ None ]
 text_read done false [] = None
 text_read done false (c ∷ cs) =
-    if nat_eq c 34 then (if nat_lt 100000 (length done) then None else Some (done, cs))
+    if nat_eq c 34 then (if nat_lt max_code_points (length done) then None else Some (done, cs))
     else (if nat_eq c 92 then text_read done true cs
     else (if nat_eq c 13 || nat_eq c 9 then None else text_read (done ++ c ∷ []) false cs))
 
@@ -223,11 +225,11 @@ cell_begun is_shared t x r = record { text = t; shared = if is_shared then r.sha
 
 -- an array is read
 abbrev pub array_done : CellId → List Value → Rest → Reading Value
-array_done c vs r = if nat_lt 10000 (length vs) then None else Some (Arr c, record r { cells = content_set r.cells c (content.Array vs) })
+array_done c vs r = if nat_lt max_items (length vs) then None else Some (Arr c, record r { cells = content_set r.cells c (content.Array vs) })
 
 -- a mapping is read
 abbrev pub mapping_done : CellId → List (Value × Value) → Rest → Reading Value
-mapping_done c ps r = if nat_lt 10000 (length ps) then None else Some (Map c, record r { cells = content_set r.cells c (content.Mapping ps) })
+mapping_done c ps r = if nat_lt max_items (length ps) then None else Some (Map c, record r { cells = content_set r.cells c (content.Mapping ps) })
 
 -- a number `<n>` is that of a cell that was read; `<n>=` gives the next number to the cell that follows
 abbrev pub shared_cell : ℕ → Rest → Reading CellId
@@ -305,7 +307,7 @@ named name (Some p) = Some (record { name = name; value = p.0 }, p.1)
 abbrev pub line_of : List ℕ → Rest → Reading Line
 line_of t r =
     let name : List ℕ = before_first (λ c. nat_eq c 32) t in
-    if is_variable_name name && nat_lt (length name) (length t) then named name (whole (value_read (3 + length t + length t) 100 (left (drop (length name + 1) t) r)))
+    if is_variable_name name && nat_lt (length name) (length t) then named name (whole (value_read (3 + length t + length t) max_saved_levels (left (drop (length name + 1) t) r)))
     else None
 
 -- a line as bytes, which are UTF-8

@@ -1,4 +1,5 @@
 -- Efuns that look at the world or change it, and call no LPC.
+use Rattle.lp_meaning.specs.Limits.{max_call_outs}
 use Rattle.std.specs.Prelude.{ℕ, ℤ, pos, negsuc, ◌+◌, ◌-◌, ◌%◌, List, [], ◌∷◌, ◌++◌, length, drop, map, Bool, true, not, ◌&&◌, Option, Some, None, is_some, slice_get, nat_eq, nat_lt, if◌then◌else◌}
 use Rattle.std.specs.List.{list_any}
 use Rattle.std.specs.Ordering.{int_eq}
@@ -232,7 +233,7 @@ abbrev pub call_out_after : Scene → State → List Value → List ℕ → ℤ 
 call_out_after c s vs fun (negsuc n) = Yields (bad CallOut 2) s
 call_out_after c s vs fun (pos n) =
     if not (has_function s.world c.this fun) then Yields (refused errors.NoFunction) s
-    else (if nat_lt (length s.world.call_outs) 100000 then changes (with_call_out s.world c.this fun n (drop 2 vs)) zero s
+    else (if nat_lt (length s.world.call_outs) max_call_outs then changes (with_call_out s.world c.this fun n (drop 2 vs)) zero s
     else Yields (refused errors.TooMany) s)
 
 -- a destructed object makes none

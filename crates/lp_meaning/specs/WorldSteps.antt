@@ -1,4 +1,5 @@
 -- What the driver does to the world in one step: names, connections, files, versions, objects and their end.
+use Rattle.lp_meaning.specs.Limits.{max_live}
 use Rattle.std.specs.Prelude.{ℕ, ◌+◌, List, [], ◌∷◌, ◌++◌, length, replicate, map, filter, find, Bool, true, false, not, Option, Some, None, option_map, is_some, nat_eq, nat_lt, pos, codes, if◌then◌else◌}
 use Rattle.std.specs.List.{list_any, before_first}
 use Rattle.lp_values.specs.declared.id.ObjId.{ObjId}
@@ -118,13 +119,13 @@ file_removed files path = filter (λ f. not (is_name f.path path)) files
 
 -- Versions and objects
 
--- how many objects are live; there may be 100000
+-- how many objects are live
 abbrev pub live_count : World → ℕ
 live_count w = length (filter (λ x. x.is_live) w.objects)
 
 -- whether one more object may live
 abbrev pub has_room : World → Bool
-has_room w = nat_lt (live_count w) 100000
+has_room w = nat_lt (live_count w) max_live
 
 -- the serials of the next version and of the next object
 abbrev pub next_version : World → ProgId

@@ -4,6 +4,7 @@
 ghost use Rattle.lp_isa.specs.SoundCode.{SoundCodeNeverFails, TranslatedCodeIsSound, TranslatedInitialisersAreSound};
 ghost use Rattle.lp_isa.specs.Work.{SoundCodeEnds};
 ghost use Rattle.lp_sim.specs.Examples.{Examples, HasCode};
+ghost use Rattle.lp_sim.specs.WrongLines.{WrongLines};
 ghost use Rattle.lp_isa.specs.Runs.{DoesTheMeaning, KeepsTheInitialisers, KeepsTheMeaning};
 
 /// Wherever the code stands for a function's body, it makes the calls of every list that fits the
@@ -53,4 +54,10 @@ pub fn translated_initialisers_are_sound()
 /// There is code that stands for two small functions.
 pub fn law_code()
     ensures { HasCode }
+{}
+
+/// Wrong lines of the instruction table, of the meaning and of translation, each told apart by a
+/// function: by the meaning and by its code it ends in one way, and by the wrong line in another.
+pub fn wrong_lines_are_refused()
+    ensures { WrongLines }
 {}
