@@ -1,0 +1,7 @@
+pub mod Effects
+pub mod Fails
+pub mod Flow
+pub mod Openings
+pub mod Paths
+pub mod Walks
+pub mod Work
