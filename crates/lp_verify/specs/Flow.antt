@@ -98,23 +98,28 @@ holds p at f i = stands p at i && flows p at f (effect_of i)
 abbrev pub once_at : Shape → Effect → Exit → Way
 once_at f e x = record { to = x.to; known = Once (after f e x) }
 
-abbrev pub once_ways : RawProgram → ℕ → Shape → Instr → List Way
-once_ways p at f i = cond (holds p at f i) (map (once_at f (effect_of i)) (exits p at (effect_of i))) []
-
 abbrev pub mixed_at : ℕ → Way
 mixed_at to = record { to = to; known = Mixed }
 
-abbrev pub mixed_ways : RawProgram → ℕ → List Exit → List Way
-mixed_ways p at [] = []
-mixed_ways p at (x ∷ xs) = cond (is_within p at x.to) (mixed_at x.to ∷ []) [] ++ mixed_ways p at xs
+-- what an exit teaches by what is known of its place: where paths mix, that they mix there within the function
+abbrev pub lead : RawProgram → ℕ → Known → Effect → Exit → List Way
+lead p at Never e x = []
+lead p at (Once f) e x = once_at f e x ∷ []
+lead p at Mixed e x = cond (is_within p at x.to) (mixed_at x.to ∷ []) []
 
--- A path does not go on behind an instruction that fails in its shape. From a place where paths mix, they mix wherever
--- its instruction may lead within the function.
+abbrev pub leads : RawProgram → ℕ → Known → Effect → List Exit → List Way
+leads p at k e [] = []
+leads p at k e (x ∷ xs) = lead p at k e x ++ leads p at k e xs
+
+-- a path does not go on behind an instruction that fails in its shape
+abbrev pub goes_on : RawProgram → ℕ → Known → Instr → Bool
+goes_on p at Never i = false
+goes_on p at (Once f) i = holds p at f i
+goes_on p at Mixed i = true
+
 abbrev pub ways_from : RawProgram → ℕ → Known → Option Instr → List Way
 ways_from p at k None = []
-ways_from p at Never (Some i) = []
-ways_from p at (Once f) (Some i) = once_ways p at f i
-ways_from p at Mixed (Some i) = mixed_ways p at (exits p at (effect_of i))
+ways_from p at k (Some i) = cond (goes_on p at k i) (leads p at k (effect_of i) (exits p at (effect_of i))) []
 
 unfoldable pub ways : RawProgram → ℕ → Known → List Way
 ways p at k = ways_from p at k (slice_get p.instrs at)

@@ -1,6 +1,7 @@
 pub mod Effects
 pub mod Fails
 pub mod Flow
+pub mod Marks
 pub mod Openings
 pub mod Paths
 pub mod Walks

@@ -1,11 +1,15 @@
 -- What is known of each place while paths are walked.
-use Rattle.std.specs.Prelude.{◌≡◌, ◌<◌, ℕ, ⊤, List, All, length, map}
+use Rattle.std.specs.Prelude.{◌≡◌, ◌<◌, ℕ, true, ⊤, List, All, length, map}
 use Rattle.lp_instr.specs.Code.{Catching}
 use Rattle.lp_instr.specs.Sound.{Shape, shape}
 use Rattle.lp_verify.specs.declared.seen.Form.{Form}
 use Rattle.lp_verify.specs.declared.seen.Seen.{Seen}
 use Rattle.lp_verify.specs.declared.seen.Seen.TheVariants as seen
 use Rattle.lp_verify.specs.declared.walk.Walk.{Walk}
+use Rattle.lp_code.specs.declared.program.RawProgram.{RawProgram}
+use Rattle.lp_verify.specs.declared.effect.Effect.{Effect}
+use Rattle.lp_verify.specs.declared.effect.Exit.{Exit}
+use Rattle.lp_verify.specs.Flow.{exits_hold}
 use Rattle.lp_verify.specs.Openings.{list_at, GoesOn}
 use Rattle.lp_verify.specs.Paths.{Known, Never, Once, Mixed, Way}
 use Rattle.lp_verify.specs.Work.{Grows}
@@ -36,3 +40,15 @@ pub record Moves (ws : List Way) (old new : Walk) : Type 0 where
   pub goes_on : GoesOn old.openings new.openings
   pub walk : IsWalk new
   pub grows : Grows ws (facts old) old.todo.items (facts new) new.todo.items
+
+-- what is known of a place, each of its exits being such that it may be taken
+abbrev pub MayLead : RawProgram → ℕ → Known → Effect → List Exit → Type 0
+MayLead p at Never e xs = ⊤
+MayLead p at (Once f) e xs = exits_hold p at f e xs ≡ true
+MayLead p at Mixed e xs = ⊤
+
+-- a walk through a program, and something that is known in it
+pub record IsReady (p : RawProgram) (w : Walk) (v : Seen) : Type 0 where
+  pub walk : IsWalk w
+  pub inside : IsIn w.openings v
+  pub size : length w.seen.items ≡ length p.instrs
