@@ -1,6 +1,9 @@
 pub mod Growing
 pub mod Leading
+pub mod Looking
 pub mod Marking
+pub mod Naming
 pub mod Opened
+pub mod Steady
 pub mod Walking
 pub mod Working

@@ -99,12 +99,11 @@ works_none ways starts n s = record {
   inside = All-nil (λ p. p < length (replicate n Never));
 }
 
--- the start of a path is learned
-pub works_start : (ways : Ways) (starts : List ℕ) (p : ℕ) (xs ys : List Known) (t u : List ℕ) → Works ways starts xs t → Contains starts p
-    → Grows (record { to = p; known = Once begin_shape } ∷ []) xs t ys u → Works ways starts ys u
-works_start ways starts p xs ys t u h c g = record {
-  learned = g.learned ways starts h.learned
-      (All-cons (λ (w : Way). IsLearned ways starts w.to w.known) (record { to = p; known = Once begin_shape }) [] (begins c) (All-nil (λ (w : Way). IsLearned ways starts w.to w.known)));
+-- some ways are learned
+pub works_more : (ways : Ways) (starts : List ℕ) (ws : List Way) (xs ys : List Known) (t u : List ℕ) → Works ways starts xs t → All (λ w. IsLearned ways starts w.to w.known) ws
+    → Grows ws xs t ys u → Works ways starts ys u
+works_more ways starts ws xs ys t u h c g = record {
+  learned = g.learned ways starts h.learned c;
   settled = λ q. elim (h.settled q) [
     | inl m ↦ inl (g.stays q m)
     | inr k ↦ settled_old ways xs ys u q g.above (g.changed q) k

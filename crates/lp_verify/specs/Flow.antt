@@ -16,7 +16,7 @@ use Rattle.lp_verify.specs.declared.effect.Jump.{Jump}
 use Rattle.lp_verify.specs.declared.effect.Effect.{Effect}
 use Rattle.lp_verify.specs.declared.effect.Exit.{Exit}
 use Rattle.lp_verify.specs.Effects.{effect_of}
-use Rattle.lp_verify.specs.Paths.{Known, Never, Once, Mixed, Way}
+use Rattle.lp_verify.specs.Paths.{Known, Never, Once, Mixed, Way, begin_shape}
 
 abbrev pub exit : ℕ → ℕ → Change → Exit
 exit to k c = record { to = to; leaves = k; change = c }
@@ -131,3 +131,7 @@ starts_in n (r ∷ rs) = cond (nat_lt r.from n) (r.from ∷ []) [] ++ starts_in 
 -- a path begins where a function does
 abbrev pub starts : RawProgram → List ℕ
 starts p = starts_in (length p.instrs) p.funs
+
+-- what is learned where a function begins inside
+abbrev pub start_ways : ℕ → ℕ → List Way
+start_ways n p = cond (nat_lt p n) (record { to = p; known = Once begin_shape } ∷ []) []

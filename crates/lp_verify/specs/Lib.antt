@@ -2,7 +2,9 @@ pub mod Effects
 pub mod Fails
 pub mod Flow
 pub mod Marks
+pub mod Names
 pub mod Openings
 pub mod Paths
+pub mod Rows
 pub mod Walks
 pub mod Work

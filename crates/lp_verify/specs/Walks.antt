@@ -1,5 +1,5 @@
 -- What is known of each place while paths are walked.
-use Rattle.std.specs.Prelude.{◌≡◌, ◌<◌, ℕ, true, ⊤, List, All, length, map}
+use Rattle.std.specs.Prelude.{◌≡◌, ◌<◌, ℕ, true, ⊤, List, [], All, length, map, replicate}
 use Rattle.lp_instr.specs.Code.{Catching}
 use Rattle.lp_instr.specs.Sound.{Shape, shape}
 use Rattle.lp_verify.specs.declared.seen.Form.{Form}
@@ -52,3 +52,15 @@ pub record IsReady (p : RawProgram) (w : Walk) (v : Seen) : Type 0 where
   pub walk : IsWalk w
   pub inside : IsIn w.openings v
   pub size : length w.seen.items ≡ length p.instrs
+
+-- a walk in which no catch is open at number 0
+pub record IsStarted (w : Walk) : Type 0 where
+  pub walk : IsWalk w
+  pub first : list_at w.openings 0 ≡ []
+  pub some : 0 < length w.openings
+
+-- nothing is known yet, and nothing is to be looked at
+pub record IsNew (n : ℕ) (w : Walk) : Type 0 where
+  pub started : IsStarted w
+  pub facts_are : facts w ≡ replicate n Never
+  pub todo_is : w.todo.items ≡ []

@@ -1,14 +1,14 @@
 //! What is asked of an instruction that a path reaches.
 ghost use Rattle.std.specs.Prelude.{◌≡◌, ◌<◌, ◌^◌, ◌+◌, ◌-◌, length, map, nat_lt, not, option_to_list};
 ghost use Rattle.std.specs.Option.{option_copied};
-ghost use Rattle.lp_verify.specs.Flow.{case_exit, exit, exit_holds, exits, exits_hold, flows, holds, is_enough, is_none, is_within, jump_exits, may_change, next_exits, row_at, row_exits};
+ghost use Rattle.lp_verify.specs.Flow.{case_exit, exit, exit_holds, exits, exits_hold, flows, goes_on, holds, is_enough, is_none, is_within, jump_exits, may_change, next_exits, row_at, row_exits};
 ghost use Rattle.lp_verify.specs.Openings.{list_at};
-ghost use Rattle.lp_verify.specs.Walks.{shape_of};
+ghost use Rattle.lp_verify.specs.Walks.{IsIn, known_of, shape_of};
 
 use crate::body::Body;
 use crate::effect::{Change, Effect, Exit, describe};
 use crate::openings::Openings;
-use crate::seen::Form;
+use crate::seen::{Form, Seen};
 use crate::stand::{case_place, stands};
 use lp_code::program::{RawProgram, SwitchRow};
 use lp_instr::instr::{Case, Instr};
@@ -61,7 +61,7 @@ fn exit_holds(
 
 /// Where an instruction goes on with the next one.
 pub(crate) fn next_exit(at: usize, effect: Effect) -> Option<Exit>
-    requires { at < 2 ^ 63 }
+    requires { at + 1 < 2 ^ 64 }
     ensures { option_to_list result ≡ next_exits at effect.next }
 {
     match effect.next {
@@ -188,7 +188,7 @@ fn row_holds(
 fn exits_hold(body: &Body, openings: &Openings, at: usize, form: Form, effect: Effect) -> bool
     requires inside { at < length body.now.instrs }
     requires open { form.open < length openings.now }
-    requires small { at < 2 ^ 63 }
+    requires small { at + 1 < 2 ^ 64 }
     ensures { result ≡ exits_hold body.now at (shape_of openings.now form) effect (exits body.now at effect) }
 {
     let next = may_take(body, openings, at, form, effect, next_exit(at, effect));
@@ -218,7 +218,7 @@ fn is_closed(openings: &Openings, number: usize) -> bool
 fn flows(body: &Body, openings: &Openings, at: usize, form: Form, effect: Effect) -> bool
     requires inside { at < length body.now.instrs }
     requires open { form.open < length openings.now }
-    requires small { at < 2 ^ 63 }
+    requires small { at + 1 < 2 ^ 64 }
     ensures { result ≡ flows body.now at (shape_of openings.now form) effect }
 {
     let low = !(body.raw().max_height < form.height);
@@ -232,10 +232,24 @@ fn flows(body: &Body, openings: &Openings, at: usize, form: Form, effect: Effect
 pub(crate) fn holds(body: &Body, openings: &Openings, at: usize, form: Form, instr: Instr) -> bool
     requires inside { at < length body.now.instrs }
     requires open { form.open < length openings.now }
-    requires small { at < 2 ^ 63 }
+    requires small { at + 1 < 2 ^ 64 }
     ensures { result ≡ holds body.now at (shape_of openings.now form) instr }
 {
     let stand = stands(body, at, instr);
     let flow = flows(body, openings, at, form, describe(instr));
     stand && flow
+}
+
+/// Whether paths go on behind an instruction, by what is known of its place.
+pub(crate) fn goes_on(body: &Body, openings: &Openings, at: usize, known: Seen, instr: Instr) -> bool
+    requires inside { at < length body.now.instrs }
+    requires known_in { IsIn openings.now known }
+    requires small { at + 1 < 2 ^ 64 }
+    ensures { result ≡ goes_on body.now at (known_of openings.now known) instr }
+{
+    match known {
+        Seen::Never => false,
+        Seen::Once(form) => holds(body, openings, at, form, instr),
+        Seen::Mixed => true,
+    }
 }

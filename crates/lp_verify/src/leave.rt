@@ -1,14 +1,13 @@
 //! What is learned behind an instruction.
-ghost use Rattle.std.specs.Prelude.{◌≡◌, ◌<◌, ◌^◌, ◌∷◌, [], IfOk, OnOk, length, map, option_to_list, slice_index_or, true};
+ghost use Rattle.std.specs.Prelude.{◌≡◌, ◌<◌, ◌^◌, ◌+◌, ◌∷◌, [], IfOk, OnOk, length, map, option_to_list, true};
 ghost use Rattle.std.specs.Option.{option_copied};
-ghost use Rattle.lp_verify.specs.Flow.{after, case_exit, changed, exit_holds, exits, leads, mixed_at, once_at, row_exits, ways};
+ghost use Rattle.lp_verify.specs.Flow.{after, case_exit, changed, exit_holds, exits, leads, once_at, row_exits};
 ghost use Rattle.lp_verify.specs.Openings.{GoesOn, list_at};
-ghost use Rattle.lp_verify.specs.Paths.{at as known_at};
-ghost use Rattle.lp_verify.specs.Walks.{IsIn, IsReady, IsWalk, MayLead, Moves, facts, known_of, shape_of};
+ghost use Rattle.lp_verify.specs.Walks.{IsReady, MayLead, Moves, known_of, shape_of};
 
 use crate::body::Body;
-use crate::effect::{Change, Effect, Exit, describe};
-use crate::flow::{case_exit, holds, is_within, jump_exit, next_exit, other_exit, row_at};
+use crate::effect::{Change, Effect, Exit};
+use crate::flow::{case_exit, is_within, jump_exit, next_exit, other_exit, row_at};
 use crate::openings::{Opening, Openings};
 use crate::seen::{Form, Seen};
 use crate::walk::Walk;
@@ -189,7 +188,7 @@ impl Walk {
     }
 
     /// What an instruction with an effect teaches of the places that it leads to.
-    fn lead_all(
+    pub(crate) fn lead_all(
         &mut self,
         body: &Body,
         at: usize,
@@ -197,7 +196,7 @@ impl Walk {
         effect: Effect,
     ) -> Result<(), AllocError>
         requires inside { at < length body.now.instrs }
-        requires small { at < 2 ^ 63 }
+        requires small { at + 1 < 2 ^ 64 }
         requires ready { IsReady body.now self.old known }
         requires held { MayLead body.now at (known_of self.old.openings known) effect (exits body.now at effect) }
         ensures { OnOk result (Moves (leads body.now at (known_of self.old.openings known) effect (exits body.now at effect)) self.old self.new) }

@@ -3,10 +3,14 @@
 
 mod body;
 mod effect;
+pub mod fault;
 mod flow;
 mod leave;
 mod openings;
 mod owners;
+mod rows;
 mod seen;
+mod solve;
 mod stand;
+mod tables;
 mod walk;
