@@ -1,3 +1,4 @@
+pub mod Fine
 pub mod Growing
 pub mod Leading
 pub mod Looking
