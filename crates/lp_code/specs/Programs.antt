@@ -30,10 +30,13 @@ pub record IsFunction (p : RawProgram) (k : ℕ) (r : FunRow) : Type 0 where
   pub shapes : Shapes
   pub sound : (parents : List (List (List ℕ))) → FindsRows p parents → IsSound (code_of p parents) (bounds_of p r) r.from (end_of p k) shapes
 
+abbrev pub AreFunctions : RawProgram → Type 0
+AreFunctions p = (k : ℕ) (r : FunRow) → slice_get p.funs k ≡ Some r → IsFunction p k r
+
 -- A program is sound where all that it names is there, and each of its functions is sound.
 pub record IsProgram (p : RawProgram) : Type 0 where
   pub inside : (at : ℕ) (i : Instr) → slice_get p.instrs at ≡ Some i → stands p at i ≡ true
-  pub functions : (k : ℕ) (r : FunRow) → slice_get p.funs k ≡ Some r → IsFunction p k r
+  pub functions : AreFunctions p
   pub rows : AreRows (length p.instrs) p.funs
   pub switches : All (IsSwitch p) p.switches
   pub tables : AreTables p.tables

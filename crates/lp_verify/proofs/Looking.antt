@@ -254,3 +254,6 @@ solves_begin_at p fs i w q l h = solves_begin p i w (let P : List FunRow → Typ
 pub solves_end_at : (p : RawProgram) (a b : Walk) → Solves p a → b.openings ≡ a.openings → b.seen.items ≡ a.seen.items → a.todo.items ≡ [] → IsAll (ways p) (starts p) (facts b)
 solves_end_at p a b h o s t = let P : List Known → Type 0 = λ z. IsAll (ways p) (starts p) z in
     subst P (sym (ap (λ z. map (known_of z) b.seen.items) o ∙ ap (map (known_of a.openings)) s)) (solves_end p a h t)
+
+pub facts_size : (w : Walk) → length (facts w) ≡ length w.seen.items
+facts_size w = length-map w.seen.items (known_of w.openings)

@@ -6,5 +6,6 @@ pub mod Names
 pub mod Openings
 pub mod Paths
 pub mod Rows
+pub mod Verified
 pub mod Walks
 pub mod Work

@@ -13,4 +13,5 @@ mod seen;
 mod solve;
 mod stand;
 mod tables;
+pub mod verify;
 mod walk;

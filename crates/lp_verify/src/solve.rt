@@ -1,5 +1,7 @@
 //! All that paths teach, and the least instruction that fails.
-ghost use Rattle.std.specs.Prelude.{◌≡◌, ◌<◌, ◌^◌, ◌+◌, ◌∷◌, [], IfOk, OnOk, Some, length, replicate, slice_get};
+ghost use Rattle.std.specs.Prelude.{◌≡◌, ◌<◌, ◌^◌, ◌+◌, ◌∷◌, [], IfOk, None, OnOk, Some, length, replicate, slice_get};
+ghost use Rattle.lp_code.specs.Owners.{AreRows};
+ghost use Rattle.lp_code.specs.Programs.{AreFunctions};
 ghost use Rattle.lp_verify.specs.Fails.{IsLeast, bad};
 ghost use Rattle.lp_verify.specs.Flow.{start_ways, starts, ways};
 ghost use Rattle.lp_verify.specs.Paths.{at as known_at};
@@ -109,7 +111,8 @@ fn solve(alloc: Global, body: &Body) -> Result<Walk, AllocError>
 
 /// The least instruction that fails, or None where none does.
 pub(crate) fn first_fault(alloc: Global, body: &Body) -> Result<Option<usize>, AllocError>
-    ensures { IfOk result (λ r. IsLeast body.now r) }
+    ensures least { IfOk result (λ r. IsLeast body.now r) }
+    ensures functions { IfOk result (λ r. r ≡ None → AreRows (length body.now.instrs) body.now.funs → AreFunctions body.now) }
 {
     let walk = solve(alloc, body)?;
     for at in 0..body.places() {
