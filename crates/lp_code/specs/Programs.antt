@@ -1,5 +1,5 @@
 -- Sound programs.
-use Rattle.std.specs.Prelude.{◌≡◌, ◌<◌, ℕ, true, List, Option, Some, IsSome, slice_get, length, map, All}
+use Rattle.std.specs.Prelude.{◌≡◌, ℕ, true, List, Some, IsSome, slice_get, length, map, All}
 use Rattle.lp_instr.specs.declared.instr.Instr.{Instr}
 use Rattle.lp_instr.specs.declared.instr.Instr.TheVariants.{CallFixed}
 use Rattle.lp_instr.specs.Code.{Code, Table, parent_row}

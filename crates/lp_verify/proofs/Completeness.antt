@@ -1,32 +1,31 @@
 -- Where a program is sound, no instruction fails.
-use Rattle.std.proofs.Common.{◌≡◌, ◌≤◌, ◌<◌, ℕ, zero, suc, ◌+◌, ◌-◌, ◌*◌, ◌⊎◌, inl, inr, refl, sym, ◌∙◌, ap, subst, arith, Bool, true, false, ◌&&◌, ◌||◌, not, cond, nat_lt, nat_le, nat_eq, List, [], ◌∷◌, ◌++◌, Contains, length, map, replicate, Option, Some, None, slice_get}
-use Rattle.std.specs.Prelude.{⊤, IsSome, is_some}
-use Rattle.std.proofs.lemmas.Bool.{ltb-true, ltb-false, eq-eqb, eqb-true}
+use Rattle.std.proofs.Common.{◌≡◌, ◌≤◌, ◌<◌, ℕ, zero, suc, ◌+◌, ◌-◌, ◌*◌, inl, inr, refl, sym, ◌∙◌, ap, subst, arith, Bool, true, false, ◌||◌, not, cond, nat_lt, List, [], ◌∷◌, ◌++◌, Contains, length, map, replicate, Option, Some, None, slice_get}
+use Rattle.std.specs.Prelude.{⊤, is_some}
+use Rattle.std.proofs.lemmas.Bool.{ltb-true, eq-eqb}
 use Rattle.std.proofs.lemmas.Option.{slice_get_within}
-use Rattle.std.proofs.lemmas.List.Elements.{Contains-append_cases}
 use Rattle.lp_instr.specs.declared.instr.Instr.{Instr}
 use Rattle.lp_instr.specs.declared.instr.Instr.TheVariants.{PushInt, PushText, PushLocal, SetLocal, PushGlobal, SetGlobal, Pop, Dup, Dup2, Unary, Binary, Step, Rotate, Index, SetIndex, Range, MakeArray, MakeMap, Jump, JumpIfZero, JumpIfNotZero, KeepIfZero, KeepIfNotZero, LoopTurn, CallSlot, CallFixed, CallOther, CallEfun, CallSimul, Scan, CatchBegin, CatchEnd, Switch, EachBegin, EachNext, Return, ReturnZero}
 use Rattle.lp_instr.specs.declared.instr.Case.{Case}
-use Rattle.lp_instr.specs.Code.{Code, Catching, Table, case_place, parent_row, or_none}
-use Rattle.lp_instr.specs.Sound.{Shape, shape, Shapes, By, IsAbove, Takes, Flows, LeadsTo, CasesLead, TableLeads, IsFine, IsReachedWell, IsSound, end_count}
+use Rattle.lp_instr.specs.Code.{Catching, Table, case_place, or_none}
+use Rattle.lp_instr.specs.Sound.{Shape, shape, By, IsAbove, Takes, Flows, CasesLead, TableLeads, IsFine, IsSound, end_count}
 use Rattle.lp_instr.specs.Sound.{Closes as CatchCloses}
 use Rattle.lp_code.specs.declared.program.RawProgram.{RawProgram}
 use Rattle.lp_code.specs.declared.program.FunRow.{FunRow}
 use Rattle.lp_code.specs.declared.program.SwitchRow.{SwitchRow}
 use Rattle.lp_code.specs.Owners.{owner, first_of, begun, AreRows, RowsRise, end_of, end_in}
-use Rattle.lp_code.specs.Inside.{is_named, stands, jumps, jumps_stand}
+use Rattle.lp_code.specs.Inside.{stands, jumps_stand}
 use Rattle.lp_code.specs.Programs.{code_of, bounds_of, table_of, FindsRows, IsFunction, AreFunctions, IsProgram}
 use Rattle.lp_verify.specs.declared.effect.Change.{Change}
 use Rattle.lp_verify.specs.declared.effect.Change.TheVariants.{Stay, Opens, Closes}
 use Rattle.lp_verify.specs.declared.effect.Effect.{Effect}
 use Rattle.lp_verify.specs.declared.effect.Exit.{Exit}
 use Rattle.lp_verify.specs.Effects.{effect_of, flow, branch}
-use Rattle.lp_verify.specs.Fails.{is_bad, bad, Fails, NoneFails}
-use Rattle.lp_verify.specs.Flow.{after, changed, exit, exits, exit_holds, exits_hold, floor, flows, goes_on, holds, is_enough, is_none, is_within, lead, leads, may_change, once_at, outer, row_exits, case_exit, starts, starts_in, ways, ways_from}
+use Rattle.lp_verify.specs.Fails.{is_bad, bad, Fails}
+use Rattle.lp_verify.specs.Flow.{after, changed, exits, exit_holds, exits_hold, floor, flows, holds, is_none, leads, may_change, once_at, outer, row_exits, case_exit, starts, starts_in, ways, ways_from}
 use Rattle.lp_verify.specs.Paths.{Known, Never, Once, Mixed, Way, Learned, begins, on, two, begin_shape}
-use Rattle.lp_verify.proofs.Fine.{and_left, and_right, and_both, Reaches, same_shape}
-use Rattle.lp_verify.proofs.Owning.{begun_at, owner_first, below_or, le_or, begun_row, rise_of, rise_in, rise_next}
-use Rattle.lp_verify.proofs.Soundness.{lt_true, some_at, OpensWell, AllOpenWell, all_open, cond_true, mixed_known}
+use Rattle.lp_verify.proofs.Fine.{and_left, and_both, Reaches, same_shape}
+use Rattle.lp_verify.proofs.Owning.{owner_first, below_or, le_or, begun_row, rise_of, rise_in}
+use Rattle.lp_verify.proofs.Soundness.{lt_true, OpensWell, AllOpenWell, all_open, cond_true}
 
 -- rows further on begin further on
 rise_lt : (n low : ℕ) (rs : List FunRow) (i d : ℕ) (r s : FunRow) → RowsRise n low rs → slice_get rs i ≡ Some r → slice_get rs (suc i + d) ≡ Some s → r.from < s.from
@@ -53,10 +52,13 @@ between n rows k m r s h e g l = go (slice_get rows (suc k)) refl
     rise = rise_of n rows h
 
     later : k < m
-    later = elim (le_or m k) [ inl q ↦ absurd (elim (below_or m k q) [
-          | inl w ↦ let d = gap m k w in let z = rise_lt n 0 rows m d.0 s r rise g (ap (slice_get rows) d.1 ∙ e) in omega (arith, z, l)
-          | inr w ↦ let z : Some s ≡ Some r = sym g ∙ ap (slice_get rows) w ∙ e in let y : s ≡ r = cc in let x = ap (λ (v : FunRow). v.from) y in omega (arith, x, l)
-        ]) | inr q ↦ q ]
+    later = elim (le_or m k) [
+      | inl q ↦ absurd (elim (below_or m k q) [
+        | inl w ↦ let d = gap m k w in let z = rise_lt n 0 rows m d.0 s r rise g (ap (slice_get rows) d.1 ∙ e) in omega (arith, z, l)
+        | inr w ↦ let z : Some s ≡ Some r = sym g ∙ ap (slice_get rows) w ∙ e in let y : s ≡ r = cc in let x = ap (λ (v : FunRow). v.from) y in omega (arith, x, l)
+      ])
+      | inr q ↦ q
+    ]
 
     go : (o : Option FunRow) → slice_get rows (suc k) ≡ o → end_in n o ≤ s.from
     go None f = absurd (let z = slice_get_within rows m s g in let y = none_past rows (suc k) f in omega (arith, z, y, later))
@@ -69,9 +71,9 @@ between n rows k m r s h e g l = go (slice_get rows (suc k)) refl
 owner_of : (n : ℕ) (rows : List FunRow) (k : ℕ) (r : FunRow) (p : ℕ) → AreRows n rows → slice_get rows k ≡ Some r → r.from ≤ p → p < end_in n (slice_get rows (suc k)) → owner rows p ≡ suc k
 owner_of n rows k r zero h e a b = let z : r.from ≡ 0 = omega (arith, a) in ap (owner rows) (sym z) ∙ owner_first n rows k r h e
 owner_of n rows k r (suc p) h e a b = elim (below_or r.from (suc p) a) [
-    | inr w ↦ ap (owner rows) (sym w) ∙ owner_first n rows k r h e
-    | inl w ↦ go (begun 0 rows (suc p)) refl w (owner_of n rows k r p h e (omega (arith, w)) (omega (arith, b)))
-  ]
+  | inr w ↦ ap (owner rows) (sym w) ∙ owner_first n rows k r h e
+  | inl w ↦ go (begun 0 rows (suc p)) refl w (owner_of n rows k r p h e (omega (arith, w)) (omega (arith, b)))
+]
   where
     go : (c : ℕ) → begun 0 rows (suc p) ≡ c → r.from < suc p → owner rows p ≡ suc k → owner rows (suc p) ≡ suc k
     go zero f w ih = ap (λ z. first_of z (owner rows p)) f ∙ ih
@@ -408,8 +410,8 @@ exits_ok p h k x at f e (y ∷ ys) o r m =
     let q = own_place p h k x y.to (after f e y) r.0 in
     let l = (sound_of p h k x).low y.to (after f e y) r.0 in
     and_both (exit_holds p at f e y) (exits_hold p at f e ys)
-      (and_both _ _ (and_both _ _ (and_both _ _ (lt_true y.to (length p.instrs) q.1) (eq-eqb (owner p.funs y.to) (owner p.funs at) (q.0 ∙ sym o))) (not_lt p.max_height (after f e y).height l)) m.0)
-      (exits_ok p h k x at f e ys o r.1 m.1)
+    (and_both _ _ (and_both _ _ (and_both _ _ (lt_true y.to (length p.instrs) q.1) (eq-eqb (owner p.funs y.to) (owner p.funs at) (q.0 ∙ sym o))) (not_lt p.max_height (after f e y).height l)) m.0)
+    (exits_ok p h k x at f e ys o r.1 m.1)
 
 shaped_holds : (p : RawProgram) (h : IsProgram p) (at : ℕ) (f : Shape) (i : Instr) → Shaped p h.functions at f → slice_get p.instrs at ≡ Some i → holds p at f i ≡ true
 shaped_holds p h at f i s e =
@@ -421,8 +423,8 @@ shaped_holds p h at f i s e =
     let l = (sound_of p h s.number s.fun).low at f s.said in
     let P : Instr → Type 0 = λ j. flows p at f (effect_of j) ≡ true in
     and_both (stands p at i) (flows p at f (effect_of i)) (h.inside at i e)
-      (subst P same (and_both _ _ (and_both _ _ (and_both _ _ (not_lt p.max_height f.height l) (not_lt f.height ((effect_of x.instr).takes + floor f.catches) fi.enough))
-        (exits_ok p h s.number s.fun at f (effect_of x.instr) (exits p at (effect_of x.instr)) o fi.reaches fi.changes)) fi.ends))
+    (subst P same (and_both _ _ (and_both _ _ (and_both _ _ (not_lt p.max_height f.height l) (not_lt f.height ((effect_of x.instr).takes + floor f.catches) fi.enough))
+    (exits_ok p h s.number s.fun at f (effect_of x.instr) (exits p at (effect_of x.instr)) o fi.reaches fi.changes)) fi.ends))
 
 no_bad : (b : Bool) → b ≡ true → not b ≡ true → ⊥
 no_bad true h g = cc

@@ -1,22 +1,21 @@
 -- Where all holds of an instruction, it is fine, and the other way round.
-use Rattle.std.proofs.Common.{◌≡◌, ◌≤◌, ◌<◌, ℕ, zero, suc, ◌+◌, ◌-◌, ◌*◌, refl, sym, ◌∙◌, ap, subst, arith, Bool, true, false, ◌&&◌, ◌||◌, not, nat_lt, nat_le, List, [], ◌∷◌, ◌++◌, length, map, Option, Some, None, slice_get}
-use Rattle.std.specs.Prelude.{⊤, IsSome}
+use Rattle.std.proofs.Common.{◌≡◌, ◌≤◌, ℕ, zero, suc, ◌+◌, ◌-◌, ◌*◌, refl, sym, ap, subst, arith, Bool, true, false, ◌&&◌, ◌||◌, not, nat_lt, List, [], ◌∷◌, length, map, Option, Some, None, slice_get}
+use Rattle.std.specs.Prelude.{⊤}
 use Rattle.std.proofs.lemmas.Bool.{ltb-true, ltb-false}
 use Rattle.lp_instr.specs.declared.instr.Instr.{Instr}
 use Rattle.lp_instr.specs.declared.instr.Instr.TheVariants.{PushInt, PushText, PushLocal, SetLocal, PushGlobal, SetGlobal, Pop, Dup, Dup2, Unary, Binary, Step, Rotate, Index, SetIndex, Range, MakeArray, MakeMap, Jump, JumpIfZero, JumpIfNotZero, KeepIfZero, KeepIfNotZero, LoopTurn, CallSlot, CallFixed, CallOther, CallEfun, CallSimul, Scan, CatchBegin, CatchEnd, Switch, EachBegin, EachNext, Return, ReturnZero}
 use Rattle.lp_instr.specs.declared.instr.Case.{Case}
-use Rattle.lp_instr.specs.Code.{Code, Catching, Table, case_place}
-use Rattle.lp_instr.specs.Sound.{Shape, shape, Goal, LeadsTo, Takes, Flows, IsAbove, IsFine, CasesLead, TableLeads, Closes, end_count}
+use Rattle.lp_instr.specs.Code.{Catching, case_place}
+use Rattle.lp_instr.specs.Sound.{Shape, shape, LeadsTo, Takes, Flows, IsAbove, IsFine, CasesLead, TableLeads, Closes, end_count}
 use Rattle.lp_code.specs.declared.program.RawProgram.{RawProgram}
 use Rattle.lp_code.specs.declared.program.SwitchRow.{SwitchRow}
 use Rattle.lp_code.specs.Inside.{is_turn, jump_stands, jumps, jumps_stand, row_has_texts, row_places, is_named, stands}
 use Rattle.lp_code.specs.Programs.{code_of, table_of}
-use Rattle.lp_verify.specs.declared.effect.Change.{Change}
-use Rattle.lp_verify.specs.declared.effect.Change.TheVariants.{Stay, Opens, Closes as CloseOne}
+use Rattle.lp_verify.specs.declared.effect.Change.TheVariants.{Closes as CloseOne}
 use Rattle.lp_verify.specs.declared.effect.Effect.{Effect}
 use Rattle.lp_verify.specs.declared.effect.Exit.{Exit}
 use Rattle.lp_verify.specs.Effects.{effect_of, flow, branch}
-use Rattle.lp_verify.specs.Flow.{after, exit, exits, exit_holds, exits_hold, flows, floor, is_enough, is_none, is_within, may_change, outer, case_exit, row_exits}
+use Rattle.lp_verify.specs.Flow.{after, exits, exits_hold, flows, floor, is_enough, is_none, may_change, outer, case_exit, row_exits}
 
 pub and_left : (x y : Bool) → (x && y) ≡ true → x ≡ true
 and_left true y h = refl
@@ -109,9 +108,9 @@ cases_lead : (p : RawProgram) (parents : List (List (List ℕ))) (T : ℕ → Sh
     → Reaches T f e (map case_exit cs) → CasesLead (code_of p parents) T at g cs
 cases_lead p parents T at f g e [] q s r = tt
 cases_lead p parents T at f g e (c ∷ cs) q s r = (
-    jump_leads p parents T at (case_place c) (shape (f.height - e.takes + 0) f.catches) g (and_left (jump_stands p at (case_place c)) (jumps_stand p at (map case_place cs)) s) q r.0,
-    cases_lead p parents T at f g e cs q (and_right (jump_stands p at (case_place c)) (jumps_stand p at (map case_place cs)) s) r.1
-  )
+  jump_leads p parents T at (case_place c) (shape (f.height - e.takes + 0) f.catches) g (and_left (jump_stands p at (case_place c)) (jumps_stand p at (map case_place cs)) s) q r.0,
+  cases_lead p parents T at f g e cs q (and_right (jump_stands p at (case_place c)) (jumps_stand p at (map case_place cs)) s) r.1,
+)
 
 get_tables : (rows : List SwitchRow) (k : ℕ) (r : SwitchRow) → slice_get rows k ≡ Some r → slice_get (map table_of rows) k ≡ Some (table_of r)
 get_tables [] k r e = cc
@@ -122,9 +121,9 @@ switch_fine : (p : RawProgram) (parents : List (List (List ℕ))) (T : ℕ → S
     → shape (f.height - e.takes + 0) f.catches ≡ g → jumps_stand p at (row_places o) ≡ true → Reaches T f e (row_exits o) → TableLeads (code_of p parents) T at g (slice_get (map table_of p.switches) k)
 switch_fine p parents T at k f g e None s t q j r = cc
 switch_fine p parents T at k f g e (Some row) s t q j r = subst (TableLeads (code_of p parents) T at g) (sym (get_tables p.switches k row s)) (
-    cases_lead p parents T at f g e row.cases q (and_right (jump_stands p at row.other) (jumps_stand p at (map case_place row.cases)) j) r.1,
-    jump_leads p parents T at row.other (shape (f.height - e.takes + 0) f.catches) g (and_left (jump_stands p at row.other) (jumps_stand p at (map case_place row.cases)) j) q r.0
-  )
+  cases_lead p parents T at f g e row.cases q (and_right (jump_stands p at row.other) (jumps_stand p at (map case_place row.cases)) j) r.1,
+  jump_leads p parents T at row.other (shape (f.height - e.takes + 0) f.catches) g (and_left (jump_stands p at row.other) (jumps_stand p at (map case_place row.cases)) j) q r.0,
+)
 
 none_is : (cs : List Catching) → is_none cs ≡ true → cs ≡ []
 none_is [] h = refl
@@ -172,9 +171,9 @@ fine p parents T at f (CallEfun e n) h r = flow_fine p parents T at f n 1 (takes
 fine p parents T at f (CallSimul k n) h r = flow_fine p parents T at f n 1 (takes_from f (flow n 1) h.enough) r.0
 fine p parents T at f (Scan n) h r = flow_fine p parents T at f 2 (2 * n + 1) (takes_from f (flow 2 (2 * n + 1)) h.enough) r.0
 fine p parents T at f (CatchBegin to) h r = (
-    next_leads p parents T at (shape f.height (record { place = to; height = f.height } ∷ f.catches)) (subst (T (at + 1)) (same_shape (f.height - 0 + 0) f.height (record { place = to; height = f.height } ∷ f.catches) (omega arith)) r.0),
-    jump_leads p parents T at to (shape (f.height - 0 + 1) f.catches) (shape (f.height + 1) f.catches) (one_jump p at to h.jumping) (same_shape (f.height - 0 + 1) (f.height + 1) f.catches (omega arith)) r.1.0
-  )
+  next_leads p parents T at (shape f.height (record { place = to; height = f.height } ∷ f.catches)) (subst (T (at + 1)) (same_shape (f.height - 0 + 0) f.height (record { place = to; height = f.height } ∷ f.catches) (omega arith)) r.0),
+  jump_leads p parents T at to (shape (f.height - 0 + 1) f.catches) (shape (f.height + 1) f.catches) (one_jump p at to h.jumping) (same_shape (f.height - 0 + 1) (f.height + 1) f.catches (omega arith)) r.1.0,
+)
 fine p parents T at f CatchEnd h r = close_fine p parents T at f.height f.catches (and_right _ _ (and_left _ true h.leads)) r.0
 fine p parents T at f (Switch k) h r =
     (takes_from f (effect_of (Switch k)) h.enough, switch_fine p parents T at k f (shape (f.height - 1) f.catches) (effect_of (Switch k)) (slice_get p.switches k) refl h.named (same_shape (f.height - 1 + 0) (f.height - 1) f.catches (omega arith)) h.jumping r)

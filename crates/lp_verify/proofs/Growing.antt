@@ -1,8 +1,7 @@
 -- What is learned grows.
-use Rattle.std.proofs.Common.{◌≡◌, ◌≤◌, ◌<◌, ℕ, zero, suc, ◌+◌, ◌⊎◌, inl, inr, refl, sym, ◌∙◌, ap, subst, arith, List, [], ◌∷◌, ◌++◌, All, Contains, length, slice_set, Some, Bool, false, IsTrue, get_or, map}
-use Rattle.std.proofs.lemmas.List.{length-set, length-append, append-nil, append_assoc}
-use Rattle.std.proofs.lemmas.Option.{slice_get_read}
-use Rattle.std.proofs.lemmas.List.Elements.{All-pop, All-append, All-cons, All-nil, All-head, All-tail, All-weaker, Contains-append_left, Contains-append_right}
+use Rattle.std.proofs.Common.{◌≡◌, ◌≤◌, ◌<◌, ℕ, zero, suc, ◌+◌, ◌⊎◌, inl, inr, refl, sym, ◌∙◌, ap, subst, arith, List, [], ◌∷◌, ◌++◌, All, Contains, length, slice_set}
+use Rattle.std.proofs.lemmas.List.{length-set, length-append}
+use Rattle.std.proofs.lemmas.List.Elements.{All-append, All-cons, All-nil, All-head, All-tail, All-weaker, Contains-append_left, Contains-append_right}
 use Rattle.lp_verify.specs.Paths.{Known, Never, Once, Mixed, Fits, joined, Way, Ways, two, at}
 use Rattle.lp_verify.specs.Work.{IsLearned, AreLearned, Says, open_of, left, Grows}
 
@@ -187,4 +186,3 @@ grows_then xs ys a b c t u v g h = record {
       (g.learned ways starts l (all_left (λ w. IsLearned ways starts w.to w.known) xs ys k))
       (all_right (λ w. IsLearned ways starts w.to w.known) xs ys k);
 }
-

@@ -1,8 +1,7 @@
 -- What is learned behind the exits of an instruction.
-use Rattle.std.proofs.Common.{◌≡◌, ◌≤◌, ◌<◌, ℕ, zero, suc, ◌+◌, ◌-◌, refl, sym, ◌∙◌, ap, subst, arith, List, [], ◌∷◌, ◌++◌, All, length, map, take, get_or, Option, Some, None, slice_get, Bool, true, false, ◌&&◌, cond}
-use Rattle.std.specs.Prelude.{option_to_list}
-use Rattle.std.proofs.lemmas.List.{append_assoc, append-nil, length-map}
-use Rattle.std.proofs.lemmas.List.Elements.{All-cons, All-nil, All-head, All-tail, All-weaker}
+use Rattle.std.proofs.Common.{◌≡◌, ◌≤◌, ◌<◌, ℕ, zero, suc, ◌+◌, ◌-◌, refl, sym, ◌∙◌, ap, subst, arith, List, [], ◌∷◌, ◌++◌, All, length, map, take, get_or, Option, Some, Bool, true, false, ◌&&◌}
+use Rattle.std.proofs.lemmas.List.{append_assoc, length-map}
+use Rattle.std.proofs.lemmas.List.Elements.{All-head, All-tail, All-weaker}
 use Rattle.lp_instr.specs.declared.instr.Case.{Case}
 use Rattle.lp_instr.specs.Code.{Catching}
 use Rattle.lp_code.specs.declared.program.RawProgram.{RawProgram}
@@ -58,8 +57,8 @@ pub leave_moves : (a b c : Walk) (f : Form) (e : Effect) (x : Exit) (height numb
     → height ≡ f.height - e.takes + x.leaves → Moves (once_at (shape_of a.openings f) e x ∷ []) a c
 leave_moves a b c f e x height number h g s t l m i =
     moves_then [] (once_at (shape_of a.openings f) e x ∷ []) a b c (openings_move a b h g s t)
-      (let P : List Catching → Type 0 = λ z. Moves (record { to = x.to; known = Once (record { height = f.height - e.takes + x.leaves; catches = z }) } ∷ []) b c in
-        subst P l (let Q : ℕ → Type 0 = λ z. Moves (record { to = x.to; known = Once (record { height = z; catches = list_at b.openings number }) } ∷ []) b c in subst Q i m))
+    (let P : List Catching → Type 0 = λ z. Moves (record { to = x.to; known = Once (record { height = f.height - e.takes + x.leaves; catches = z }) } ∷ []) b c in
+    subst P l (let Q : ℕ → Type 0 = λ z. Moves (record { to = x.to; known = Once (record { height = z; catches = list_at b.openings number }) } ∷ []) b c in subst Q i m))
 
 -- a walk is ready for more
 pub ready_then : (p : RawProgram) (a b : Walk) (v : Seen) (ws : List Way) → IsReady p a v → Moves ws a b → IsReady p b v
@@ -83,8 +82,8 @@ lead_then p at e v xs ys a b c h g m =
     let P : List Way → Type 0 = λ ws. Moves ws a c in
     let Q : Known → Type 0 = λ k. Moves (leads p at k e ys) b c in
     subst P (sym (leads_append p at (known_of a.openings v) e xs ys))
-      (moves_then (leads p at (known_of a.openings v) e xs) (leads p at (known_of a.openings v) e ys) a b c g
-        (subst Q (known_then p a b v (leads p at (known_of a.openings v) e xs) h g) m))
+    (moves_then (leads p at (known_of a.openings v) e xs) (leads p at (known_of a.openings v) e ys) a b c g
+    (subst Q (known_then p a b v (leads p at (known_of a.openings v) e xs) h g) m))
 
 and_left : (x y : Bool) → (x && y) ≡ true → x ≡ true
 and_left true y h = refl
@@ -189,7 +188,7 @@ pub may_three : (p : RawProgram) (at : ℕ) (e : Effect) (v : Seen) (xs ys zs : 
     → MayLead p at (known_of a.openings v) e (xs ++ (ys ++ zs)) → MayLead p at (known_of c.openings v) e zs
 may_three p at e v xs ys zs a b c h g m q =
     may_right p at v e ys zs b c (leads p at (known_of b.openings v) e ys) (ready_then p a b v (leads p at (known_of a.openings v) e xs) h g) m
-      (may_right p at v e xs (ys ++ zs) a b (leads p at (known_of a.openings v) e xs) h g q)
+    (may_right p at v e xs (ys ++ zs) a b (leads p at (known_of a.openings v) e xs) h g q)
 
 -- the exits of an instruction, as they were computed
 pub as_exits : (p : RawProgram) (at : ℕ) (e : Effect) (xs ys : List Exit) (r : Option SwitchRow) → xs ≡ next_exits at e.next → ys ≡ jump_exits e.jump → r ≡ row_at p e.row → exits p at e ≡ xs ++ (ys ++ row_exits r)

@@ -1,8 +1,7 @@
 -- What is computed at a place is what the definitions say there.
 use Rattle.std.proofs.Common.{◌≡◌, ◌≤◌, ◌<◌, ℕ, zero, suc, ◌+◌, ◌*◌, inl, inr, refl, sym, ◌∙◌, ap, subst, arith, Bool, true, false, not, cond, ◌&&◌, nat_lt, List, [], ◌∷◌, ◌++◌, All, Contains, length, map, take, replicate, get_or, Option, Some, None, slice_get}
-use Rattle.std.proofs.lemmas.Bool.{ltb-true}
 use Rattle.std.proofs.lemmas.List.{length-map, length-replicate, append-nil, append_assoc}
-use Rattle.std.proofs.lemmas.List.Elements.{All-cons, All-nil, All-head, All-tail, All-weaker, All-append, Contains-append_left, Contains-append_right}
+use Rattle.std.proofs.lemmas.List.Elements.{All-cons, All-nil, All-head, All-weaker, All-append, Contains-append_right}
 use Rattle.lp_instr.specs.declared.instr.Instr.{Instr}
 use Rattle.lp_instr.specs.Code.{Catching}
 use Rattle.lp_instr.specs.Sound.{Shape}
@@ -15,15 +14,15 @@ use Rattle.lp_verify.specs.declared.seen.Seen.TheVariants as seen
 use Rattle.lp_verify.specs.declared.walk.Walk.{Walk}
 use Rattle.lp_verify.specs.Effects.{effect_of}
 use Rattle.lp_verify.specs.Fails.{is_bad, bad, Fails, NoneFails, IsLeast}
-use Rattle.lp_verify.specs.Flow.{exits, flows, goes_on, holds, leads, start_ways, starts, starts_in, ways, ways_from}
+use Rattle.lp_verify.specs.Flow.{exits, flows, goes_on, holds, leads, start_ways, starts, starts_in, ways}
 use Rattle.lp_verify.specs.Openings.{list_at}
-use Rattle.lp_verify.specs.Paths.{Known, Never, Once, Mixed, Fits, Way, Learned, begins, at as known_at, begin_shape}
+use Rattle.lp_verify.specs.Paths.{Known, Never, Once, Mixed, Fits, Way, begins, at as known_at, begin_shape}
 use Rattle.lp_verify.specs.Walks.{known_of, facts, IsIn, IsWalk, IsStarted, IsNew, MayLead, Moves}
 use Rattle.lp_verify.specs.Work.{AreBegun, IsAll, IsLearned, Works, left, Grows}
 use Rattle.lp_verify.proofs.Growing.{fits_trans, same_or}
 use Rattle.lp_verify.proofs.Opened.{goes_at, goes_longer}
 use Rattle.lp_verify.proofs.Steady.{are_steady, held_exits, ways_on, ways_off}
-use Rattle.lp_verify.proofs.Walking.{fact_at, in_at, moves_none}
+use Rattle.lp_verify.proofs.Walking.{fact_at, moves_none}
 use Rattle.lp_verify.proofs.Working.{works_none, works_more, works_on, works_end, less_on, works_in}
 
 pub bad_read : (p : RawProgram) (at : ℕ) (i : Instr) (k j : Known) (b : Bool) → slice_get p.instrs at ≡ Some i → k ≡ j → b ≡ is_bad p at j (Some i) → b ≡ bad p at k
@@ -140,8 +139,8 @@ begins_more p i r a b l e h m =
           (learned_start p r.from (nat_lt r.from (length p.instrs)) (λ t. start_in (length p.instrs) p.funs i r l e t)) g.grows;
       begun = (let P : List ℕ → Type 0 = λ z. AreBegun z (facts b) in subst P (sym (starts_more (length p.instrs) p.funs i r l e))
           (All-append (λ z. Fits (Once begin_shape) (known_at (facts b) z)) (starts_in (length p.instrs) (take i p.funs)) (cond (nat_lt r.from (length p.instrs)) (r.from ∷ []) [])
-            (All-weaker (λ z. Fits (Once begin_shape) (known_at (facts a) z)) (λ z. Fits (Once begin_shape) (known_at (facts b) z)) (λ z f. fits_trans (Once begin_shape) (known_at (facts a) z) (known_at (facts b) z) f (g.grows.above z)) (starts_in (length p.instrs) (take i p.funs)) h.begun)
-            (begun_start (facts b) r.from (nat_lt r.from (length p.instrs)) g.grows.says)));
+          (All-weaker (λ z. Fits (Once begin_shape) (known_at (facts a) z)) (λ z. Fits (Once begin_shape) (known_at (facts b) z)) (λ z f. fits_trans (Once begin_shape) (known_at (facts a) z) (known_at (facts b) z) f (g.grows.above z)) (starts_in (length p.instrs) (take i p.funs)) h.begun)
+          (begun_start (facts b) r.from (nat_lt r.from (length p.instrs)) g.grows.says)));
     }
 
 take_all : (rows : List FunRow) (i : ℕ) → length rows ≤ i → take i rows ≡ rows

@@ -1,6 +1,6 @@
 -- Names are told apart.
-use Rattle.std.proofs.Common.{◌≡◌, ◌≤◌, ◌<◌, ℕ, zero, suc, ◌+◌, refl, sym, ◌∙◌, ap, subst, arith, Bool, true, false, ◌||◌, cond, List, [], ◌∷◌, ◌++◌, Contains, length, map, take, get_or, Option, Some, None, slice_get, IsTrue, not, inl, inr, ◌⊎◌}
-use Rattle.std.specs.Prelude.{nat_eq, MatchBool}
+use Rattle.std.proofs.Common.{◌≡◌, ◌≤◌, ◌<◌, ℕ, zero, suc, ◌+◌, refl, sym, ◌∙◌, ap, subst, arith, Bool, true, false, ◌||◌, cond, List, [], ◌∷◌, ◌++◌, Contains, length, get_or, Some, slice_get, IsTrue, not, inl, inr, ◌⊎◌}
+use Rattle.std.specs.Prelude.{nat_eq}
 use Rattle.std.specs.List.{list_any}
 use Rattle.std.specs.Cmp.Lexicographic.{pointwise}
 use Rattle.std.proofs.lemmas.Slice.Eq.{bytes_eq-Decides}

@@ -5,7 +5,6 @@ use Rattle.std.proofs.lemmas.Bool.{eqb-true, eq-eqb}
 use Rattle.std.specs.List.{list_any}
 use Rattle.indexmap.specs.IndexSet.{insert_key}
 use Rattle.std.proofs.lemmas.List.{length-append, append_assoc, append-nil}
-use Rattle.std.proofs.lemmas.Option.{slice_get_within, slice_get_past}
 use Rattle.lp_instr.specs.Code.{Catching, or_none}
 use Rattle.lp_verify.specs.declared.openings.Opening.{Opening}
 use Rattle.lp_verify.specs.Openings.{catching, list_at, lists_on, lists_of, AreLinked, AreDistinct, AreOpenings, GoesOn, Adds}
@@ -87,16 +86,16 @@ row_known os j o h below inside e = go (slice_get os j) refl
   where
     one : (x : Opening) → slice_get os j ≡ Some x → x ≡ o
     one x g =
-      let row = ap or_none (lists_row ([] ∷ []) os 0 j (suc j) x refl h.linked g (omega arith)) in
-      let both : catching x ∷ list_at (lists_of os) x.outer ≡ catching o ∷ list_at (lists_of os) o.outer = sym row ∙ e in
-      let heads : catching x ≡ catching o = cc in
-      let tails : list_at (lists_of os) x.outer ≡ list_at (lists_of os) o.outer = cc in
-      let n = lists_length ([] ∷ []) os in
-      let low = linked_row 0 os j x h.linked g in
-      let outers = h.distinct x.outer o.outer (omega (arith, low, n, inside)) below tails in
-      let tos : x.to ≡ o.to = ap (λ (c : Catching). c.place) heads in
-      let heights : x.height ≡ o.height = ap (λ (c : Catching). c.height) heads in
-      λ i. record { to = tos i; height = heights i; outer = outers i }
+        let row = ap or_none (lists_row ([] ∷ []) os 0 j (suc j) x refl h.linked g (omega arith)) in
+        let both : catching x ∷ list_at (lists_of os) x.outer ≡ catching o ∷ list_at (lists_of os) o.outer = sym row ∙ e in
+        let heads : catching x ≡ catching o = cc in
+        let tails : list_at (lists_of os) x.outer ≡ list_at (lists_of os) o.outer = cc in
+        let n = lists_length ([] ∷ []) os in
+        let low = linked_row 0 os j x h.linked g in
+        let outers = h.distinct x.outer o.outer (omega (arith, low, n, inside)) below tails in
+        let tos : x.to ≡ o.to = ap (λ (c : Catching). c.place) heads in
+        let heights : x.height ≡ o.height = ap (λ (c : Catching). c.height) heads in
+        λ i. record { to = tos i; height = heights i; outer = outers i }
 
     go : (r : Option Opening) → slice_get os j ≡ r → slice_get os j ≡ Some o
     go None g = absurd (let l = slice_get_none os j g in omega (arith, l, inside))
@@ -183,9 +182,9 @@ pub innermost_of : (os : List Opening) (lists : List (List Catching)) (k : ℕ) 
     → MatchOption r (list_at lists k ≡ []) (λ o. (list_at lists k ≡ catching o ∷ list_at lists o.outer) × (o.outer < length lists))
 innermost_of os lists k None h v l n e = absurd (let b = below_view os k lists v l in let s = lists_length ([] ∷ []) os in let p = slice_get_none os (k - 1) (sym e) in omega (arith, b, s, p, n))
 innermost_of os lists k (Some o) h v l n e = (
-    ap (λ z. list_at z k) (sym v) ∙ ap or_none (lists_row ([] ∷ []) os 0 (k - 1) k o refl h.linked (sym e) (omega (arith, n))) ∙ ap (λ z. catching o ∷ list_at z o.outer) v,
-    let low = linked_row 0 os (k - 1) o h.linked (sym e) in omega (arith, low, l, n)
-  )
+  ap (λ z. list_at z k) (sym v) ∙ ap or_none (lists_row ([] ∷ []) os 0 (k - 1) k o refl h.linked (sym e) (omega (arith, n))) ∙ ap (λ z. catching o ∷ list_at z o.outer) v,
+  let low = linked_row 0 os (k - 1) o h.linked (sym e) in omega (arith, low, l, n),
+)
 
 or_first : (a b : Bool) → a ≡ true → (a || b) ≡ false → ⊥
 or_first true b h g = cc

@@ -1,6 +1,6 @@
 -- Functions, switches and tables are tested.
-use Rattle.std.proofs.Common.{◌≡◌, ◌≤◌, ◌<◌, ℕ, zero, suc, ◌⊎◌, inl, inr, subst, refl, sym, ◌∙◌, ap, arith, Bool, true, false, ◌&&◌, nat_lt, nat_le, nat_eq, List, [], ◌∷◌, All, length, map, IsTrue, Option, Some, None}
-use Rattle.std.proofs.lemmas.Bool.{ltb-true, ltb-false, leb-true, leb-false, eq-eqb, eqb-true}
+use Rattle.std.proofs.Common.{◌≡◌, ◌≤◌, ◌<◌, ℕ, suc, inl, inr, subst, refl, sym, ◌∙◌, arith, Bool, true, false, ◌&&◌, nat_lt, nat_le, nat_eq, List, [], ◌∷◌, All, length, map, IsTrue, Option, Some, None}
+use Rattle.std.proofs.lemmas.Bool.{ltb-true, leb-true, leb-false, eq-eqb, eqb-true}
 use Rattle.std.proofs.lemmas.List.Elements.{All-cons, All-nil, All-head, All-tail}
 use Rattle.lp_instr.specs.declared.instr.Case.{Case}
 use Rattle.lp_instr.specs.Code.{case_place}
@@ -8,10 +8,10 @@ use Rattle.lp_code.specs.declared.program.RawProgram.{RawProgram}
 use Rattle.lp_code.specs.declared.program.FunRow.{FunRow}
 use Rattle.lp_code.specs.declared.program.SwitchRow.{SwitchRow}
 use Rattle.lp_code.specs.Owners.{AreRows, RowsRise}
-use Rattle.lp_code.specs.Inside.{IsSwitch, AreTables, have_texts, row_places}
+use Rattle.lp_code.specs.Inside.{IsSwitch, AreTables}
 use Rattle.lp_code.specs.Programs.{AreFunctions, IsProgram}
 use Rattle.lp_verify.specs.Rows.{row_fits, rows_rise, are_rows, are_inside, is_switch, are_switches}
-use Rattle.lp_verify.specs.Fails.{Fails, NoneFails, IsLeast}
+use Rattle.lp_verify.specs.Fails.{NoneFails, IsLeast}
 use Rattle.lp_verify.specs.Verified.{AreOthers, IsFirstFault}
 use Rattle.lp_verify.proofs.Fine.{and_left, and_right, and_both}
 use Rattle.lp_verify.proofs.Soundness.{lt_true, inside_from}
@@ -52,9 +52,9 @@ all_inside n (c ∷ cs) h = and_both (nat_lt (case_place c) n) (are_inside n cs)
 
 switch_from : (p : RawProgram) (r : SwitchRow) → is_switch p r ≡ true → IsSwitch p r
 switch_from p r h = (
-    All-cons (λ to. to < length p.instrs) r.other (map case_place r.cases) (ltb-true r.other (length p.instrs) (and_left _ _ (and_left _ _ h))) (inside_all (length p.instrs) r.cases (and_right (nat_lt r.other (length p.instrs)) _ (and_left _ _ h))),
-    and_right _ _ h
-  )
+  All-cons (λ to. to < length p.instrs) r.other (map case_place r.cases) (ltb-true r.other (length p.instrs) (and_left _ _ (and_left _ _ h))) (inside_all (length p.instrs) r.cases (and_right (nat_lt r.other (length p.instrs)) _ (and_left _ _ h))),
+  and_right _ _ h,
+)
 
 switch_so : (p : RawProgram) (r : SwitchRow) → IsSwitch p r → is_switch p r ≡ true
 switch_so p r h = and_both _ _ (and_both _ _ (lt_true r.other (length p.instrs) (All-head (λ to. to < length p.instrs) r.other (map case_place r.cases) h.0))
@@ -71,13 +71,13 @@ switches_so p (r ∷ rs) h = and_both (is_switch p r) (are_switches p rs) (switc
 pub others_tested : (p : RawProgram) (rows switches tables : Bool) → rows ≡ are_rows (length p.instrs) p.funs → switches ≡ are_switches p p.switches → (IsTrue tables → AreTables p.tables) × (AreTables p.tables → IsTrue tables)
     → (IsTrue (rows && switches && tables) → AreOthers p) × (AreOthers p → IsTrue (rows && switches && tables))
 others_tested p rows switches tables e f d = (
-    λ t. record {
-      rows = rows_from (length p.instrs) p.funs (sym e ∙ and_left rows switches (and_left (rows && switches) tables t));
-      switches = switches_from p p.switches (sym f ∙ and_right rows switches (and_left (rows && switches) tables t));
-      tables = d.0 (and_right (rows && switches) tables t);
-    },
-    λ o. and_both (rows && switches) tables (and_both rows switches (e ∙ rows_so (length p.instrs) p.funs o.rows) (f ∙ switches_so p p.switches o.switches)) (d.1 o.tables)
-  )
+  λ t. record {
+    rows = rows_from (length p.instrs) p.funs (sym e ∙ and_left rows switches (and_left (rows && switches) tables t));
+    switches = switches_from p p.switches (sym f ∙ and_right rows switches (and_left (rows && switches) tables t));
+    tables = d.0 (and_right (rows && switches) tables t);
+  },
+  λ o. and_both (rows && switches) tables (and_both rows switches (e ∙ rows_so (length p.instrs) p.funs o.rows) (f ∙ switches_so p p.switches o.switches)) (d.1 o.tables),
+)
 
 -- a program in which nothing fails
 pub program_from : (p : RawProgram) → NoneFails p (length p.instrs) → AreFunctions p → AreOthers p → IsProgram p

@@ -1,10 +1,9 @@
 -- Where the code of a function lies.
-use Rattle.std.proofs.Common.{◌≡◌, ◌≤◌, ◌<◌, ℕ, zero, suc, ◌+◌, ◌⊎◌, inl, inr, refl, sym, ◌∙◌, ap, subst, arith, Bool, true, false, cond, nat_eq, List, [], ◌∷◌, length, Option, Some, None, slice_get}
+use Rattle.std.proofs.Common.{◌≡◌, ◌≤◌, ◌<◌, ℕ, zero, suc, ◌+◌, ◌⊎◌, inl, inr, refl, sym, ◌∙◌, ap, subst, arith, Bool, true, false, cond, nat_eq, List, [], ◌∷◌, Option, Some, None, slice_get}
 use Rattle.std.proofs.lemmas.Bool.{eq-eqb, eqb-true}
-use Rattle.std.proofs.lemmas.Option.{slice_get_within}
 use Rattle.lp_code.specs.declared.program.FunRow.{FunRow}
 use Rattle.lp_code.specs.declared.program.RawProgram.{RawProgram}
-use Rattle.lp_code.specs.Owners.{first_of, begun, owner, RowsRise, AreRows, end_of, end_in, locals_at, locals_in, row_of}
+use Rattle.lp_code.specs.Owners.{first_of, begun, owner, RowsRise, AreRows, end_in, locals_at, locals_in, row_of}
 
 pub below_or : (i n : ℕ) → i ≤ n → (i < n) ⊎ (i ≡ n)
 below_or zero zero h = inr refl

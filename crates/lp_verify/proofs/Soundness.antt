@@ -1,34 +1,34 @@
 -- Where no instruction fails, each function is sound.
-use Rattle.std.proofs.Common.{◌≡◌, ◌≤◌, ◌<◌, ℕ, zero, suc, ◌+◌, ◌-◌, ◌*◌, ◌⊎◌, inl, inr, refl, sym, ◌∙◌, ap, subst, arith, Bool, true, false, ◌&&◌, not, cond, nat_lt, nat_le, nat_eq, List, [], ◌∷◌, ◌++◌, Contains, length, map, Option, Some, None, slice_get}
+use Rattle.std.proofs.Common.{◌≡◌, ◌≤◌, ◌<◌, ℕ, zero, suc, ◌+◌, ◌-◌, inl, inr, refl, sym, ◌∙◌, ap, subst, arith, Bool, true, false, not, cond, nat_lt, nat_le, nat_eq, List, [], ◌∷◌, ◌++◌, Contains, length, map, Option, Some, None, slice_get}
 use Rattle.std.specs.Prelude.{⊤, IsSome, is_some}
 use Rattle.std.proofs.lemmas.Bool.{ltb-true, ltb-false, leb-true, eq-eqb, eqb-true}
 use Rattle.std.proofs.lemmas.List.{length-map}
 use Rattle.std.proofs.lemmas.Option.{slice_get_within}
-use Rattle.std.proofs.lemmas.List.Elements.{Contains-append_left, Contains-append_right}
+use Rattle.std.proofs.lemmas.List.Elements.{Contains-append_right}
 use Rattle.lp_instr.specs.declared.efun.Efun.{Efun}
 use Rattle.lp_instr.specs.EfunList.{Allows, IsAtMost, arity}
 use Rattle.lp_instr.specs.declared.instr.Instr.{Instr}
-use Rattle.lp_instr.specs.declared.instr.Instr.TheVariants.{PushText, PushLocal, SetLocal, PushGlobal, SetGlobal, Rotate, CallSlot, CallFixed, CallEfun, CallSimul, Switch, EachBegin, EachNext, CatchBegin, CatchEnd, Jump, JumpIfZero, JumpIfNotZero, KeepIfZero, KeepIfNotZero, Return, ReturnZero, Pop}
+use Rattle.lp_instr.specs.declared.instr.Instr.TheVariants.{PushText, PushLocal, SetLocal, PushGlobal, SetGlobal, Rotate, CallSlot, CallFixed, CallEfun, CallSimul, Switch, EachBegin, EachNext, CatchBegin, Jump, JumpIfZero, JumpIfNotZero, KeepIfZero, KeepIfNotZero, Return, ReturnZero}
 use Rattle.lp_instr.specs.declared.instr.Case.{Case}
-use Rattle.lp_instr.specs.Code.{Code, Catching, parent_row}
-use Rattle.lp_instr.specs.Sound.{Shape, shape, Shapes, By, CatchLeads, IsNamed, IsFine, IsReachedWell, IsSound, Bounds}
+use Rattle.lp_instr.specs.Code.{Catching}
+use Rattle.lp_instr.specs.Sound.{Shape, shape, Shapes, By, CatchLeads, IsNamed, IsReachedWell, IsSound}
 use Rattle.lp_code.specs.declared.program.RawProgram.{RawProgram}
 use Rattle.lp_code.specs.declared.program.FunRow.{FunRow}
 use Rattle.lp_code.specs.declared.program.SwitchRow.{SwitchRow}
 use Rattle.lp_code.specs.declared.tables.Slot.{Slot}
 use Rattle.lp_code.specs.Owners.{owner, AreRows, end_of, locals_at}
-use Rattle.lp_code.specs.Inside.{is_at_most, is_allowed, is_named, row_has_texts, stands, are_variables}
+use Rattle.lp_code.specs.Inside.{is_at_most, is_allowed, is_named, row_has_texts, stands}
 use Rattle.lp_code.specs.Programs.{code_of, bounds_of, table_of, FindsRows, IsFunction}
 use Rattle.lp_verify.specs.declared.effect.Change.{Change}
 use Rattle.lp_verify.specs.declared.effect.Change.TheVariants.{Stay, Opens, Closes}
 use Rattle.lp_verify.specs.declared.effect.Effect.{Effect}
 use Rattle.lp_verify.specs.declared.effect.Exit.{Exit}
 use Rattle.lp_verify.specs.Effects.{effect_of}
-use Rattle.lp_verify.specs.Fails.{is_bad, bad, Fails, NoneFails}
-use Rattle.lp_verify.specs.Flow.{after, changed, exit, exits, exit_holds, exits_hold, flows, goes_on, holds, is_within, lead, leads, once_at, outer, row_exits, case_exit, starts, starts_in, ways, ways_from}
+use Rattle.lp_verify.specs.Fails.{is_bad, bad, NoneFails}
+use Rattle.lp_verify.specs.Flow.{after, changed, exit, exits, exit_holds, exits_hold, flows, holds, is_within, leads, once_at, outer, row_exits, case_exit, starts, starts_in, ways, ways_from}
 use Rattle.lp_verify.specs.Paths.{Known, Never, Once, Mixed, Fits, Way, Learned, begins, on, two, at as known_at, begin_shape}
 use Rattle.lp_verify.specs.Work.{IsAll, IsLearned}
-use Rattle.lp_verify.proofs.Fine.{and_left, and_right, Held, held_from, Reaches, fine}
+use Rattle.lp_verify.proofs.Fine.{and_left, and_right, held_from, Reaches, fine}
 use Rattle.lp_verify.proofs.Owning.{owner_first, owner_from, owner_end, locals_of, row_inside}
 use Rattle.lp_verify.proofs.Steady.{held_exits}
 
@@ -153,10 +153,9 @@ reaches : (p : RawProgram) (xs : List Known) (k q : ℕ) (f : Shape) (e : Effect
     → ((w : Way) → Contains (leads p q (Once f) e ys) w → Learned (ways p) (starts p) w.to w.known) → Reaches (By (shapes_in p xs k)) f e ys
 reaches p xs k q f e [] h o t g = tt
 reaches p xs k q f e (y ∷ ys) h o t g =
-    let w = within_of p q y.to (exit_within p q f e y (and_left (exit_holds p q f e y) (exits_hold p q f e ys) t)) in
-    (
+    let w = within_of p q y.to (exit_within p q f e y (and_left (exit_holds p q f e y) (exits_hold p q f e ys) t)) in (
       said_in p xs k y.to (after f e y) (w.1 ∙ o) (once_said p xs y.to (after f e y) h w.0 (g (once_at f e y) (0, omega arith, refl))),
-      reaches p xs k q f e ys h o (and_right (exit_holds p q f e y) (exits_hold p q f e ys) t) (λ v c. g v (suc c.0, omega (arith, c.1), c.2))
+      reaches p xs k q f e ys h o (and_right (exit_holds p q f e y) (exits_hold p q f e ys) t) (λ v c. g v (suc c.0, omega (arith, c.1), c.2)),
     )
 
 -- What each open catch of a place leads to was learned in its function.
@@ -251,7 +250,11 @@ led_by p q k w g s c = go (slice_get p.instrs q) refl k refl c
     go None e j f (n, l, t) = absurd (omega (arith, l))
     go (Some i) e Never f (n, l, t) = absurd (omega (arith, l))
     go (Some i) e (Once b) f c = let t = cond_true (holds p q b i) (leads p q (Once b) (effect_of i) (exits p q (effect_of i))) w c in record {
-      before = b; known = f; instr = i; is = e; holds = t.0;
+      before = b;
+      known = f;
+      instr = i;
+      is = e;
+      holds = t.0;
       from = from_lead p q b i w (exits p q (effect_of i)) (λ x m. m) (held_exits p q b i t.0) (all_open p q i) t.1;
     }
     go (Some i) e Mixed f c = let m = mixed_known p q (effect_of i) (exits p q (effect_of i)) w c in let z : Once g ≡ Mixed = sym s ∙ m in cc
@@ -266,12 +269,11 @@ opened p q b i w x (Opens to) m e h s o ow cs =
     let z : b.height - (effect_of i).takes + 1 ≡ b.height + 1 = (let t = o.0 in omega (arith, t)) in
     let fr = from_lead p q b i (once_at b (effect_of i) (exit to 1 Stay)) (exits p q (effect_of i)) (λ x m. m) (held_exits p q b i h) (all_open p q i) (lead_in p q b (effect_of i) (exits p q (effect_of i)) (exit to 1 Stay) o.1) in
     let tos = ap (λ (k : Way). k.to) fr.is in
-    let wi = within_of p q fr.exit.to (exit_within p q b (effect_of i) fr.exit fr.held) in
-    (
+    let wi = within_of p q fr.exit.to (exit_within p q b (effect_of i) fr.exit fr.held) in (
       subst (λ n. Learned (ways p) (starts p) to (Once (shape n b.catches))) z y,
       (let l = wi.0 in omega (arith, l, tos)),
       ap (owner p.funs) (sym tos) ∙ wi.1 ∙ sym ow,
-      catches_move p q x.to b.catches ow cs
+      catches_move p q x.to b.catches ow cs,
     )
 
 catches_lead : (p : RawProgram) (q : ℕ) (k : Known) → Learned (ways p) (starts p) q k → (g : Shape) → k ≡ Once g → CatchesLead p q g.catches

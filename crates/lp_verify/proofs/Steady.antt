@@ -1,6 +1,6 @@
 -- What instructions lead to is steady.
-use Rattle.std.proofs.Common.{◌≡◌, ◌<◌, ℕ, zero, suc, refl, sym, ◌∙◌, ap, subst, arith, Bool, true, false, ◌&&◌, cond, List, [], ◌∷◌, ◌++◌, Contains, length, Option, Some, None, slice_get}
-use Rattle.std.proofs.lemmas.List.Elements.{Contains-append_left, Contains-append_right, Contains-append_cases}
+use Rattle.std.proofs.Common.{◌≡◌, ℕ, zero, suc, refl, sym, ◌∙◌, ap, subst, arith, Bool, true, false, ◌&&◌, cond, List, [], ◌∷◌, ◌++◌, Contains, Option, Some, None, slice_get}
+use Rattle.std.proofs.lemmas.List.Elements.{Contains-append_right}
 use Rattle.lp_instr.specs.declared.instr.Instr.{Instr}
 use Rattle.lp_instr.specs.Sound.{Shape}
 use Rattle.lp_code.specs.declared.program.RawProgram.{RawProgram}
@@ -9,7 +9,7 @@ use Rattle.lp_verify.specs.declared.effect.Effect.{Effect}
 use Rattle.lp_verify.specs.declared.effect.Exit.{Exit}
 use Rattle.lp_verify.specs.Effects.{effect_of}
 use Rattle.lp_verify.specs.Paths.{Known, Never, Once, Mixed, Fits, Way}
-use Rattle.lp_verify.specs.Flow.{exits, exit_holds, exits_hold, flows, holds, is_within, once_at, mixed_at, lead, leads, goes_on, ways_from, ways}
+use Rattle.lp_verify.specs.Flow.{exits, exits_hold, holds, is_within, mixed_at, lead, leads, goes_on, ways_from, ways}
 use Rattle.lp_verify.specs.Work.{AreSteady}
 use Rattle.lp_verify.proofs.Growing.{fits_same, fits_mixed}
 

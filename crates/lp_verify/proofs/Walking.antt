@@ -1,18 +1,16 @@
 -- What is learned while paths are walked.
-use Rattle.std.proofs.Common.{◌≡◌, ◌≤◌, ◌<◌, ℕ, zero, suc, ◌+◌, refl, sym, ◌∙◌, ap, subst, arith, List, [], ◌∷◌, ◌++◌, All, length, map, slice_set, get_or, Option, Some, None, slice_get, Bool, true, false, IsTrue}
+use Rattle.std.proofs.Common.{◌≡◌, ◌<◌, ℕ, zero, suc, refl, sym, ◌∙◌, ap, subst, arith, List, [], ◌∷◌, ◌++◌, All, length, map, slice_set, get_or, Some, slice_get, Bool, true, false, IsTrue}
 use Rattle.std.proofs.lemmas.List.{length-append, length-map, append-nil}
 use Rattle.std.proofs.lemmas.Option.{slice_get_read}
-use Rattle.std.proofs.lemmas.List.Elements.{All-cons, All-nil, All-head, All-tail, All-weaker, All-contains}
+use Rattle.std.proofs.lemmas.List.Elements.{All-cons, All-head, All-tail}
 use Rattle.lp_instr.specs.Code.{Catching}
 use Rattle.lp_verify.specs.declared.seen.Seen.{Seen}
-use Rattle.lp_verify.specs.declared.seen.Seen.TheVariants as seen
 use Rattle.lp_verify.specs.declared.walk.Walk.{Walk}
-use Rattle.lp_verify.specs.Openings.{GoesOn, list_at}
-use Rattle.lp_verify.specs.Paths.{Known, Never, Once, Mixed, Fits, joined, Way, at, said}
+use Rattle.lp_verify.specs.Paths.{Known, Fits, joined, Way, at, said}
 use Rattle.lp_verify.specs.Work.{Grows}
-use Rattle.lp_verify.specs.Walks.{shape_of, known_of, IsIn, facts, IsWalk, Moves}
+use Rattle.lp_verify.specs.Walks.{known_of, IsIn, facts, IsWalk, Moves}
 use Rattle.lp_verify.proofs.Growing.{grows_none, grows_one, grows_then, grows_nothing}
-use Rattle.lp_verify.proofs.Opened.{goes_same, goes_then, goes_at, goes_longer}
+use Rattle.lp_verify.proofs.Opened.{goes_same, goes_then}
 
 pub map_set : {A B : Type 0} (f : A → B) (xs : List A) (i : ℕ) (v : A) → map f (slice_set xs i v) ≡ slice_set (map f xs) i (f v)
 map_set f [] i v = refl
@@ -61,9 +59,9 @@ learn_more a b to v old new h l e n j i o s t =
     let here = fact_at a.openings a.seen.items to old l e in
     let size : to < length (facts a) = let z = length-map a.seen.items (known_of a.openings) in omega (arith, z, l) in
     let g : Grows (w ∷ []) (facts a) a.todo.items (slice_set (facts a) to (known_of a.openings new)) b.todo.items
-          = grows_one (facts a) a.todo.items b.todo.items w (known_of a.openings new) size
-              (λ f. n (let P : Known → Type 0 = λ k. Fits (known_of a.openings v) k in subst P here f))
-              (j ∙ ap (λ k. joined k (known_of a.openings v)) (sym here)) t (ap length t ∙ length-append a.todo.items (to ∷ [])) in
+    = grows_one (facts a) a.todo.items b.todo.items w (known_of a.openings new) size
+    (λ f. n (let P : Known → Type 0 = λ k. Fits (known_of a.openings v) k in subst P here f))
+    (j ∙ ap (λ k. joined k (known_of a.openings v)) (sym here)) t (ap length t ∙ length-append a.todo.items (to ∷ [])) in
     let news : facts b ≡ slice_set (facts a) to (known_of a.openings new) = ap (λ z. map (known_of z) b.seen.items) o ∙ ap (map (known_of a.openings)) s ∙ map_set (known_of a.openings) a.seen.items to new in
     record {
       goes_on = record { more = []; is = o ∙ sym (append-nil a.openings) };

@@ -1,10 +1,10 @@
 -- The work list loses nothing.
-use Rattle.std.proofs.Common.{◌≡◌, ◌<◌, ℕ, zero, suc, ◌+◌, ◌*◌, ◌⊎◌, inl, inr, refl, sym, ◌∙◌, ap, subst, arith, List, [], ◌∷◌, ◌++◌, All, Contains, length, replicate, get_or, Some}
-use Rattle.std.proofs.lemmas.List.Elements.{All-cons, All-nil, All-head, All-weaker, All-contains, All-pop, Contains-append_cases}
-use Rattle.std.proofs.lemmas.List.{length-append, length-replicate}
+use Rattle.std.proofs.Common.{◌≡◌, ◌<◌, ℕ, zero, suc, ◌+◌, ◌*◌, ◌⊎◌, inl, inr, refl, sym, ◌∙◌, ap, subst, arith, List, [], ◌∷◌, ◌++◌, All, Contains, length, replicate, Some}
+use Rattle.std.proofs.lemmas.List.Elements.{All-cons, All-nil, All-weaker, All-contains, All-pop, Contains-append_cases}
+use Rattle.std.proofs.lemmas.List.{length-append}
 use Rattle.lp_instr.specs.Sound.{Shape}
 use Rattle.lp_verify.specs.Paths.{Known, Never, Once, Mixed, Fits, Way, Ways, Learned, begins, on, two, at, begin_shape}
-use Rattle.lp_verify.specs.Work.{Works, AreSteady, IsAll, AreBegun, IsLearned, AreLearned, Says, left, Grows}
+use Rattle.lp_verify.specs.Work.{Works, AreSteady, IsAll, AreBegun, IsLearned, Says, left, Grows}
 use Rattle.lp_verify.proofs.Growing.{same_or, fits_trans}
 
 is_learned : (ways : Ways) (starts : List ℕ) (p : ℕ) (k : Known) → Learned ways starts p k → IsLearned ways starts p k

@@ -1,5 +1,5 @@
 -- Where the instructions of a program lead.
-use Rattle.std.specs.Prelude.{ℕ, ◌+◌, ◌-◌, ◌<◌, ◌≡◌, Bool, true, false, ◌&&◌, ◌||◌, not, nat_lt, nat_eq, cond, List, [], ◌∷◌, ◌++◌, Option, Some, None, Contains, length, map, slice_get}
+use Rattle.std.specs.Prelude.{ℕ, ◌+◌, ◌-◌, Bool, true, false, ◌&&◌, ◌||◌, not, nat_lt, nat_eq, cond, List, [], ◌∷◌, ◌++◌, Option, Some, None, length, map, slice_get}
 use Rattle.lp_instr.specs.declared.instr.Instr.{Instr}
 use Rattle.lp_instr.specs.declared.instr.Case.{Case}
 use Rattle.lp_instr.specs.Code.{Catching, case_place}

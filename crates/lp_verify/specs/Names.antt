@@ -1,5 +1,5 @@
 -- Names of slots.
-use Rattle.std.specs.Prelude.{◌≡◌, ℕ, Bool, true, false, List, [], ◌∷◌, ◌++◌, MatchBool, Contains, Some, slice_get}
+use Rattle.std.specs.Prelude.{◌≡◌, ℕ, Bool, List, [], ◌∷◌, ◌++◌, MatchBool, Contains, Some, slice_get}
 use Rattle.lp_code.specs.declared.tables.Slot.{Slot}
 
 -- no two slots have one name

@@ -1,5 +1,5 @@
 -- Lists of open catches by their numbers.
-use Rattle.std.specs.Prelude.{◌≡◌, ◌≤◌, ◌<◌, ℕ, suc, ⊤, ◌⊎◌, List, [], ◌∷◌, ◌++◌, Option, Some, None, slice_get, length}
+use Rattle.std.specs.Prelude.{◌≡◌, ◌≤◌, ◌<◌, ℕ, suc, ⊤, ◌⊎◌, List, [], ◌∷◌, ◌++◌, Some, slice_get, length}
 use Rattle.lp_instr.specs.Code.{Catching, or_none}
 use Rattle.lp_verify.specs.declared.openings.Opening.{Opening}
 

@@ -1,5 +1,5 @@
 -- The paths through code: how each place is reached.
-use Rattle.std.specs.Prelude.{◌≡◌, ℕ, ◌+◌, ⊤, List, [], ◌∷◌, All, Contains, Option, Some, None, length, slice_get}
+use Rattle.std.specs.Prelude.{◌≡◌, ℕ, ⊤, List, [], Contains, Option, Some, None, slice_get}
 use Rattle.lp_instr.specs.Sound.{Shape, shape}
 
 -- what is known of a place: no path; each path comes in one shape; or paths mix

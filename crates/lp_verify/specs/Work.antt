@@ -1,6 +1,6 @@
 -- The work list: what holds between two places that are looked at.
 use Rattle.std.specs.Prelude.{◌≡◌, ◌≤◌, ◌<◌, ℕ, ◌+◌, ◌*◌, ⊤, List, [], ◌∷◌, ◌⊎◌, All, Contains, length}
-use Rattle.lp_verify.specs.Paths.{Known, Never, Once, Mixed, Fits, Way, Ways, Learned, at, begin_shape}
+use Rattle.lp_verify.specs.Paths.{Known, Never, Once, Mixed, Fits, Way, Learned, at, begin_shape}
 
 abbrev pub IsLearned : (ways : ℕ → Known → List Way) → (starts : List ℕ) → ℕ → Known → Type 0
 IsLearned ways starts p Never = ⊤

@@ -54,7 +54,12 @@ fn exit_holds(
     ensures { result ≡ exit_holds body.now at (shape_of openings.now form) effect exit }
 {
     let within = is_within(body, at, exit.to);
-    let low = is_low(body.raw().max_height, form.height, effect.takes, exit.leaves);
+    let low = is_low(
+        body.raw().max_height,
+        form.height,
+        effect.takes,
+        exit.leaves,
+    );
     let change = may_change(openings, exit.change, form.open);
     within && low && change
 }
@@ -241,7 +246,13 @@ pub(crate) fn holds(body: &Body, openings: &Openings, at: usize, form: Form, ins
 }
 
 /// Whether paths go on behind an instruction, by what is known of its place.
-pub(crate) fn goes_on(body: &Body, openings: &Openings, at: usize, known: Seen, instr: Instr) -> bool
+pub(crate) fn goes_on(
+    body: &Body,
+    openings: &Openings,
+    at: usize,
+    known: Seen,
+    instr: Instr,
+) -> bool
     requires inside { at < length body.now.instrs }
     requires known_in { IsIn openings.now known }
     requires small { at + 1 < 2 ^ 64 }

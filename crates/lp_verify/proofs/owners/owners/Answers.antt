@@ -1,4 +1,4 @@
-use Rattle.std.proofs.Common.{◌≡◌, ℕ, ◌+◌, rules, sym, subst, List, arith}
+use Rattle.std.proofs.Common.{ℕ, ◌+◌, sym, subst, List, arith}
 use Rattle.lp_verify.proofs.Marking.{Spreads, spreads_first, spreads_more, spreads_all}
 use Rattle.lp_verify.proofs.owners.owners.Goals as goal
 

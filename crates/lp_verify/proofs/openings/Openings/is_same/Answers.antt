@@ -1,4 +1,3 @@
-use Rattle.std.proofs.Common.{ap}
 use Rattle.lp_verify.specs.Openings.{list_at}
 use Rattle.lp_verify.proofs.Opened.{same_number, same_numbers}
 use Rattle.lp_verify.proofs.openings.Openings.is_same.Goals as goal
