@@ -1,6 +1,6 @@
 -- The list of kept versions has just the kept ones.
-use Rattle.std.proofs.Common.{◌≡◌, ◌⊎◌, inl, inr, ℕ, zero, suc, ◌+◌, ◌<◌, ◌≤◌, Bool, true, false, cond, List, [], ◌∷◌, ◌++◌, length, Option, Some, None, refl, sym, ap, ◌∙◌, subst, arith, nat_eq, map, unwrap_or}
-use Rattle.std.specs.Prelude.{Contains, slice_get, slice_index_or, filter, ◌||◌, ◌&&◌}
+use Rattle.std.proofs.Common.{◌≡◌, ◌⊎◌, inl, inr, ℕ, zero, suc, ◌<◌, Bool, true, false, cond, List, [], ◌∷◌, ◌++◌, length, Some, refl, sym, ap, ◌∙◌, subst, arith, nat_eq, map, unwrap_or}
+use Rattle.std.specs.Prelude.{Contains, slice_get, slice_index_or, filter, ◌||◌}
 use Rattle.std.proofs.Math.Bool.{or-true}
 use Rattle.std.specs.List.{list_any}
 use Rattle.std.proofs.lemmas.Bool.{eqb-true, eq-eqb, cases_eq}
@@ -148,6 +148,7 @@ module _ (w : World) where
   kept_there o q (by_child v p k c) = parents_too o.lower (length w.versions) (map (λ x. x.version) (filter (λ x. x.is_live) w.objects)) v p c (kept_there o v k)
 
 pub list_has_the_kept : ListHasTheKept
-list_has_the_kept w o v =
-    (λ h. kept_sound w (length w.versions) (map (λ x. x.version) (filter (λ x. x.is_live) w.objects)) (live_versions w w.objects (λ x n e l. by_object n x e l)) v (in_list (kept_versions w) v h),
-    λ k. of_list (kept_versions w) v (kept_there w o v k))
+list_has_the_kept w o v = (
+  λ h. kept_sound w (length w.versions) (map (λ x. x.version) (filter (λ x. x.is_live) w.objects)) (live_versions w w.objects (λ x n e l. by_object n x e l)) v (in_list (kept_versions w) v h),
+  λ k. of_list (kept_versions w) v (kept_there w o v k),
+)
