@@ -1,5 +1,6 @@
 -- What operators, places, literals, loops over items and scans do to the state. Trees and instructions share these.
-use Rattle.std.specs.Prelude.{ℕ, ℤ, ◌+◌, ◌+ℤ◌, ◌-ℤ◌, pos, List, [], ◌∷◌, map, length, Bool, true, false, ◌&&◌, not, Option, Some, None, is_some, unwrap_or, slice_get, slice_set, nat_eq, nat_lt, if◌then◌else◌, codes, int_le}
+use Rattle.lp_values.specs.Limits.{max_items}
+use Rattle.std.specs.Prelude.{ℕ, ℤ, ◌+◌, ◌+ℤ◌, ◌-ℤ◌, pos, List, [], ◌∷◌, map, length, Bool, true, false, ◌&&◌, not, Option, Some, None, is_some, unwrap_or, slice_get, slice_set, nat_eq, nat_lt, if◌then◌else◌, codes, int_le, nat_le}
 use Rattle.std.specs.List.{fold}
 use Rattle.std.specs.Cmp.Lexicographic.{pointwise}
 use Rattle.lp_tree.specs.declared.operator.BinOp.{BinOp}
@@ -135,12 +136,12 @@ unfoldable pub new_mapping : List Value → State → End Value
 new_mapping vs s = literal (total_size s vs) (within (mapping (pairs_of (paired s vs)))) s
 
 -- Writing to an index costs 1. An item of an array is written at a place that is there; a key of a mapping gets the
--- value, unless the key is new and 10000 pairs are there.
+-- value, unless the key is new and as many pairs are there as may be.
 abbrev pub is_in : ℤ → ℕ → Bool
 is_in i n = int_le (pos 0) i && nat_lt (from_zero i) n
 
 abbrev pub is_full_for : State → List (Value × Value) → Value → Bool
-is_full_for s ps k = not (is_some (value_at_key (living s) ps k)) && nat_lt 9999 (length (pairs_there (living s) ps))
+is_full_for s ps k = not (is_some (value_at_key (living s) ps k)) && nat_le max_items (length (pairs_there (living s) ps))
 
 abbrev pub put_item_at : CellId → ℤ → List Value → Value → State → End Value
 put_item_at c i vs v s = if is_in i (length vs) then Gives v (with_store s (item_set (cells_of s) c (from_zero i) v)) else fails (plain BadIndex) s
