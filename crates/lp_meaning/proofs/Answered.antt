@@ -2,10 +2,9 @@
 use Rattle.std.proofs.Common.{◌≡◌, ℕ, zero, suc, ◌<◌, [], ◌∷◌, Option, Some, None, refl, arith}
 use Rattle.lp_language.specs.Course.{State, End, Asked, Internal, Parent, OfEfun, Apply, Other, Initialise, Command, Load, Read, Check, Ask, Reply, Outcome, CanAnswer, Course, Over, Asks, outcome_of, Answers, ends, asks_one, stated, meant, told}
 use Rattle.lp_meaning.specs.Askers.{state_of}
-use Rattle.lp_meaning.specs.SaveText.{save_form}
-use Rattle.lp_meaning.specs.Questions.{meaning_of}
+use Rattle.lp_meaning.specs.Questions.{means, meaning_of}
 use Rattle.lp_meaning.specs.FrontEnd.{FrontEnd, read_reply, check_reply, Tells, IsTold, unchanged}
-use Rattle.lp_meaning.specs.Closing.{means, Has, Ends}
+use Rattle.lp_meaning.specs.Closing.{Has, Ends}
 use Rattle.lp_meaning.specs.NothingLost.{level, StaysBelow, EveryQuestionIsAnswered}
 use Rattle.lp_meaning.proofs.Unique.{some_none}
 use Rattle.lp_meaning.proofs.Kept.{nothing_is_lost, outcomes_can_be}
@@ -14,7 +13,7 @@ no_course : {A : Type 0} {c : Course Reply} → Some c ≡ None → A
 no_course p = absurd (some_none p)
 
 -- a question that means no course is told
-tells : (front : FrontEnd) (a : Ask) (q : Asked) → meaning_of save_form a q ≡ None → (r : Reply) × Tells front a q r
+tells : (front : FrontEnd) (a : Ask) (q : Asked) → meaning_of a q ≡ None → (r : Reply) × Tells front a q r
 tells front a (Internal name) e = no_course e
 tells front a (Parent inherit name) e = no_course e
 tells front a (OfEfun efun) e = no_course e

@@ -9,7 +9,8 @@ use Rattle.lp_language.specs.Course.{End, Gives, Stops, Asked, Internal, Parent,
 use Rattle.lp_meaning.specs.EventTurns.{Start, Begins, NoMaster, starting, at_rest}
 use Rattle.lp_meaning.specs.Ticks.{turn}
 use Rattle.lp_meaning.specs.FrontEnd.{FrontEnd, Tells, IsTold, unchanged, read_reply, check_reply}
-use Rattle.lp_meaning.specs.Closing.{means, Has, Ends, RunsFrom, over, then, Run}
+use Rattle.lp_meaning.specs.Questions.{means}
+use Rattle.lp_meaning.specs.Closing.{Has, Ends, RunsFrom, over, then, Run}
 use Rattle.lp_meaning.specs.Computing.{rules, follow, told_of, answer, Passed, passed, passing, Shown, Outputs, Refused, started, computed, ComputedIsMeant}
 use Rattle.lp_meaning.proofs.Unique.{some_one, some_none}
 use Rattle.lp_meaning.proofs.Lists.{from_list}

@@ -18,10 +18,8 @@ use Rattle.lp_meaning.specs.ComputingEfuns.{computes}
 use Rattle.lp_meaning.specs.WorldEfuns.{Deed, Yields, Throws, deed}
 use Rattle.lp_meaning.specs.CallingEfuns.{calls}
 use Rattle.lp_meaning.specs.FileEfuns.{files}
-use Rattle.lp_meaning.specs.SaveText.{save_form}
-use Rattle.lp_meaning.specs.Questions.{Group, Computes, OfWorld, Calls, OfFiles, group, deed_end, value_end, acting, kinds_looked_at, efun_in, efun_call, meaning_of}
+use Rattle.lp_meaning.specs.Questions.{Group, Computes, OfWorld, Calls, OfFiles, group, deed_end, value_end, acting, kinds_looked_at, efun_in, efun_call, meaning_of, means}
 use Rattle.lp_meaning.specs.FrontEnd.{FrontEnd, IsTold, unchanged}
-use Rattle.lp_meaning.specs.Closing.{means}
 use Rattle.lp_meaning.specs.NothingLost.{is_command, level, StaysBelow, NothingIsLost, OutcomesCanBe}
 use Rattle.lp_meaning.proofs.Stays.{stays_from, then_stays, paid_stays, either_stays, plainly_stays}
 use Rattle.lp_meaning.proofs.StayCalls.{internal_stays, parent_stays, other_stays, apply_stays, initialise_stays}
@@ -40,38 +38,38 @@ value_end_after : (r : State) (e : Efun) (v : Value) (s : State) → After r s �
 value_end_after r e v s h = pay_after r (price_after e (size_of (seen s v))) s (Gives v) h (λ t l. l)
 
 module _ (n : ℕ) (r : State) (low : 2 * r.budget + 1 < n) where
-  acting_stays : (g : Group) (e : Efun) (by : Asker) (c : Scene) (vs : List Value) (xs : List Opened) (s : State) → After r s → StaysBelow n r (acting save_form g e by c vs xs s)
+  acting_stays : (g : Group) (e : Efun) (by : Asker) (c : Scene) (vs : List Value) (xs : List Opened) (s : State) → After r s → StaysBelow n r (acting g e by c vs xs s)
   acting_stays Computes e by c vs xs s h = deed_end_after r e (Yields (computes e s vs xs) s) s h h
   acting_stays OfWorld e by c vs xs s h = deed_end_after r e (deed e c s vs xs) s (deed_after r e c s vs xs h) h
   acting_stays Calls e by c vs xs s h =
       then_stays n r (calls e by c s vs xs) (λ v s. Over (value_end e v s)) (calls_stay n r (omega (arith, low)) low e by c s vs xs h) (λ v s h. value_end_after r e v s h)
   acting_stays OfFiles e by c vs xs s h =
-      then_stays n r (files save_form e by c s xs) (λ v s. Over (value_end e v s)) (files_stay n r (omega (arith, low)) e by c s xs h) (λ v s h. value_end_after r e v s h)
+      then_stays n r (files e by c s xs) (λ v s. Over (value_end e v s)) (files_stay n r (omega (arith, low)) e by c s xs h) (λ v s h. value_end_after r e v s h)
 
-  kinds_stay : (e : Efun) (by : Asker) (c : Scene) (vs : List Value) (o : Option ℕ) (s : State) → After r s → StaysBelow n r (kinds_looked_at save_form e by c vs o s)
+  kinds_stay : (e : Efun) (by : Asker) (c : Scene) (vs : List Value) (o : Option ℕ) (s : State) → After r s → StaysBelow n r (kinds_looked_at e by c vs o s)
   kinds_stay e by c vs (Some k) s h = h
   kinds_stay e by c vs None s h = acting_stays (group e) e by c vs (opened_args s vs) s h
 
-efun_in_stays : (n : ℕ) (e : Efun) (by : Asker) (c : Scene) (vs : List Value) (s : State) → 2 * s.budget ≤ n → StaysBelow n s (efun_in save_form e by c vs s)
+efun_in_stays : (n : ℕ) (e : Efun) (by : Asker) (c : Scene) (vs : List Value) (s : State) → 2 * s.budget ≤ n → StaysBelow n s (efun_in e by c vs s)
 efun_in_stays n e by c vs s low =
     let price = price_before e vs s in
     let bad = first_bad 1 (kinds e) (opened_args s vs) in
-    paid_stays n s price s (λ s. kinds_looked_at save_form e by c vs bad s) (after_same s) (λ enough l.
+    paid_stays n s price s (λ s. kinds_looked_at e by c vs bad s) (after_same s) (λ enough l.
     let t : State = record s { budget = s.budget - price } in
-    stays_from n s t (kinds_looked_at save_form e by c vs bad t) l (kinds_stay n t (omega (arith, low, enough)) e by c vs bad t (after_same t)))
+    stays_from n s t (kinds_looked_at e by c vs bad t) l (kinds_stay n t (omega (arith, low, enough)) e by c vs bad t (after_same t)))
 
-efun_call_stays : (n : ℕ) (a : Ask) (e : Efun) → 2 * a.budget ≤ n → StaysBelow n (state_of a) (efun_call save_form a e)
+efun_call_stays : (n : ℕ) (a : Ask) (e : Efun) → 2 * a.budget ≤ n → StaysBelow n (state_of a) (efun_call a e)
 efun_call_stays n a e low =
-    either_stays n (state_of a) a.scene (λ c. plainly (efun_in save_form e (asker_of a) c a.arguments (state_of a))) (nothing_called a)
-    (λ c. plainly_stays n (state_of a) (efun_in save_form e (asker_of a) c a.arguments (state_of a)) (efun_in_stays n e (asker_of a) c a.arguments (state_of a) low)) (after_same (state_of a))
+    either_stays n (state_of a) a.scene (λ c. plainly (efun_in e (asker_of a) c a.arguments (state_of a))) (nothing_called a)
+    (λ c. plainly_stays n (state_of a) (efun_in e (asker_of a) c a.arguments (state_of a)) (efun_in_stays n e (asker_of a) c a.arguments (state_of a) low)) (after_same (state_of a))
 
 course_is : (n : ℕ) (a : Ask) (c d : Course Reply) → Some c ≡ Some d → StaysBelow n (state_of a) c → StaysBelow n (state_of a) d
 course_is n a c d e h = subst (λ x. StaysBelow n (state_of a) x) (some_one e) h
 
-question_stays : (n : ℕ) (a : Ask) (q : Asked) (c : Course Reply) → 2 * a.budget + is_command q ≤ n → meaning_of save_form a q ≡ Some c → StaysBelow n (state_of a) c
+question_stays : (n : ℕ) (a : Ask) (q : Asked) (c : Course Reply) → 2 * a.budget + is_command q ≤ n → meaning_of a q ≡ Some c → StaysBelow n (state_of a) c
 question_stays n a (Internal name) c low e = course_is n a (internal_call a name) c e (internal_stays n a (omega (arith, low)) name)
 question_stays n a (Parent inherit name) c low e = course_is n a (parent_call a inherit name) c e (parent_stays n a (omega (arith, low)) inherit name)
-question_stays n a (OfEfun efun) c low e = course_is n a (efun_call save_form a efun) c e (efun_call_stays n a efun (omega (arith, low)))
+question_stays n a (OfEfun efun) c low e = course_is n a (efun_call a efun) c e (efun_call_stays n a efun (omega (arith, low)))
 question_stays n a (Apply o name) c low e = course_is n a (apply_call a o name) c e (apply_stays n a (omega (arith, low)) o name)
 question_stays n a (Other o name) c low e = course_is n a (other_call a o name) c e (other_stays n a (omega (arith, low)) o name)
 question_stays n a (Initialise o part) c low e = course_is n a (initialise_call a o part) c e (initialise_stays n a (omega (arith, low)) o part)

@@ -2,7 +2,7 @@
 use Rattle.std.proofs.Common.{◌≡◌, List, [], ◌∷◌, Option, refl, sym, ap, ◌∙◌, subst}
 use Rattle.lp_language.specs.Course.{Ask, Outcome, Reply, Entry, Course, Over, Asks, End, CanAnswer, Fits, outcome_of, Answers, ends, asks_one, stated, Called, meant, told, AreCalled}
 use Rattle.lp_meaning.specs.FrontEnd.{IsTold}
-use Rattle.lp_meaning.specs.Closing.{means}
+use Rattle.lp_meaning.specs.Questions.{means}
 use Rattle.lp_meaning.specs.ClosingLaws.{ListIsClosing}
 
 module _ (meaning : Ask → Option (Course Reply)) (Stated : Ask → Outcome → Type 0) where

@@ -33,8 +33,8 @@ use Rattle.lp_meaning.specs.NothingLost.{StaysBelow}
 use Rattle.lp_meaning.proofs.Worlds.{keeps_these, keeps_object}
 use Rattle.lp_meaning.proofs.Stays.{after_world, then_stays, cond_stays}
 use Rattle.lp_meaning.proofs.StayLoads.{master_stays}
-use Rattle.lp_meaning.specs.FileEfuns.{is_path, path_answered, this_value, with_leave, bytes_of, read_value, size_value, or_empty, written_to, without_file, removed, named_value, saved_of, Restored, Values, FaultyLine, SaveForm, saved_bytes, saving, with_values, with_variables, restored, restoring_from, restoring, with_o, files}
-use Rattle.lp_meaning.specs.SaveText.{Rest, Reading, then_read, left, begins, needed, digits_at, is_number, number_read, int_of, int_read, text_read, as_text, next_cell, cell_begun, array_done, mapping_done, shared_cell, value_of_cell, value_read, cell_read, items_read, pairs_read, whole, Line, named, line_of, line_read, Lines, Read, Faulty, lines_read, is_header, is_variable_name, all_lines, restored_from, restored_text, save_form}
+use Rattle.lp_meaning.specs.FileEfuns.{is_path, path_answered, this_value, with_leave, bytes_of, read_value, size_value, or_empty, written_to, without_file, removed, named_value, saved_of, saved_bytes, saving, with_values, with_variables, restored, restoring_from, restoring, with_o, files}
+use Rattle.lp_meaning.specs.SaveText.{Rest, Reading, then_read, left, begins, needed, digits_at, is_number, number_read, int_of, int_read, text_read, as_text, next_cell, cell_begun, array_done, mapping_done, shared_cell, value_of_cell, value_read, cell_read, items_read, pairs_read, whole, Line, named, line_of, line_read, Lines, Read, Faulty, lines_read, is_header, is_variable_name, all_lines, restored_from, Restored, Values, FaultyLine, saved_text, restored_text}
 
 -- cells that grew: those that were there are there, each of its kind
 record Grows (old new : Store) : Type 0 where
@@ -270,9 +270,9 @@ module _ (n : ℕ) (r : State) (low : 2 * r.budget + 0 < n) where
   bytes_stay path (Some bytes) s h =
       let w : World = with_file s.world path bytes in after_world r s (with_world s w) h refl refl (keeps_these s.world w refl refl refl)
 
-  saving_stays : (form : SaveForm) (c : Scene) (p : Option (List ℕ)) (s : State) → After r s → StaysBelow n r (saving form c p s)
-  saving_stays form c None s h = h
-  saving_stays form c (Some path) s h = bytes_stay path (form.spelled (living s) (cells_of s) (map (named_value (object_at s.world c.this).variables) (saved_of s.world c.this))) s h
+  saving_stays : (c : Scene) (p : Option (List ℕ)) (s : State) → After r s → StaysBelow n r (saving c p s)
+  saving_stays c None s h = h
+  saving_stays c (Some path) s h = bytes_stay path (saved_text (living s) (cells_of s) (map (named_value (object_at s.world c.this).variables) (saved_of s.world c.this))) s h
 
   restored_stays : (c : Scene) (path : List ℕ) (x : Restored) (s : State) → RestoredGrew (cells_of s) x → After r s → StaysBelow n r (restored c path x s)
   restored_stays c path (FaultyLine k) s g h = h
@@ -283,16 +283,16 @@ module _ (n : ℕ) (r : State) (low : 2 * r.budget + 0 < n) where
       let w2 : World = with_object w1 c.this (with_variables x vs) in
       after_world r s (with_world s w2) h refl refl (keeps_trans s.world w1 w2 (keeps_cells s.world cells (there_by_kinds (cells_of s) cells g.kinds) g.longer) (keeps_object w1 c.this (with_variables x vs) (object_same x vs)))
 
-  from_stays : (c : Scene) (path : List ℕ) (o : Option (List ℕ)) (s : State) → After r s → StaysBelow n r (restoring_from save_form c path o s)
+  from_stays : (c : Scene) (path : List ℕ) (o : Option (List ℕ)) (s : State) → After r s → StaysBelow n r (restoring_from c path o s)
   from_stays c path None s h = h
   from_stays c path (Some bytes) s h =
       restored_stays c path (restored_text (map (λ x. x.name) (saved_of s.world c.this)) bytes (cells_of s)) s (restored_grew (map (λ x. x.name) (saved_of s.world c.this)) bytes (cells_of s)) h
 
-  restoring_stays : (c : Scene) (p : Option (List ℕ)) (s : State) → After r s → StaysBelow n r (restoring save_form c p s)
+  restoring_stays : (c : Scene) (p : Option (List ℕ)) (s : State) → After r s → StaysBelow n r (restoring c p s)
   restoring_stays c None s h = h
   restoring_stays c (Some path) s h = from_stays c path (file_at s.world.files path) s h
 
-  pub files_stay : (e : Efun) (by : Asker) (c : Scene) (s : State) (xs : List Opened) → After r s → StaysBelow n r (files save_form e by c s xs)
+  pub files_stay : (e : Efun) (by : Asker) (c : Scene) (s : State) (xs : List Opened) → After r s → StaysBelow n r (files e by c s xs)
   unfolding files
   files_stay efuns.ThisObject by c s xs h = h
   files_stay efuns.ThisPlayer by c s xs h = h
@@ -375,5 +375,5 @@ module _ (n : ℕ) (r : State) (low : 2 * r.budget + 0 < n) where
   files_stay efuns.WriteFile by c s xs h = leave_stays by c (codes "valid_write") efuns.WriteFile (text_arg xs 0) s (λ p s. written_to p (text_arg xs 1) s) h (λ p s h. written_stays p (text_arg xs 1) s h)
   files_stay efuns.FileSize by c s xs h = leave_stays by c (codes "valid_read") efuns.FileSize (text_arg xs 0) s (λ p s. gives (size_value (bytes_of s.world p)) s) h (λ p s h. h)
   files_stay efuns.Rm by c s xs h = leave_stays by c (codes "valid_write") efuns.Rm (text_arg xs 0) s removed h removed_stays
-  files_stay efuns.SaveObject by c s xs h = leave_stays by c (codes "valid_write") efuns.SaveObject (with_o (text_arg xs 0)) s (saving save_form c) h (saving_stays save_form c)
-  files_stay efuns.RestoreObject by c s xs h = leave_stays by c (codes "valid_read") efuns.RestoreObject (with_o (text_arg xs 0)) s (restoring save_form c) h (restoring_stays c)
+  files_stay efuns.SaveObject by c s xs h = leave_stays by c (codes "valid_write") efuns.SaveObject (with_o (text_arg xs 0)) s (saving c) h (saving_stays c)
+  files_stay efuns.RestoreObject by c s xs h = leave_stays by c (codes "valid_read") efuns.RestoreObject (with_o (text_arg xs 0)) s (restoring c) h (restoring_stays c)

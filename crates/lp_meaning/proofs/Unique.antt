@@ -8,7 +8,8 @@ use Rattle.lp_language.specs.Course.{State, End, Gives, Stops, Asked, Internal, 
 use Rattle.lp_language.specs.World.{new_world}
 use Rattle.lp_meaning.specs.EventTurns.{Begins, starting, at_rest}
 use Rattle.lp_meaning.specs.FrontEnd.{FrontEnd, unchanged, Tells, IsTold}
-use Rattle.lp_meaning.specs.Closing.{means, Has, Ends, Starts, RunsFrom, over, then}
+use Rattle.lp_meaning.specs.Questions.{means}
+use Rattle.lp_meaning.specs.Closing.{Has, Ends, Starts, RunsFrom, over, then}
 use Rattle.lp_meaning.specs.ClosingLaws.{OneOutcome, OneTurn, OneRun}
 
 pub some_one : {A : Type 0} {x y : A} → Some x ≡ Some y → x ≡ y

@@ -1,19 +1,14 @@
 -- The closing: what each question answers; and start, turns and runs.
-use Rattle.std.specs.Prelude.{◌≡◌, ℕ, List, [], ◌∷◌, Option}
+use Rattle.std.specs.Prelude.{◌≡◌, ℕ, List, [], ◌∷◌}
 use Rattle.lp_tree.specs.declared.fault.Fault.{Fault}
 use Rattle.lp_events.specs.declared.event.Event.{Event}
 use Rattle.lp_events.specs.declared.out.Out.{Out}
 use Rattle.lp_language.specs.World.{File, World, new_world}
-use Rattle.lp_language.specs.Course.{State, End, Gives, Ask, Reply, Outcome, Course, Entry, Fits, Called, AreCalled}
+use Rattle.lp_language.specs.Course.{State, End, Gives, Ask, Outcome, Course, Entry, Fits, Called, AreCalled}
 use Rattle.lp_meaning.specs.FrontEnd.{FrontEnd, IsTold}
-use Rattle.lp_meaning.specs.SaveText.{save_form}
-use Rattle.lp_meaning.specs.Questions.{meaning}
+use Rattle.lp_meaning.specs.Questions.{means}
 use Rattle.lp_meaning.specs.EventTurns.{Begins, NoMaster, starting, at_rest}
 use Rattle.lp_meaning.specs.Ticks.{turn}
-
--- the meaning of a question, with the format of saved texts
-abbrev pub means : Ask → Option (Course Reply)
-means a = meaning save_form a
 
 -- THE MEANING: the outcome of a question is that of its course, in which each question has its outcome, or the one that is stated.
 abbrev pub Has : FrontEnd → Ask → Outcome → Type 0

@@ -6,7 +6,8 @@ use Rattle.lp_events.specs.declared.out.Out.{Out}
 use Rattle.lp_language.specs.World.{File, World}
 use Rattle.lp_language.specs.Course.{End, Ask, Outcome, Reply, Course, Answers}
 use Rattle.lp_meaning.specs.FrontEnd.{FrontEnd, IsTold}
-use Rattle.lp_meaning.specs.Closing.{means, Has, Ends, Turns, Run}
+use Rattle.lp_meaning.specs.Questions.{means}
+use Rattle.lp_meaning.specs.Closing.{Has, Ends, Turns, Run}
 
 -- a question has one outcome
 abbrev pub OneOutcome : Type 0

@@ -9,7 +9,8 @@ use Rattle.lp_language.specs.Course.{State, End, Gives, Stops, Asked, Internal, 
 use Rattle.lp_meaning.specs.EventTurns.{Start, Begins, NoMaster, starting, at_rest}
 use Rattle.lp_meaning.specs.Ticks.{turn}
 use Rattle.lp_meaning.specs.FrontEnd.{FrontEnd, read_reply, check_reply, unchanged}
-use Rattle.lp_meaning.specs.Closing.{means, Run}
+use Rattle.lp_meaning.specs.Questions.{means}
+use Rattle.lp_meaning.specs.Closing.{Run}
 
 -- what questions mean, and what each event does
 pub record Rules : Type 0 where

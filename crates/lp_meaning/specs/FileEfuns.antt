@@ -1,4 +1,5 @@
 -- Efuns on files, with the leave of the master, and saving and restoring.
+use Rattle.lp_meaning.specs.SaveText.{Restored, Values, FaultyLine, saved_text, restored_text}
 use Rattle.lp_values.specs.Limits.{max_code_points}
 use Rattle.std.specs.Prelude.{ℕ, suc, List, [], ◌∷◌, ◌++◌, length, drop, map, Bool, not, ◌&&◌, Option, Some, None, is_some, nat_eq, nat_le, nat_lt, pos, negsuc, chars, codes, encode_utf8_all, slice_get, slice_index, slice_set, unwrap_or, if◌then◌else◌}
 use Rattle.std.specs.List.{list_all}
@@ -9,7 +10,6 @@ use Rattle.lp_values.specs.declared.value.Value.{Value}
 use Rattle.lp_values.specs.declared.value.Value.TheVariants.{Int, Str}
 use Rattle.lp_values.specs.declared.error.ErrorKind.TheVariants.{TooNested}
 use Rattle.lp_values.specs.Errors.{bad_save, plain}
-use Rattle.lp_cells.specs.Cells.{Store}
 use Rattle.lp_events.specs.Script.{is_part_byte}
 use Rattle.lp_text.specs.Pieces.{pieces}
 use Rattle.lp_ops.specs.Operands.{Opened, Number, Chars}
@@ -136,27 +136,16 @@ value_at vs n = unwrap_or (slice_get vs n) zero_value
 abbrev pub named_value : List Value → Saved → List ℕ × Value
 named_value vs x = (x.name, value_at vs x.place)
 
--- what reading a saved text gives: a value or nothing for each name, and the cells with the new ones; or the number of its first faulty line
-pub data Restored : Type 0 where
-  Values : List (Option Value) → Store → Restored
-  FaultyLine : ℕ → Restored
-
--- How values are spelled as a saved text, unless they are nested too deep, and how such a text is read for names. That is a format of
--- its own, which stands elsewhere.
-pub record SaveForm : Type 0 where
-  pub spelled : (ObjId → Bool) → Store → List (List ℕ × Value) → Option (List ℕ)
-  pub read : List (List ℕ) → List ℕ → Store → Restored
-
 -- the text that was spelled becomes the bytes of the file; values that are nested too deep are an error, and nothing is written
 abbrev pub saved_bytes : List ℕ → Option (List ℕ) → State → Course Value
 saved_bytes path None s = stops (Failed (plain TooNested)) s
 saved_bytes path (Some bytes) s = gives zero_value (with_world s (with_file s.world path bytes))
 
 -- the variables of this object that are saved become the file's text
-abbrev pub saving : SaveForm → Scene → Option (List ℕ) → State → Course Value
-saving form c None s = gives (Int (pos 1)) s
-saving form c (Some path) s =
-    saved_bytes path (form.spelled (living s) (cells_of s) (map (named_value (object_at s.world c.this).variables) (saved_of s.world c.this))) s
+abbrev pub saving : Scene → Option (List ℕ) → State → Course Value
+saving c None s = gives (Int (pos 1)) s
+saving c (Some path) s =
+    saved_bytes path (saved_text (living s) (cells_of s) (map (named_value (object_at s.world c.this).variables) (saved_of s.world c.this))) s
 
 -- the variables with the values that were read; a variable without a line keeps its value
 abbrev pub with_values : List Value → List Saved → List (Option Value) → List Value
@@ -178,25 +167,25 @@ restored c path (Values given cells) s =
     gives (Int (pos 1)) (with_world t (with_object t.world c.this (with_variables x (with_values x.variables (saved_of s.world c.this) given))))
 
 -- a file that is not there restores nothing
-abbrev pub restoring_from : SaveForm → Scene → List ℕ → Option (List ℕ) → State → Course Value
-restoring_from form c path None s = gives zero_value s
-restoring_from form c path (Some bytes) s = restored c path (form.read (map (λ x. x.name) (saved_of s.world c.this)) bytes (cells_of s)) s
+abbrev pub restoring_from : Scene → List ℕ → Option (List ℕ) → State → Course Value
+restoring_from c path None s = gives zero_value s
+restoring_from c path (Some bytes) s = restored c path (restored_text (map (λ x. x.name) (saved_of s.world c.this)) bytes (cells_of s)) s
 
 -- nor does one that is refused
-abbrev pub restoring : SaveForm → Scene → Option (List ℕ) → State → Course Value
-restoring form c None s = gives zero_value s
-restoring form c (Some path) s = restoring_from form c path (file_at s.world.files path) s
+abbrev pub restoring : Scene → Option (List ℕ) → State → Course Value
+restoring c None s = gives zero_value s
+restoring c (Some path) s = restoring_from c path (file_at s.world.files path) s
 
--- What an efun of this group does.
+-- the path at which an object is saved
 abbrev pub with_o : List ℕ → List ℕ
 with_o path = path ++ codes ".o"
 
--- the efuns on files
-unfoldable pub files : SaveForm → Efun → Asker → Scene → State → List Opened → Course Value
-files form efuns.ReadFile by c s xs = may_read by c efuns.ReadFile (text_arg xs 0) s (λ p s. gives (read_value (bytes_of s.world p)) s)
-files form efuns.FileSize by c s xs = may_read by c efuns.FileSize (text_arg xs 0) s (λ p s. gives (size_value (bytes_of s.world p)) s)
-files form efuns.WriteFile by c s xs = may_write by c efuns.WriteFile (text_arg xs 0) s (λ p s. written_to p (text_arg xs 1) s)
-files form efuns.Rm by c s xs = may_write by c efuns.Rm (text_arg xs 0) s removed
-files form efuns.SaveObject by c s xs = may_write by c efuns.SaveObject (with_o (text_arg xs 0)) s (saving form c)
-files form efuns.RestoreObject by c s xs = may_read by c efuns.RestoreObject (with_o (text_arg xs 0)) s (restoring form c)
-files form _ by c s xs = gives zero_value s
+-- What an efun of this group does.
+unfoldable pub files : Efun → Asker → Scene → State → List Opened → Course Value
+files efuns.ReadFile by c s xs = may_read by c efuns.ReadFile (text_arg xs 0) s (λ p s. gives (read_value (bytes_of s.world p)) s)
+files efuns.FileSize by c s xs = may_read by c efuns.FileSize (text_arg xs 0) s (λ p s. gives (size_value (bytes_of s.world p)) s)
+files efuns.WriteFile by c s xs = may_write by c efuns.WriteFile (text_arg xs 0) s (λ p s. written_to p (text_arg xs 1) s)
+files efuns.Rm by c s xs = may_write by c efuns.Rm (text_arg xs 0) s removed
+files efuns.SaveObject by c s xs = may_write by c efuns.SaveObject (with_o (text_arg xs 0)) s (saving c)
+files efuns.RestoreObject by c s xs = may_read by c efuns.RestoreObject (with_o (text_arg xs 0)) s (restoring c)
+files _ by c s xs = gives zero_value s

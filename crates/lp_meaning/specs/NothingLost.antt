@@ -8,7 +8,8 @@ use Rattle.lp_language.specs.Course.{State, Asked, Command, Ask, Reply, Outcome,
 use Rattle.lp_language.specs.Afterwards.{EndsAfter}
 use Rattle.lp_meaning.specs.Askers.{state_of}
 use Rattle.lp_meaning.specs.FrontEnd.{FrontEnd}
-use Rattle.lp_meaning.specs.Closing.{means, Has, Turns, MakesNoMaster, Run}
+use Rattle.lp_meaning.specs.Questions.{means}
+use Rattle.lp_meaning.specs.Closing.{Has, Turns, MakesNoMaster, Run}
 
 -- How much a question may lead to: twice its budget, and one more for a command, which pays nothing before it asks.
 abbrev pub is_command : Asked → ℕ

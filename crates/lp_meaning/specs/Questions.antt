@@ -18,7 +18,7 @@ use Rattle.lp_meaning.specs.EfunArguments.{first_bad, price_before, price_after,
 use Rattle.lp_meaning.specs.ComputingEfuns.{computes}
 use Rattle.lp_meaning.specs.WorldEfuns.{Deed, Yields, Throws, deed}
 use Rattle.lp_meaning.specs.CallingEfuns.{calls}
-use Rattle.lp_meaning.specs.FileEfuns.{SaveForm, files}
+use Rattle.lp_meaning.specs.FileEfuns.{files}
 
 -- the group of an efun: it computes; it looks at the world or changes it; it may call LPC; it is on files
 pub data Group : Type 0 where
@@ -85,39 +85,39 @@ abbrev pub value_end : Efun → Value → State → End Value
 value_end e v s = pay (price_after e (size_of (seen s v))) s (Gives v)
 
 -- an efun whose arguments are of its kinds acts
-abbrev pub acting : SaveForm → Group → Efun → Asker → Scene → List Value → List Opened → State → Course Value
-acting form Computes e by c vs xs s = Over (deed_end e (Yields (computes e s vs xs) s) s)
-acting form OfWorld e by c vs xs s = Over (deed_end e (deed e c s vs xs) s)
-acting form Calls e by c vs xs s = and_then (calls e by c s vs xs) (λ v s. Over (value_end e v s))
-acting form OfFiles e by c vs xs s = and_then (files form e by c s xs) (λ v s. Over (value_end e v s))
+abbrev pub acting : Group → Efun → Asker → Scene → List Value → List Opened → State → Course Value
+acting Computes e by c vs xs s = Over (deed_end e (Yields (computes e s vs xs) s) s)
+acting OfWorld e by c vs xs s = Over (deed_end e (deed e c s vs xs) s)
+acting Calls e by c vs xs s = and_then (calls e by c s vs xs) (λ v s. Over (value_end e v s))
+acting OfFiles e by c vs xs s = and_then (files e by c s xs) (λ v s. Over (value_end e v s))
 
 -- the first argument of another kind is an error
-abbrev pub kinds_looked_at : SaveForm → Efun → Asker → Scene → List Value → Option ℕ → State → Course Value
-kinds_looked_at form e by c vs (Some n) s = stops (Failed (bad_arg n (efun_name e))) s
-kinds_looked_at form e by c vs None s = acting form (group e) e by c vs (opened_args s vs) s
+abbrev pub kinds_looked_at : Efun → Asker → Scene → List Value → Option ℕ → State → Course Value
+kinds_looked_at e by c vs (Some n) s = stops (Failed (bad_arg n (efun_name e))) s
+kinds_looked_at e by c vs None s = acting (group e) e by c vs (opened_args s vs) s
 
 -- An efun pays, looks at the kinds of its arguments, acts, and pays for its result.
-abbrev pub efun_in : SaveForm → Efun → Asker → Scene → List Value → State → Course Value
-efun_in form e by c vs s =
-    paying (price_before e vs s) s (λ s. kinds_looked_at form e by c vs (first_bad 1 (kinds e) (opened_args s vs)) s)
+abbrev pub efun_in : Efun → Asker → Scene → List Value → State → Course Value
+efun_in e by c vs s =
+    paying (price_before e vs s) s (λ s. kinds_looked_at e by c vs (first_bad 1 (kinds e) (opened_args s vs)) s)
 
 -- an efun is called by a running function
-abbrev pub efun_call : SaveForm → Ask → Efun → Course Reply
-efun_call form a e = elim a.scene [ Some c ↦ plainly (efun_in form e (asker_of a) c a.arguments (state_of a)) | None ↦ nothing_called a ]
+abbrev pub efun_call : Ask → Efun → Course Reply
+efun_call a e = elim a.scene [ Some c ↦ plainly (efun_in e (asker_of a) c a.arguments (state_of a)) | None ↦ nothing_called a ]
 
 -- The meaning of a question as a course. What reading and checking a file gives is stated by itself.
-abbrev pub meaning_of : SaveForm → Ask → Asked → Option (Course Reply)
-meaning_of form a (Internal name) = Some (internal_call a name)
-meaning_of form a (Parent inherit name) = Some (parent_call a inherit name)
-meaning_of form a (OfEfun e) = Some (efun_call form a e)
-meaning_of form a (Apply o name) = Some (apply_call a o name)
-meaning_of form a (Other o name) = Some (other_call a o name)
-meaning_of form a (Initialise o part) = Some (initialise_call a o part)
-meaning_of form a (Command o line) = Some (command_call a o line)
-meaning_of form a (Load name kind) = Some (load_call a name kind)
-meaning_of form a (Read path) = None
-meaning_of form a (Check path items pragmas parents simuls) = None
+abbrev pub meaning_of : Ask → Asked → Option (Course Reply)
+meaning_of a (Internal name) = Some (internal_call a name)
+meaning_of a (Parent inherit name) = Some (parent_call a inherit name)
+meaning_of a (OfEfun e) = Some (efun_call a e)
+meaning_of a (Apply o name) = Some (apply_call a o name)
+meaning_of a (Other o name) = Some (other_call a o name)
+meaning_of a (Initialise o part) = Some (initialise_call a o part)
+meaning_of a (Command o line) = Some (command_call a o line)
+meaning_of a (Load name kind) = Some (load_call a name kind)
+meaning_of a (Read path) = None
+meaning_of a (Check path items pragmas parents simuls) = None
 
 -- the meaning of a question
-abbrev pub meaning : SaveForm → Ask → Option (Course Reply)
-meaning form a = meaning_of form a a.what
+abbrev pub means : Ask → Option (Course Reply)
+means a = meaning_of a a.what

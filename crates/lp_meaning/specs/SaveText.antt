@@ -19,7 +19,6 @@ use Rattle.lp_cells.specs.Mapping.{pairs_there}
 use Rattle.lp_text.specs.Pieces.{pieces}
 use Rattle.lp_text.specs.Scans.{digits_number, signed}
 use Rattle.lp_instr.specs.EfunList.{is_name}
-use Rattle.lp_meaning.specs.FileEfuns.{Restored, Values, FaultyLine, SaveForm}
 
 -- Spelling
 
@@ -355,6 +354,11 @@ abbrev pub given : List (List ℕ) → List (List ℕ) → List Line → List (O
 given before [] ls = []
 given before (n ∷ ns) ls = value_at (slice_get (lines_of n ls) (count_in n before)) ∷ given (before ++ n ∷ []) ns ls
 
+-- what reading a saved text gives: a value or nothing for each name, and the cells with the new ones; or the number of its first faulty line
+pub data Restored : Type 0 where
+  Values : List (Option Value) → Store → Restored
+  FaultyLine : ℕ → Restored
+
 -- what the lines give
 abbrev pub restored_from : List (List ℕ) → Lines → Restored
 restored_from names (Read ls cells) = Values (given [] names ls) cells
@@ -363,7 +367,3 @@ restored_from names (Faulty n) = FaultyLine n
 -- What a saved text gives for names: a value or nothing for each, and the new cells; or its first faulty line.
 unfoldable pub restored_text : List (List ℕ) → List ℕ → Store → Restored
 restored_text names bytes cells = restored_from names (all_lines (pieces (codes "\n") bytes) (record { text = []; shared = []; cells = cells }))
-
--- both
-abbrev pub save_form : SaveForm
-save_form = record { spelled = saved_text; read = restored_text }

@@ -23,7 +23,7 @@ use Rattle.lp_meaning.specs.MovesAndCommands.{moved_world, inits, argument_value
 use Rattle.lp_meaning.specs.EfunArguments.{object_arg, text_arg, opened_args}
 use Rattle.lp_meaning.specs.EventTurns.{begun, call_end, line_text, done}
 use Rattle.lp_meaning.specs.Ticks.{calls_out, turn}
-use Rattle.lp_meaning.specs.Closing.{means}
+use Rattle.lp_meaning.specs.Questions.{means}
 use Rattle.lp_meaning.specs.Computing.{Rules}
 use Rattle.lp_meaning_rows.specs.Rows.{Row, Gives as GivesTranscript, GivesBy}
 use Rattle.lp_meaning_rows.specs.Values.{order}
