@@ -1,0 +1,4 @@
+//! Statements of LPC sources.
+#![tactic(auto)]
+
+pub mod law;
