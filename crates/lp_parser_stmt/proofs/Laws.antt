@@ -8,7 +8,7 @@ use Rattle.lp_tree.specs.Statements.{DeclaratorTree, SpellsDeclarators}
 use Rattle.lp_parser_stmt.specs.Machine.{Names, AtOne, names_step, names_run}
 use Rattle.lp_parser_stmt.specs.Depth.{names_height, names_here}
 use Rattle.lp_parser_stmt.specs.Theorem.{ReadsNames, ReadsBlocks}
-use Rattle.lp_parser_stmt.proofs.Names.{names_read, names_rest, names_spelled}
+use Rattle.lp_parser_stmt.proofs.NamesRead.{names_read, names_rest, names_spelled}
 use Rattle.lp_parser_stmt.proofs.Stmts.{block_read}
 use Rattle.lp_parser_stmt.proofs.Levels.{NamesRise, names-rise, names-whole, step-levels}
 use Rattle.lp_parser_stmt.proofs.Sound.{block_spelled}

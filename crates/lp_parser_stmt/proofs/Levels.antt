@@ -26,7 +26,9 @@ use Rattle.lp_tree.specs.StatementView.{stmt_trees, part_of, part_trees}
 use Rattle.lp_parser_expr.specs.Machine as expr
 use Rattle.lp_parser_expr.specs.Depth as exprs
 use Rattle.lp_parser_expr.proofs.Shallow.{step-grows, finished-height, 0<height, Grows}
-use Rattle.lp_parser_stmt.specs.Machine.{Names, AtOne, AtStars, Named, Valued, with_name, at_one, at_stars, named, valued, value_goes, names_step, names_finished, Optional, Value, First, Test, Step, Role, ToRun, TestIf, TestWhile, TestDo, OverEach, OnSwitch, OneOf, Switching, with_part, Frame, InBlock, InSwitch, IfYes, IfNo, WhileBody, DoBody, ForBody, EachBody, Stack, InFunction, Inside, around, Whose, OfStmt, OfFor, State, Need, Have, Expect, Reading, Maybe, Declaring, NeedEach, EachStars, EachNamed, NeedConst, NeedDigits, HaveInt, NeedTo, NeedToDigits, Over, Class, BraceOpens, BraceCloses, SemicolonEnds, ParenCloses, ExpressionBegins, TypeBegins, WordBegins, class, reads, closes, case_begins, default_begins, leaves, word_begins, class_begins, begin, Held, settle, after_yes, after_body, act, act_held, is_mark, is_else, by_paren, init_of, filled, used, after_mark, after, reading_goes, semicolon_skips, paren_skips, first_declares, maybe, declared, after_names, names_go, need_each, each_stars, over, one_more_each, each_named, need_const, need_digits, have_int, need_to, need_to_digits, step}
+use Rattle.lp_parser_stmt.specs.declared.class.Class.{Class}
+use Rattle.lp_parser_stmt.specs.declared.class.Class.TheVariants.{BraceOpens, BraceCloses, SemicolonEnds, ParenCloses, ExpressionBegins, TypeBegins, WordBegins}
+use Rattle.lp_parser_stmt.specs.Machine.{Names, AtOne, AtStars, Named, Valued, with_name, at_one, at_stars, named, valued, value_goes, names_step, names_finished, Optional, Value, First, Test, Step, Role, ToRun, TestIf, TestWhile, TestDo, OverEach, OnSwitch, OneOf, Switching, with_part, Frame, InBlock, InSwitch, IfYes, IfNo, WhileBody, DoBody, ForBody, EachBody, Stack, InFunction, Inside, around, Whose, OfStmt, OfFor, State, Need, Have, Expect, Reading, Maybe, Declaring, NeedEach, EachStars, EachNamed, NeedConst, NeedDigits, HaveInt, NeedTo, NeedToDigits, Over, class, reads, closes, case_begins, default_begins, leaves, word_begins, class_begins, begin, Held, settle, after_yes, after_body, act, act_held, is_mark, is_else, by_paren, init_of, filled, used, after_mark, after, reading_goes, semicolon_skips, paren_skips, first_declares, maybe, declared, after_names, names_go, need_each, each_stars, over, one_more_each, each_named, need_const, need_digits, have_int, need_to, need_to_digits, step}
 use Rattle.lp_parser_stmt.specs.Depth.{frame_height, depth, past, optional_height, role_height, optional_least, whose_least, names_height, names_here, extra, here, least}
 
 -- lists and their levels

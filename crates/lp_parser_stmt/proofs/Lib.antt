@@ -1,5 +1,5 @@
 pub mod Expressions
-pub mod Names
+pub mod NamesRead
 pub mod Stmts
 pub mod Levels
 pub mod Sound

@@ -29,7 +29,7 @@ use Rattle.lp_parser_expr.specs.Machine as expr
 use Rattle.lp_parser_expr.proofs.Sound.{needs_more, bottom}
 use Rattle.lp_parser_stmt.specs.Machine.{Names, AtOne, names_step, names_finished, ReadNames, names_end, names_then, names_run, Optional, Value, First, Test, Step, Role, ToRun, TestIf, TestWhile, TestDo, OverEach, OnSwitch, OneOf, Switching, with_part, Frame, InBlock, InSwitch, IfYes, IfNo, WhileBody, DoBody, ForBody, EachBody, Stack, InFunction, Inside, around, Whose, OfStmt, OfFor, State, Need, Have, Expect, Reading, Maybe, Declaring, NeedEach, EachStars, EachNamed, NeedConst, NeedDigits, HaveInt, NeedTo, NeedToDigits, Over, reads, closes, case_begins, default_begins, labelled, leaves, word_begins, class_begins, class, begin, Held, settle, after_yes, after_body, act, act_held, is_mark, is_else, by_paren, filled, used, after_mark, after, reading_goes, semicolon_skips, paren_skips, first_declares, maybe, declared, after_names, names_go, need_each, each_stars, over, one_more_each, each_named, need_const, need_digits, have_int, need_to, need_to_digits, step, start, Read, run, walk}
 use Rattle.lp_parser_stmt.proofs.Expressions.{ReadTree, tree_end, tree_then, tree_run, tree_spelled}
-use Rattle.lp_parser_stmt.proofs.Names.{RestOnSome as NamesRestOnSome, Rest as NamesRest, names_rest, names_spelled}
+use Rattle.lp_parser_stmt.proofs.NamesRead.{RestOnSome as NamesRestOnSome, Rest as NamesRest, names_rest, names_spelled}
 use Rattle.lp_parser_stmt.proofs.Stmts.{goes, joined, joined-none, joined-more, parts_joined, parts_joined-none, parts_joined-more, same_else}
 
 -- the mark that ends an expression

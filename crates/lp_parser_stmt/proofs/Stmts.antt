@@ -23,9 +23,10 @@ use Rattle.lp_tree.specs.Statements as stmts
 use Rattle.lp_tree.specs.Statements.{DeclaratorTree, LocalTree, InitTree, Nothing, DeclaresFirst, RunsFirst, StmtTree, Block, Empty, Run, Declares, If, While, DoWhile, For, Foreach, Switch, Break, Continue, Return, StmtTrees, NoStmt, MoreStmts, NoElse, Else, PartTrees, NoPart, LabelPart, StmtPart, Around, in_function, in_loop, in_switch, SpellsLocal, declares, SpellsDeclarators, SpellsEach, SpellsEaches, one_each, two_eaches, IsIn, word_in, SpellsConstant, SpellsLabel, case_value, case_range, default_case, SpellsInit, SpellsOptional, else_follows, SpellsStmt, SpellsStmts, SpellsParts}
 use Rattle.lp_tree.specs.StatementView.{stmt_trees, part_of, part_trees}
 use Rattle.lp_parser_expr.specs.Machine as expr
-use Rattle.lp_parser_stmt.specs.Machine.{Names, AtOne, names_step, names_finished, ReadNames, names_end, names_then, names_run, Optional, Value, First, Test, Step, Role, ToRun, TestIf, TestWhile, TestDo, OverEach, OnSwitch, OneOf, Switching, with_part, Frame, InBlock, InSwitch, IfYes, IfNo, WhileBody, DoBody, ForBody, EachBody, Stack, InFunction, Inside, around, Whose, OfStmt, OfFor, State, Need, Have, Expect, Reading, Maybe, Declaring, NeedEach, EachStars, EachNamed, NeedConst, NeedDigits, HaveInt, NeedTo, NeedToDigits, Over, Class, ExpressionBegins, class, reads, class_begins, maybe, semicolon_skips, labelled, leaves, begin, Held, settle, act_held, filled, init_of, used, by_paren, after_mark, after, reading_goes, declared, after_names, names_go, over, step, start, Read, run, is_else}
+use Rattle.lp_parser_stmt.specs.declared.class.Class.TheVariants.{ExpressionBegins}
+use Rattle.lp_parser_stmt.specs.Machine.{Names, AtOne, names_step, names_finished, ReadNames, names_end, names_then, names_run, Optional, Value, First, Test, Step, Role, ToRun, TestIf, TestWhile, TestDo, OverEach, OnSwitch, OneOf, Switching, with_part, Frame, InBlock, InSwitch, IfYes, IfNo, WhileBody, DoBody, ForBody, EachBody, Stack, InFunction, Inside, around, Whose, OfStmt, OfFor, State, Need, Have, Expect, Reading, Maybe, Declaring, NeedEach, EachStars, EachNamed, NeedConst, NeedDigits, HaveInt, NeedTo, NeedToDigits, Over, class, reads, class_begins, maybe, semicolon_skips, labelled, leaves, begin, Held, settle, act_held, filled, init_of, used, by_paren, after_mark, after, reading_goes, declared, after_names, names_go, over, step, start, Read, run, is_else}
 use Rattle.lp_parser_stmt.proofs.Expressions.{ReadTree, tree_end, tree_then, tree_run, before_semicolon, before_paren}
-use Rattle.lp_parser_stmt.proofs.Names.{names_read}
+use Rattle.lp_parser_stmt.proofs.NamesRead.{names_read}
 
 abbrev pub goes : Option State → List Seen → Option Read
 goes o xs = option_and_then (λ next. run next xs) o

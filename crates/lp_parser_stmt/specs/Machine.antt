@@ -21,6 +21,13 @@ use Rattle.lp_tree.specs.Trees.{Tree, line_of}
 use Rattle.lp_tree.specs.Statements.{DeclaratorTree, LocalTree, InitTree, Nothing, DeclaresFirst, RunsFirst, StmtTree, Block, Empty, Run, Declares, If, While, DoWhile, For, Foreach, Switch, Break, Continue, Return, StmtTrees, NoElse, Else, Around, in_function, in_loop, in_switch}
 use Rattle.lp_tree.specs.StatementView.{stmt_trees, part_trees}
 use Rattle.lp_parser_expr.specs.Machine as expr
+use Rattle.lp_parser_stmt.specs.declared.class.Class.{Class}
+use Rattle.lp_parser_stmt.specs.declared.class.Class.TheVariants.{BraceOpens, BraceCloses, SemicolonEnds, ParenCloses, ExpressionBegins, TypeBegins, WordBegins}
+
+-- the mark that a token is
+abbrev pub mark_in : Sort → Option Mark
+mark_in (sorts.Mark m) = Some m
+mark_in _ = None
 
 -- The names of a declaration: what was read of them.
 pub data Names : Type 0 where
@@ -53,9 +60,12 @@ named (sorts.Mark Comma) done line n w = Some (AtOne (with_name done line n w No
 named _ done line n w = None
 
 -- behind a whole value
+abbrev pub mark_valued : Option Mark → Option Tree → List DeclaratorTree → ℕ → ℕ → List ℕ → Option Names
+mark_valued (Some Comma) (Some t) done line n w = Some (AtOne (with_name done line n w (Some t)))
+mark_valued _ t done line n w = None
+
 abbrev pub valued : Sort → Option Tree → List DeclaratorTree → ℕ → ℕ → List ℕ → Option Names
-valued (sorts.Mark Comma) (Some t) done line n w = Some (AtOne (with_name done line n w (Some t)))
-valued _ t done line n w = None
+valued k t done line n w = mark_valued (mark_in k) t done line n w
 
 abbrev pub value_goes : Option expr.State → Option Tree → Sort → List DeclaratorTree → ℕ → ℕ → List ℕ → Option Names
 value_goes (Some e) t k done line n w = Some (Valued done line n w e)
@@ -166,12 +176,7 @@ pub data State : Type 0 where
   -- nothing: the function's statements are read
   Over : (stmts : StmtTrees) → State
 
--- what begins a statement
-pub data Class : Type 0 where
-  BraceOpens BraceCloses SemicolonEnds ParenCloses ExpressionBegins : Class
-  TypeBegins : (base : BaseWord) → Class
-  WordBegins : (word : Keyword) → Class
-
+-- what a token begins
 abbrev pub word_class : Keyword → Class
 word_class (words.Base b) = TypeBegins b
 word_class words.Catch = ExpressionBegins
@@ -328,9 +333,12 @@ after_mark Semicolon role t s = if by_paren role then None else Some (used role 
 after_mark CloseParen role t s = if by_paren role then Some (used role t s) else None
 after_mark _ role t s = None
 
+abbrev pub after_some : Option Mark → Role → Option Tree → Stack → Option State
+after_some (Some m) role (Some t) s = after_mark m role t s
+after_some _ role t s = None
+
 abbrev pub after : Sort → Role → Option Tree → Stack → Option State
-after (sorts.Mark m) role (Some t) s = after_mark m role t s
-after _ role t s = None
+after k role t s = after_some (mark_in k) role t s
 
 abbrev pub reading_goes : Option expr.State → Option Tree → Sort → Role → Stack → Option State
 reading_goes (Some e) t k role s = Some (Reading e role s)
@@ -362,9 +370,12 @@ abbrev pub declared : Whose → LocalTree → Stack → State
 declared OfStmt d s = Have (Declares d.line d) s
 declared (OfFor line) d s = Maybe (Test line (DeclaresFirst d)) s
 
+abbrev pub mark_after_names : Option Mark → ℕ → BaseWord → Option (List DeclaratorTree) → Whose → Stack → Option State
+mark_after_names (Some Semicolon) line b (Some ds) whose s = Some (declared whose (record { line = line; base = b; ones = ds }) s)
+mark_after_names _ line b ds whose s = None
+
 abbrev pub after_names : Sort → ℕ → BaseWord → Option (List DeclaratorTree) → Whose → Stack → Option State
-after_names (sorts.Mark Semicolon) line b (Some ds) whose s = Some (declared whose (record { line = line; base = b; ones = ds }) s)
-after_names _ line b ds whose s = None
+after_names k line b ds whose s = mark_after_names (mark_in k) line b ds whose s
 
 abbrev pub names_go : Option Names → Option (List DeclaratorTree) → Sort → ℕ → BaseWord → Whose → Stack → Option State
 names_go (Some d) ds k line b whose s = Some (Declaring line b d whose s)

@@ -1,4 +1,6 @@
 //! Statements of LPC sources.
 #![tactic(auto)]
 
+pub mod class;
 pub mod law;
+pub mod names;
