@@ -1,15 +1,15 @@
 -- An expression in front of a token that ends it.
-use Rattle.std.proofs.Common.{◌≡◌, ℕ, suc, ◌≤◌, ◌<◌, List, [], ◌∷◌, ◌++◌, refl, ap, sym, ◌∙◌, subst, arith}
+use Rattle.std.proofs.Common.{◌≡◌, ℕ, ◌≤◌, ◌<◌, List, [], ◌∷◌, refl, ap, ◌∙◌, subst, arith}
 use Rattle.std.specs.Prelude.{Option, Some, None, option_and_then, option_map}
 use Rattle.lp_tree.specs.declared.token.Mark.TheVariants.{CloseParen, Semicolon, Comma}
 use Rattle.lp_tree.specs.declared.seen.Seen.{Seen}
 use Rattle.lp_tree.specs.Seen.{mark}
 use Rattle.lp_tree.specs.Trees.{Tree, rank}
 use Rattle.lp_tree.specs.Expressions.{Spells}
-use Rattle.lp_parser_expr.specs.Machine.{Frame, Alone, Stack, needs, plug, Held, settle, State, Need, Have, EndCast, EndLiteral, NeedName, NeedParen, binds, act_held, step, whole, whole_held, finished}
+use Rattle.lp_parser_expr.specs.Machine.{Frame, Alone, Stack, needs, plug, Held, settle, State, Need, Have, EndCast, EndLiteral, NeedName, NeedParen, binds, act_held, step, whole_held, finished}
 use Rattle.lp_parser_expr.proofs.Settle.{follow, settle-ends, rank≤reach, 0<reach, wants-most}
 use Rattle.lp_parser_expr.proofs.Complete.{IsReader, complete}
-use Rattle.lp_parser_expr.proofs.Sound.{Reads, has, Fitting, fitting, bottom, alone, ReadsOnSome, step_reads, settled, Opened}
+use Rattle.lp_parser_expr.proofs.Sound.{Reads, has, Fitting, fitting, bottom, alone, ReadsOnSome, step_reads, settled}
 
 -- the expression that was read, and the tokens behind it
 pub record ReadTree : Type 0 where

@@ -1,6 +1,6 @@
 -- The laws, put together.
 use Rattle.std.proofs.Common.{◌≡◌, ℕ, max, List, [], ◌∷◌, sym, subst}
-use Rattle.std.specs.Prelude.{Option, Some, None}
+use Rattle.std.specs.Prelude.{Some}
 use Rattle.lp_tree.specs.declared.token.Mark.TheVariants.{Semicolon}
 use Rattle.lp_tree.specs.declared.seen.Seen.{Seen}
 use Rattle.lp_tree.specs.Seen.{mark}
@@ -10,7 +10,7 @@ use Rattle.lp_parser_stmt.specs.Depth.{names_height, names_here}
 use Rattle.lp_parser_stmt.specs.Theorem.{ReadsNames, ReadsBlocks}
 use Rattle.lp_parser_stmt.proofs.NamesRead.{names_read, names_rest, names_spelled}
 use Rattle.lp_parser_stmt.proofs.Stmts.{block_read}
-use Rattle.lp_parser_stmt.proofs.Levels.{NamesRise, names-rise, names-whole, step-levels}
+use Rattle.lp_parser_stmt.proofs.Levels.{NamesRise, names-rise, names-whole, step-levels, least-some}
 use Rattle.lp_parser_stmt.proofs.Sound.{block_spelled}
 use Rattle.lp_parser_stmt.proofs.Viable.{names_begun, block_begun}
 
@@ -26,4 +26,4 @@ pub reads_names : ReadsNames
 reads_names = record { read = names_read_so; spelled = λ ds l ts rest d. names_read d []; begun = names_begun; levels = names_levels; whole = names-whole }
 
 pub reads_blocks : ReadsBlocks
-reads_blocks = record { read = block_spelled; spelled = λ ss ts rest d. block_read d; begun = block_begun; levels = step-levels }
+reads_blocks = record { read = block_spelled; spelled = λ ss ts rest d. block_read d; begun = block_begun; levels = step-levels; positive = least-some }

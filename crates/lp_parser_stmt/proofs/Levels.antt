@@ -1,12 +1,10 @@
 -- A token adds exactly the depth of what has to come.
-use Rattle.std.proofs.Common.{◌≡◌, ℕ, zero, suc, ◌+◌, ◌≤◌, ◌<◌, max, List, [], ◌∷◌, ◌++◌, Bool, true, false, cond, refl, ap, sym, ◌∙◌, subst, arith}
+use Rattle.std.proofs.Common.{◌≡◌, ℕ, suc, ◌+◌, ◌≤◌, ◌<◌, max, List, [], ◌∷◌, ◌++◌, Bool, true, false, cond, refl, ap, sym, ◌∙◌, subst, arith}
 use Rattle.std.specs.Prelude.{ℤ, neg_ℤ, Option, Some, None, option_map, bytes_eq, codes}
 use Rattle.lp_tree.specs.declared.keyword.Keyword.{Keyword}
 use Rattle.lp_tree.specs.declared.keyword.Keyword.TheVariants as words
 use Rattle.lp_tree.specs.declared.keyword.Base.{Base as BaseWord}
-use Rattle.lp_tree.specs.declared.operator.BinOp.{BinOp}
 use Rattle.lp_tree.specs.declared.operator.BinOp.TheVariants.{Sub, Mul}
-use Rattle.lp_tree.specs.declared.operator.AssignOp.{AssignOp}
 use Rattle.lp_tree.specs.declared.operator.AssignOp.TheVariants.{Set}
 use Rattle.lp_tree.specs.declared.token.Mark.{Mark}
 use Rattle.lp_tree.specs.declared.token.Mark.TheVariants as marks
@@ -21,15 +19,15 @@ use Rattle.lp_tree.specs.declared.stmt.Label.{Label}
 use Rattle.lp_tree.specs.declared.stmt.Label.TheVariants as labels
 use Rattle.lp_tree.specs.declared.stmt.Constant.TheVariants.{Int, Text}
 use Rattle.lp_tree.specs.Trees.{Tree, height}
-use Rattle.lp_tree.specs.Statements.{DeclaratorTree, LocalTree, InitTree, StmtTree, StmtTrees, MoreStmts, If, While, For, Foreach, NoElse, Else, PartTrees, declarator_heights, stmt_height, stmt_heights, part_heights, height_if, init_height}
-use Rattle.lp_tree.specs.StatementView.{stmt_trees, part_of, part_trees}
+use Rattle.lp_tree.specs.Statements.{DeclaratorTree, LocalTree, StmtTree, If, While, For, Foreach, NoElse, Else, declarator_heights, stmt_height, stmt_heights, part_heights, height_if}
+use Rattle.lp_tree.specs.StatementView.{stmt_trees, part_trees}
 use Rattle.lp_parser_expr.specs.Machine as expr
 use Rattle.lp_parser_expr.specs.Depth as exprs
 use Rattle.lp_parser_expr.proofs.Shallow.{step-grows, finished-height, 0<height, Grows}
 use Rattle.lp_parser_stmt.specs.declared.class.Class.{Class}
 use Rattle.lp_parser_stmt.specs.declared.class.Class.TheVariants.{BraceOpens, BraceCloses, SemicolonEnds, ParenCloses, ExpressionBegins, TypeBegins, WordBegins}
-use Rattle.lp_parser_stmt.specs.Machine.{Names, AtOne, AtStars, Named, Valued, with_name, at_one, at_stars, named, valued, value_goes, names_step, names_finished, Optional, Value, First, Test, Step, Role, ToRun, TestIf, TestWhile, TestDo, OverEach, OnSwitch, OneOf, Switching, with_part, Frame, InBlock, InSwitch, IfYes, IfNo, WhileBody, DoBody, ForBody, EachBody, Stack, InFunction, Inside, around, Whose, OfStmt, OfFor, State, Need, Have, Expect, Reading, Maybe, Declaring, NeedEach, EachStars, EachNamed, NeedConst, NeedDigits, HaveInt, NeedTo, NeedToDigits, Over, class, reads, closes, case_begins, default_begins, leaves, word_begins, class_begins, begin, Held, settle, after_yes, after_body, act, act_held, is_mark, is_else, by_paren, init_of, filled, used, after_mark, after, reading_goes, semicolon_skips, paren_skips, first_declares, maybe, declared, after_names, names_go, need_each, each_stars, over, one_more_each, each_named, need_const, need_digits, have_int, need_to, need_to_digits, step}
-use Rattle.lp_parser_stmt.specs.Depth.{frame_height, depth, past, optional_height, role_height, optional_least, whose_least, names_height, names_here, extra, here, least}
+use Rattle.lp_parser_stmt.specs.Machine.{Names, AtOne, AtStars, Named, Valued, with_name, at_one, at_stars, named, valued, value_goes, names_step, names_finished, Optional, Value, First, Test, Step, Role, ToRun, TestIf, TestWhile, TestDo, OverEach, OnSwitch, OneOf, Switching, with_part, InBlock, InSwitch, IfYes, IfNo, WhileBody, DoBody, ForBody, EachBody, Stack, InFunction, Inside, around, Whose, OfStmt, OfFor, State, Need, Have, Expect, Reading, Maybe, Declaring, NeedEach, EachStars, EachNamed, NeedConst, NeedDigits, HaveInt, NeedTo, NeedToDigits, Over, class, reads, closes, case_begins, default_begins, leaves, word_begins, class_begins, begin, settle, after_yes, after_body, act, act_held, is_mark, is_else, by_paren, used, after_mark, after, reading_goes, semicolon_skips, paren_skips, first_declares, maybe, declared, after_names, names_go, need_each, each_stars, over, one_more_each, each_named, need_const, need_digits, have_int, need_to, need_to_digits, step}
+use Rattle.lp_parser_stmt.specs.Depth.{depth, past, optional_height, role_height, optional_least, whose_least, names_height, names_here, extra, here, least}
 
 -- lists and their levels
 pub heights-push : (ds : List StmtTree) (t : StmtTree) → stmt_heights (stmt_trees (ds ++ t ∷ [])) ≡ max (stmt_heights (stmt_trees ds)) (stmt_height t)
@@ -425,3 +423,25 @@ step-rises (Over ss) x = tt
 -- A token makes the levels the greater of those before and the depth of what has to come.
 pub step-levels : (st next : State) (x : Seen) → step st x ≡ Some next → least next ≡ max (least st) (here next)
 step-levels st next x e = subst (λ o. Rises (least st) o) e (step-rises st x)
+
+0<depth : (s : Stack) → 1 ≤ depth s
+0<depth (InFunction done) = omega arith
+0<depth (Inside f s) = omega arith
+
+-- a function has a level
+pub least-some : (st : State) → 1 ≤ least st
+least-some (Need s) = omega (arith, 0<depth s)
+least-some (Have t s) = omega (arith, 0<depth s)
+least-some (Expect m next) = least-some next
+least-some (Reading e role s) = omega (arith, 0<depth s)
+least-some (Maybe part s) = omega (arith, 0<depth s)
+least-some (Declaring line b d whose s) = omega (arith, 0<depth s)
+least-some (NeedEach line first s) = omega (arith, 0<depth s)
+least-some (EachStars line first at b n s) = omega (arith, 0<depth s)
+least-some (EachNamed line first e s) = omega (arith, 0<depth s)
+least-some (NeedConst line w s) = omega (arith, 0<depth s)
+least-some (NeedDigits line w s) = omega (arith, 0<depth s)
+least-some (HaveInt line n w s) = omega (arith, 0<depth s)
+least-some (NeedTo line n w s) = omega (arith, 0<depth s)
+least-some (NeedToDigits line n w s) = omega (arith, 0<depth s)
+least-some (Over ss) = omega arith

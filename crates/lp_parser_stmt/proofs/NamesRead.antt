@@ -1,12 +1,9 @@
 -- The names of a declaration: what is spelled is read, and what is read is spelled.
-use Rattle.std.proofs.Common.{◌≡◌, ℕ, zero, suc, ◌+◌, ◌≤◌, List, [], ◌∷◌, ◌++◌, refl, ap, sym, ◌∙◌, subst, arith}
+use Rattle.std.proofs.Common.{◌≡◌, ℕ, suc, ◌+◌, ◌≤◌, List, [], ◌∷◌, ◌++◌, refl, ap, sym, ◌∙◌, subst, arith}
 use Rattle.std.specs.Prelude.{Option, Some, None, option_map}
 use Rattle.std.proofs.lemmas.List.{append_assoc}
-use Rattle.lp_tree.specs.declared.operator.BinOp.{BinOp}
 use Rattle.lp_tree.specs.declared.operator.BinOp.TheVariants.{Mul}
-use Rattle.lp_tree.specs.declared.operator.AssignOp.{AssignOp}
 use Rattle.lp_tree.specs.declared.operator.AssignOp.TheVariants.{Set}
-use Rattle.lp_tree.specs.declared.token.Mark.{Mark}
 use Rattle.lp_tree.specs.declared.token.Mark.TheVariants as marks
 use Rattle.lp_tree.specs.declared.token.Mark.TheVariants.{Semicolon, Comma}
 use Rattle.lp_tree.specs.declared.seen.Sort.{Sort}
@@ -18,7 +15,7 @@ use Rattle.lp_tree.specs.Trees.{Tree, rank}
 use Rattle.lp_tree.specs.Expressions.{Spells}
 use Rattle.lp_tree.specs.Statements.{DeclaratorTree, SpellsDeclarator, plain, set_to, SpellsDeclarators, one, another}
 use Rattle.lp_parser_expr.specs.Machine as expr
-use Rattle.lp_parser_expr.proofs.Sound.{Reads, needs_more, alone}
+use Rattle.lp_parser_expr.proofs.Sound.{needs_more, alone}
 use Rattle.lp_parser_stmt.specs.Machine.{Names, AtOne, AtStars, Named, Valued, with_name, at_one, at_stars, named, valued, value_goes, names_step, names_finished, ReadNames, names_end, names_then, names_run}
 use Rattle.lp_parser_stmt.proofs.Expressions.{ReadTree, tree_end, tree_then, tree_run, value_before_semicolon, value_before_comma, tree_spelled}
 
@@ -176,6 +173,7 @@ names_stop (Valued done line n w e) ds x xs s f = stopped (expr.step e x) (expr.
   where
     some_list : (t : Tree) → Some (with_name done line n w (Some t)) ≡ Some ds → ds ≡ with_name done line n w (Some t)
     some_list t e = cc
+
     stopped : (o : Option expr.State) (v : Option Tree) → expr.step e x ≡ o → expr.finished e ≡ v → value_goes o v x.sort done line n w ≡ None → option_map (λ t. with_name done line n w (Some t)) v ≡ Some ds → Rest (Valued done line n w e) ds (x ∷ xs) (x ∷ xs)
     stopped (Some next) v p q s f = cc
     stopped None None p q s f = cc

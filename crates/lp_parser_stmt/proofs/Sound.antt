@@ -1,6 +1,6 @@
 -- What is read is spelled: statements.
-use Rattle.std.proofs.Common.{◌≡◌, ℕ, zero, suc, ◌+◌, List, [], ◌∷◌, ◌++◌, Bool, true, false, cond, refl, ap, sym, ◌∙◌, subst, arith}
-use Rattle.std.specs.Prelude.{ℤ, neg_ℤ, Option, Some, None, option_and_then, IsTrue, bytes_eq, codes}
+use Rattle.std.proofs.Common.{◌≡◌, ℕ, suc, ◌+◌, List, [], ◌∷◌, ◌++◌, Bool, true, false, cond, refl, ap, sym, ◌∙◌, subst, arith}
+use Rattle.std.specs.Prelude.{ℤ, Option, Some, None, IsTrue, bytes_eq, codes}
 use Rattle.std.proofs.lemmas.Slice.Eq.{bytes_eq-Decides}
 use Rattle.lp_tree.specs.declared.keyword.Keyword.{Keyword}
 use Rattle.lp_tree.specs.declared.keyword.Keyword.TheVariants as words
@@ -13,23 +13,21 @@ use Rattle.lp_tree.specs.declared.seen.Sort.{Sort}
 use Rattle.lp_tree.specs.declared.seen.Sort.TheVariants as sorts
 use Rattle.lp_tree.specs.declared.seen.Seen.{Seen}
 use Rattle.lp_tree.specs.declared.stmt.Each.{Each}
-use Rattle.lp_tree.specs.declared.stmt.Constant.TheVariants.{Int, Text}
-use Rattle.lp_tree.specs.declared.stmt.Part.{Part}
+use Rattle.lp_tree.specs.declared.stmt.Constant.TheVariants.{Int}
 use Rattle.lp_tree.specs.declared.stmt.Part.TheVariants as parts
 use Rattle.lp_tree.specs.declared.stmt.Label.{Label}
-use Rattle.lp_tree.specs.declared.stmt.Label.TheVariants as labels
 use Rattle.lp_tree.specs.Seen.{word, text, integer, mark, reserved}
 use Rattle.lp_tree.specs.Types.{SpellsStars, none as no_star, one_more as one_star, typed as type_of}
-use Rattle.lp_tree.specs.Trees.{Tree, line_of}
+use Rattle.lp_tree.specs.Trees.{Tree}
 use Rattle.lp_tree.specs.Expressions.{Spells}
 use Rattle.lp_tree.specs.Statements as stmts
 use Rattle.lp_tree.specs.Statements.{DeclaratorTree, LocalTree, InitTree, DeclaresFirst, StmtTree, Block, Empty, Run, Declares, If, While, DoWhile, For, Foreach, Switch, Break, Continue, Return, StmtTrees, NoStmt, MoreStmts, NoElse, Else, PartTrees, NoPart, LabelPart, StmtPart, Around, in_function, in_loop, in_switch, SpellsLocal, declares, SpellsDeclarators, SpellsEach, SpellsEaches, one_each, two_eaches, IsIn, word_in, SpellsConstant, SpellsLabel, case_value, case_range, default_case, SpellsInit, SpellsOptional, else_follows, SpellsStmt, SpellsStmts, SpellsParts}
-use Rattle.lp_tree.specs.StatementView.{stmt_trees, part_of, part_trees}
+use Rattle.lp_tree.specs.StatementView.{stmt_trees, part_trees}
 use Rattle.lp_parser_expr.specs.Machine as expr
 use Rattle.lp_parser_expr.proofs.Sound.{needs_more, bottom}
-use Rattle.lp_parser_stmt.specs.Machine.{Names, AtOne, names_step, names_finished, ReadNames, names_end, names_then, names_run, Optional, Value, First, Test, Step, Role, ToRun, TestIf, TestWhile, TestDo, OverEach, OnSwitch, OneOf, Switching, with_part, Frame, InBlock, InSwitch, IfYes, IfNo, WhileBody, DoBody, ForBody, EachBody, Stack, InFunction, Inside, around, Whose, OfStmt, OfFor, State, Need, Have, Expect, Reading, Maybe, Declaring, NeedEach, EachStars, EachNamed, NeedConst, NeedDigits, HaveInt, NeedTo, NeedToDigits, Over, reads, closes, case_begins, default_begins, labelled, leaves, word_begins, class_begins, class, begin, Held, settle, after_yes, after_body, act, act_held, is_mark, is_else, by_paren, filled, used, after_mark, after, reading_goes, semicolon_skips, paren_skips, first_declares, maybe, declared, after_names, names_go, need_each, each_stars, over, one_more_each, each_named, need_const, need_digits, have_int, need_to, need_to_digits, step, start, Read, run, walk}
-use Rattle.lp_parser_stmt.proofs.Expressions.{ReadTree, tree_end, tree_then, tree_run, tree_spelled}
-use Rattle.lp_parser_stmt.proofs.NamesRead.{RestOnSome as NamesRestOnSome, Rest as NamesRest, names_rest, names_spelled}
+use Rattle.lp_parser_stmt.specs.Machine.{Names, AtOne, names_step, names_finished, names_end, names_then, names_run, Optional, Value, First, Test, Step, Role, ToRun, TestIf, TestWhile, OnSwitch, OneOf, Switching, with_part, InBlock, InSwitch, IfYes, IfNo, WhileBody, DoBody, ForBody, EachBody, Stack, InFunction, Inside, around, Whose, State, Need, Have, Expect, Reading, Maybe, Declaring, NeedEach, EachStars, EachNamed, NeedConst, NeedDigits, HaveInt, NeedTo, NeedToDigits, Over, reads, closes, case_begins, default_begins, labelled, leaves, class, begin, settle, after_yes, after_body, act, act_held, is_mark, is_else, by_paren, filled, used, after, reading_goes, semicolon_skips, paren_skips, first_declares, maybe, declared, after_names, names_go, need_each, each_stars, over, one_more_each, each_named, need_const, need_digits, have_int, need_to, need_to_digits, step, start, Read, run}
+use Rattle.lp_parser_stmt.proofs.Expressions.{tree_end, tree_then, tree_run, tree_spelled}
+use Rattle.lp_parser_stmt.proofs.NamesRead.{names_rest, names_spelled}
 use Rattle.lp_parser_stmt.proofs.Stmts.{goes, joined, joined-none, joined-more, parts_joined, parts_joined-none, parts_joined-more, same_else}
 
 -- the mark that ends an expression
@@ -248,8 +246,10 @@ each_back {l} {s} {ss} {rest} (r_expect (r_each {e = f} d r)) = behind r d
     looped : {f : Each} {g : Option Each} {x : Seen} {e : Tree} {k at : ℕ} {ts us vs : List Seen} → Rest (Need (Inside (EachBody l f g e) s)) ss vs rest
         → SpellsEaches f g ts (x ∷ us) → IsIn x → Spells e us (mark CloseParen at ∷ vs) → Rest (Need s) ss (reserved words.Foreach l ∷ mark OpenParen k ∷ ts) rest
     looped (r_need b (r_each_body r)) d i e = r_need (stmts.foreach d i e b) r
+
     behind_two : {f g : Each} {k at : ℕ} {ts us vs : List Seen} → Rest (EachNamed l (Some f) g s) ss vs rest → SpellsEach f ts (mark Comma at ∷ us) → SpellsEach g us vs → Rest (Need s) ss (reserved words.Foreach l ∷ mark OpenParen k ∷ ts) rest
     behind_two (r_in i r) d e = let q = reading_rest r in looped q.rest (two_eaches d e) i q.spelled
+
     behind : {f : Each} {k : ℕ} {ts us : List Seen} → Rest (EachNamed l None f s) ss us rest → SpellsEach f ts us → Rest (Need s) ss (reserved words.Foreach l ∷ mark OpenParen k ∷ ts) rest
     behind (r_in i r) d = let q = reading_rest r in looped q.rest (one_each d) i q.spelled
     behind (r_comma (r_each e r)) d = behind_two r d e

@@ -1,12 +1,9 @@
 -- What is spelled is read: statements.
-use Rattle.std.proofs.Common.{◌≡◌, ℕ, zero, suc, ◌+◌, ◌≤◌, List, [], ◌∷◌, ◌++◌, Bool, true, false, cond, refl, ap, sym, ◌∙◌, subst, arith}
-use Rattle.std.specs.Prelude.{Option, Some, None, option_and_then, IsTrue}
+use Rattle.std.proofs.Common.{◌≡◌, ℕ, suc, ◌+◌, List, [], ◌∷◌, ◌++◌, Bool, true, false, cond, refl, ap, sym, ◌∙◌, arith}
+use Rattle.std.specs.Prelude.{Option, Some, None, option_and_then}
 use Rattle.lp_tree.specs.declared.keyword.Base.{Base as BaseWord}
 use Rattle.lp_tree.specs.declared.keyword.Keyword.TheVariants as words
-use Rattle.lp_tree.specs.declared.operator.BinOp.TheVariants.{Mul}
-use Rattle.lp_tree.specs.declared.token.Mark.{Mark}
-use Rattle.lp_tree.specs.declared.token.Mark.TheVariants as marks
-use Rattle.lp_tree.specs.declared.token.Mark.TheVariants.{OpenParen, CloseParen, OpenBrace, CloseBrace, Semicolon, Comma, Colon, DotDot}
+use Rattle.lp_tree.specs.declared.token.Mark.TheVariants.{CloseParen, CloseBrace, Semicolon}
 use Rattle.lp_tree.specs.declared.seen.Sort.{Sort}
 use Rattle.lp_tree.specs.declared.seen.Sort.TheVariants as sorts
 use Rattle.lp_tree.specs.declared.seen.Seen.{Seen}
@@ -14,9 +11,9 @@ use Rattle.lp_tree.specs.declared.stmt.Each.{Each}
 use Rattle.lp_tree.specs.declared.stmt.Part.{Part}
 use Rattle.lp_tree.specs.declared.stmt.Part.TheVariants as parts
 use Rattle.lp_tree.specs.declared.stmt.Label.{Label}
-use Rattle.lp_tree.specs.Seen.{word, mark, reserved}
-use Rattle.lp_tree.specs.Types.{SpellsStars, none as no_star, one_more as one_star, SpellsType, typed as type_of}
-use Rattle.lp_tree.specs.Trees.{Tree, line_of}
+use Rattle.lp_tree.specs.Seen.{mark}
+use Rattle.lp_tree.specs.Types.{SpellsStars, none as no_star, one_more as one_star, typed as type_of}
+use Rattle.lp_tree.specs.Trees.{Tree}
 use Rattle.lp_tree.specs.Expressions as exprs
 use Rattle.lp_tree.specs.Expressions.{Spells}
 use Rattle.lp_tree.specs.Statements as stmts
@@ -24,7 +21,7 @@ use Rattle.lp_tree.specs.Statements.{DeclaratorTree, LocalTree, InitTree, Nothin
 use Rattle.lp_tree.specs.StatementView.{stmt_trees, part_of, part_trees}
 use Rattle.lp_parser_expr.specs.Machine as expr
 use Rattle.lp_parser_stmt.specs.declared.class.Class.TheVariants.{ExpressionBegins}
-use Rattle.lp_parser_stmt.specs.Machine.{Names, AtOne, names_step, names_finished, ReadNames, names_end, names_then, names_run, Optional, Value, First, Test, Step, Role, ToRun, TestIf, TestWhile, TestDo, OverEach, OnSwitch, OneOf, Switching, with_part, Frame, InBlock, InSwitch, IfYes, IfNo, WhileBody, DoBody, ForBody, EachBody, Stack, InFunction, Inside, around, Whose, OfStmt, OfFor, State, Need, Have, Expect, Reading, Maybe, Declaring, NeedEach, EachStars, EachNamed, NeedConst, NeedDigits, HaveInt, NeedTo, NeedToDigits, Over, class, reads, class_begins, maybe, semicolon_skips, labelled, leaves, begin, Held, settle, act_held, filled, init_of, used, by_paren, after_mark, after, reading_goes, declared, after_names, names_go, over, step, start, Read, run, is_else}
+use Rattle.lp_parser_stmt.specs.Machine.{Names, AtOne, names_step, names_finished, ReadNames, names_end, names_then, names_run, Optional, Value, First, Test, Step, Role, ToRun, TestIf, TestWhile, TestDo, OverEach, OnSwitch, OneOf, Switching, with_part, Frame, InBlock, InSwitch, IfYes, IfNo, WhileBody, DoBody, ForBody, EachBody, Stack, InFunction, Inside, around, Whose, OfStmt, OfFor, State, Need, Have, Reading, Maybe, Declaring, NeedEach, EachStars, EachNamed, Over, class, reads, class_begins, maybe, semicolon_skips, labelled, leaves, settle, act_held, filled, used, by_paren, after, reading_goes, declared, after_names, names_go, over, start, Read, run, is_else}
 use Rattle.lp_parser_stmt.proofs.Expressions.{ReadTree, tree_end, tree_then, tree_run, before_semicolon, before_paren}
 use Rattle.lp_parser_stmt.proofs.NamesRead.{names_read}
 

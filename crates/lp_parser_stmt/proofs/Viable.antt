@@ -1,5 +1,5 @@
 -- Each state that was reached can be brought to an end, as shallow as it says.
-use Rattle.std.proofs.Common.{◌≡◌, ℕ, zero, suc, ◌+◌, ◌≤◌, ◌<◌, max, List, [], ◌∷◌, ◌++◌, Bool, true, false, cond, refl, ap, sym, ◌∙◌, subst, arith}
+use Rattle.std.proofs.Common.{◌≡◌, ℕ, suc, ◌+◌, ◌≤◌, List, [], ◌∷◌, ◌++◌, Bool, true, false, cond, refl, ap, sym, ◌∙◌, subst, arith}
 use Rattle.std.specs.Prelude.{ℤ, pos, neg_ℤ, Option, Some, None, option_and_then, bytes_eq, codes}
 use Rattle.lp_tree.specs.declared.token.Mark.{Mark}
 use Rattle.lp_tree.specs.declared.operator.BinOp.TheVariants.{Sub, Mul}
@@ -26,19 +26,18 @@ use Rattle.lp_tree.specs.Statements.{DeclaratorTree, LocalTree, InitTree, StmtTr
 use Rattle.lp_tree.specs.StatementView.{stmt_trees, part_trees}
 use Rattle.lp_parser_expr.specs.Machine as expr
 use Rattle.lp_parser_expr.specs.Depth as levels
-use Rattle.lp_parser_expr.proofs.Shallow.{0<height}
 use Rattle.lp_parser_expr.proofs.Viable.{run-append}
 use Rattle.lp_parser_expr.proofs.Main.{begun, complete_all}
 use Rattle.lp_parser_expr.specs.Theorem.{start as alone_or}
 use Rattle.lp_parser_stmt.specs.declared.class.Class.{Class}
 use Rattle.lp_parser_stmt.specs.declared.class.Class.TheVariants.{BraceOpens, BraceCloses, SemicolonEnds, ParenCloses, ExpressionBegins, TypeBegins, WordBegins}
-use Rattle.lp_parser_stmt.specs.Machine.{Names, AtOne, AtStars, Named, Valued, with_name, at_one, at_stars, named, valued, value_goes, names_step, names_finished, ReadNames, names_run, names_walk, Optional, Value, First, Test, Step, Role, ToRun, TestIf, TestWhile, TestDo, OverEach, OnSwitch, OneOf, Switching, with_part, Frame, InBlock, InSwitch, IfYes, IfNo, WhileBody, DoBody, ForBody, EachBody, Stack, InFunction, Inside, around, Whose, OfStmt, OfFor, State, Need, Have, Expect, Reading, Maybe, Declaring, NeedEach, EachStars, EachNamed, NeedConst, NeedDigits, HaveInt, NeedTo, NeedToDigits, Over, class, reads, closes, case_begins, default_begins, labelled, leaves, word_begins, class_begins, begin, settle, after_yes, after_body, act, act_held, is_mark, is_else, by_paren, filled, used, after_mark, after, reading_goes, semicolon_skips, paren_skips, first_declares, maybe, declared, after_names, names_go, need_each, each_stars, over, one_more_each, each_named, need_const, need_digits, have_int, need_to, need_to_digits, step, start, Read, run, walk}
-use Rattle.lp_parser_stmt.specs.Depth.{depth, past, names_height, extra, here, least}
+use Rattle.lp_parser_stmt.specs.Machine.{Names, AtOne, AtStars, Named, Valued, with_name, at_one, at_stars, named, valued, value_goes, names_step, names_finished, names_run, names_walk, Optional, Value, First, Test, Step, Role, ToRun, TestIf, TestWhile, TestDo, OverEach, OnSwitch, OneOf, Switching, with_part, InBlock, InSwitch, IfYes, IfNo, WhileBody, DoBody, ForBody, EachBody, Stack, InFunction, Inside, around, Whose, OfStmt, OfFor, State, Need, Have, Expect, Reading, Maybe, Declaring, NeedEach, EachStars, EachNamed, NeedConst, NeedDigits, HaveInt, NeedTo, NeedToDigits, Over, class, reads, closes, case_begins, default_begins, labelled, leaves, word_begins, class_begins, settle, after_yes, after_body, act, is_mark, is_else, by_paren, used, after_mark, after, reading_goes, semicolon_skips, paren_skips, first_declares, maybe, declared, after_names, names_go, need_each, each_stars, over, one_more_each, each_named, need_const, need_digits, have_int, need_to, need_to_digits, step, start, run, walk}
+use Rattle.lp_parser_stmt.specs.Depth.{names_height, extra, least}
 use Rattle.lp_parser_stmt.proofs.Expressions.{ReadTree, tree_end, tree_then, tree_run}
 use Rattle.lp_parser_stmt.proofs.NamesRead.{value_run, value_read}
 use Rattle.lp_parser_stmt.proofs.Stmts.{goes, block_read}
 use Rattle.lp_parser_stmt.proofs.Levels.{heights-push, part-push, names-push, 0<stmt, used-least, used-here, labelled-least}
-use Rattle.lp_parser_stmt.proofs.Sound.{ender, Rest, r_over, r_expect, r_need, r_ends_function, r_ends_block, r_ends_switch, r_label, r_in_function, r_in_block, r_in_switch, r_if_only, r_if_no, r_while, r_for, r_each_body, r_do, r_reading, r_missing, r_declaring, r_each, r_stars, r_in, r_const, r_digits, r_int, r_to, r_to_digits, RestOnSome, step_back, rest_spelled}
+use Rattle.lp_parser_stmt.proofs.Sound.{ender, Rest, r_over, r_expect, r_need, r_ends_function, r_ends_block, r_ends_switch, r_in_function, r_in_block, r_in_switch, r_if_only, r_if_no, r_while, r_for, r_each_body, r_do, r_reading, r_missing, r_declaring, r_each, r_stars, r_in, r_const, r_digits, r_int, r_to, r_to_digits, RestOnSome, step_back, rest_spelled}
 
 -- a whole expression ends before these marks
 abbrev pub Stops : Mark → Type 0
@@ -143,7 +142,11 @@ record Ends (st : State) : Type 0 where
 -- a statement's end
 stmt_ends : (t : StmtTree) (s : Stack) → Ends (Have t s)
 stmt_ends t (InFunction done) = record {
-  tokens = mark CloseBrace 0 ∷ []; made = stmt_trees (done ++ t ∷ []); rest = r_in_function (r_ends_function refl); no_else = refl; shallow = omega (arith, heights-push done t);
+  tokens = mark CloseBrace 0 ∷ [];
+  made = stmt_trees (done ++ t ∷ []);
+  rest = r_in_function (r_ends_function refl);
+  no_else = refl;
+  shallow = omega (arith, heights-push done t);
 }
 stmt_ends t (Inside (InBlock line done) s) =
     let q = stmt_ends (Block line (stmt_trees (done ++ t ∷ []))) s in

@@ -60,11 +60,14 @@ names_here (Valued done line n w e) = expr.least e
 names_here _ = 0
 
 -- a statement has one level, but in a block and its like none has to come
+abbrev pub frame_extra : Frame → ℕ
+frame_extra (InBlock line done) = 0
+frame_extra (InSwitch w) = 0
+frame_extra _ = 1
+
 abbrev pub extra : Stack → ℕ
 extra (InFunction done) = 0
-extra (Inside (InBlock line done) s) = 0
-extra (Inside (InSwitch w) s) = 0
-extra _ = 1
+extra (Inside f s) = frame_extra f
 
 -- the depth of what has to come at least
 abbrev pub here : State → ℕ

@@ -1,4 +1,3 @@
 pub mod Machine
 pub mod Depth
 pub mod Theorem
-pub mod View

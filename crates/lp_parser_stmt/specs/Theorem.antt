@@ -1,5 +1,5 @@
 -- What the machines of names and of statements promise those who build on them.
-use Rattle.std.specs.Prelude.{◌≡◌, ℕ, ◌≤◌, suc, max, List, [], ◌∷◌, ◌++◌, Option, Some, None}
+use Rattle.std.specs.Prelude.{◌≡◌, ℕ, ◌≤◌, suc, max, List, [], ◌∷◌, ◌++◌, Some}
 use Rattle.lp_tree.specs.declared.token.Mark.TheVariants.{Semicolon}
 use Rattle.lp_tree.specs.declared.seen.Seen.{Seen}
 use Rattle.lp_tree.specs.Seen.{mark}
@@ -25,3 +25,4 @@ pub record ReadsBlocks : Type 0 where
   pub begun : (front : List Seen) (st : State) → walk start front ≡ Some st
       → (others : List Seen) × (ss : StmtTrees) × (run st others ≡ Some (record { stmts = ss; rest = [] })) × (suc (stmt_heights ss) ≤ least st)
   pub levels : (st next : State) (x : Seen) → step st x ≡ Some next → least next ≡ max (least st) (here next)
+  pub positive : (st : State) → 1 ≤ least st

@@ -3,4 +3,3 @@
 
 pub mod class;
 pub mod law;
-pub mod names;

@@ -1,4 +1,3 @@
-
 use Rattle.lp_parser_stmt.proofs.Laws.{reads_names}
 use Rattle.lp_parser_stmt.proofs.law.names_law.Goals as goal
 
