@@ -1,0 +1,5 @@
+pub mod Complete
+pub mod Sound
+pub mod Levels
+pub mod Viable
+pub mod Main

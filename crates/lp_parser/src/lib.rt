@@ -1,0 +1,4 @@
+//! Units of LPC sources.
+#![tactic(auto)]
+
+pub mod law;

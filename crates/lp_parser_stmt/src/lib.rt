@@ -1,0 +1,5 @@
+//! Statements of LPC sources.
+#![tactic(auto)]
+
+pub mod class;
+pub mod law;
