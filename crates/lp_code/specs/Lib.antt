@@ -1,3 +1,4 @@
 pub mod Owners
 pub mod Inside
 pub mod Programs
+pub mod Slots

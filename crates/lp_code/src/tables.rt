@@ -1,6 +1,10 @@
 //! Tables of a program: which function each name means, and which variables there are.
+ghost use Rattle.std.specs.Prelude.{◌≡◌, ◌≤◌, length};
+ghost use Rattle.lp_code.specs.Slots.{first_place};
+
 use crate::listed::Listed;
 use crate::name::Name;
+use crate::slots::Slots;
 use lp_tree::path::FilePath;
 use lp_tree::pragma::Pragmas;
 use lp_tree::types::TypeName;
@@ -46,9 +50,20 @@ pub struct Tables {
     /// The version of each part, the program's own last.
     pub parts: Listed<ProgId>,
     /// Which function each name means: at most 65535 rows, of distinct names.
-    pub slots: Listed<Slot>,
+    pub slots: Slots,
     /// The variables, those of the parents first.
     pub vars: Listed<VarRow>,
     /// The pragmas of its file.
     pub pragmas: Pragmas,
+}
+
+impl Tables {
+    /// The place of the slot of a name, or None where no slot has it. Takes no memory, and no longer with more slots.
+    pub fn slot(&self, name: &str) -> Option<u16>
+        requires { length self.now.slots ≤ 65535 }
+        ensures { result ≡ first_place name.now self.now.slots }
+    {
+        let place = self.slots.place(name)?;
+        Some(place as u16)
+    }
 }

@@ -2,6 +2,7 @@
 use lp_code::listed::Listed;
 use lp_code::name::Name;
 use lp_code::program::{FunRow, RawProgram, SwitchRow};
+use lp_code::slots::Slots;
 use lp_code::tables::{Slot, Tables, VarRow};
 use lp_instr::instr::{Case, Instr};
 use lp_tree::keyword::Base;
@@ -56,7 +57,7 @@ fn tables(alloc: Global) -> Result<Tables, AllocError> {
         path: FilePath::from_str(alloc, "/a")?,
         parents: Listed::from_vec(vec![in alloc; parent]?),
         parts: Listed::from_vec(vec![in alloc; parent, ProgId(2)]?),
-        slots: Listed::from_vec(vec![in alloc; slot(alloc, "f")?]?),
+        slots: Slots::from_vec(alloc, vec![in alloc; slot(alloc, "f")?]?)?,
         vars: Listed::from_vec(vec![in alloc; variable(alloc, "a")?, variable(alloc, "b")?]?),
         pragmas: Pragmas::new(),
     })

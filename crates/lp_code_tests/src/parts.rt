@@ -2,6 +2,7 @@
 use crate::build::{fault, function, program, slot};
 use lp_code::listed::Listed;
 use lp_code::program::{FunRow, SwitchRow};
+use lp_code::slots::Slots;
 use lp_instr::instr::{Case, Instr};
 use std::alloc::{AllocError, Global};
 use std::test::Fail;
@@ -81,10 +82,13 @@ fn with_switch(
 fn tables(rt: HostRuntime) -> Result<(), Fail> {
     let a = rt.alloc();
     let mut twice = program(a, &CODE, 1)?;
-    twice.tables.slots = Listed::from_vec(vec![in a; slot(a, "f")?, slot(a, "g")?, slot(a, "f")?]?);
+    twice.tables.slots = Slots::from_vec(
+        a,
+        vec![in a; slot(a, "f")?, slot(a, "g")?, slot(a, "f")?]?,
+    )?;
     assert_eq!(rt; fault(a, twice)?, Some(4), "two slots of one name");
     let mut distinct = program(a, &CODE, 1)?;
-    distinct.tables.slots = Listed::from_vec(vec![in a; slot(a, "f")?, slot(a, "g")?]?);
+    distinct.tables.slots = Slots::from_vec(a, vec![in a; slot(a, "f")?, slot(a, "g")?]?)?;
     assert_eq!(rt; fault(a, distinct)?, None);
     assert_eq!(rt; with_switch(a, Case::Ints(0, 0, 2), 2, true)?, None);
     assert_eq!(rt; with_switch(a, Case::Text(2, 2), 2, true)?, Some(1));
@@ -94,5 +98,21 @@ fn tables(rt: HostRuntime) -> Result<(), Fail> {
         "back to no turn"
     );
     assert_eq!(rt; with_switch(a, Case::Ints(0, 0, 2), 4, true)?, Some(1));
+    Ok(())
+}
+
+#[test]
+fn slots(rt: HostRuntime) -> Result<(), Fail> {
+    let a = rt.alloc();
+    let mut raw = program(a, &CODE, 1)?;
+    raw.tables.slots = Slots::from_vec(
+        a,
+        vec![in a; slot(a, "f")?, slot(a, "g")?, slot(a, "f")?]?,
+    )?;
+    let few = raw.tables.slots.as_slice().len() <= 65535;
+    assert!(rt; few);
+    assert_eq!(rt; raw.tables.slot("f"), Some(0));
+    assert_eq!(rt; raw.tables.slot("g"), Some(1));
+    assert_eq!(rt; raw.tables.slot("h"), None);
     Ok(())
 }
