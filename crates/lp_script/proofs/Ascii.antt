@@ -5,7 +5,7 @@ use Rattle.std.specs.Str.{IsUtf8}
 use Rattle.std.proofs.lemmas.Bool.{cases_lt, ne_eqb, lt-ltb, ltb-true, le-leb, leb-true}
 use Rattle.std.proofs.lemmas.List.Sums.{list_all-from_AllPass}
 use Rattle.std.proofs.lemmas.Str.{IsUtf8-from_ascii}
-use Rattle.lp_meaning.specs.Script.{numeral, is_part_byte, AreParts, path_of, IsPath, IsObjectName}
+use Rattle.lp_events.specs.Script.{numeral, is_part_byte, AreParts, path_of, IsPath, IsObjectName}
 use Rattle.lp_words.specs.Paths.{is_path, is_name}
 use Rattle.lp_words.proofs.PathLaws.{is_path-yes, is_name-yes}
 use Rattle.lp_script.specs.Reading.{is_digit}

@@ -9,10 +9,10 @@ use Rattle.std.proofs.lemmas.List.Folds.{length-prefix_len}
 use Rattle.std.proofs.lemmas.List.Concat.{flat_map-append}
 use Rattle.std.proofs.lemmas.Str.{encodes-append}
 use Rattle.lp_io.specs.declared.put.PutFault.{PutFault}
-use Rattle.lp_meaning.specs.declared.out.Out.{Out}
-use Rattle.lp_meaning.specs.declared.out.Out.TheVariants.{Text, Hide, Show, Close, Log}
-use Rattle.lp_meaning.specs.Script.{numeral}
-use Rattle.lp_meaning.specs.Transcript.{output_spelling, before_joined, joined, block}
+use Rattle.lp_events.specs.declared.out.Out.{Out}
+use Rattle.lp_events.specs.declared.out.Out.TheVariants.{Text, Hide, Show, Close, Log}
+use Rattle.lp_events.specs.Script.{numeral}
+use Rattle.lp_events.specs.Transcript.{output_spelling, before_joined, joined, block}
 use Rattle.lp_script.specs.Put.{Told, Puts}
 use Rattle.lp_script.specs.Runs.{goes_on, text_of, texts, run_length, alone, Advances, wrote, failed}
 use Rattle.std.specs.Fmt.{decimal}

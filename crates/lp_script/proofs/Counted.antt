@@ -3,7 +3,7 @@ use Rattle.std.proofs.Common.{◌≡◌, ap, sym, refl, ◌∙◌, subst, ℕ, z
 use Rattle.std.specs.List.{list_all}
 use Rattle.std.proofs.lemmas.Bool.{cases_lt, eqb-true, lt-ltb, le-ltb}
 use Rattle.std.proofs.lemmas.List.{append-nil, length-append, length-take, take-append-drop}
-use Rattle.lp_meaning.specs.Script.{numeral, counted}
+use Rattle.lp_events.specs.Script.{numeral, counted}
 use Rattle.lp_script.specs.declared.stop.Stop.{Stop}
 use Rattle.lp_script.specs.declared.stop.Stop.TheVariants.{Short, Wrong}
 use Rattle.lp_script.specs.Reading.{stopped, passes, ended, bytes_at, counted_at}

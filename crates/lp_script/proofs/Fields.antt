@@ -5,7 +5,7 @@ use Rattle.std.specs.Ordering.{nat_cmp, is_lt}
 use Rattle.std.specs.Cmp.Lexicographic.{slice_cmp}
 use Rattle.std.specs.declared.cmp.Ordering.{Ordering}
 use Rattle.std.specs.declared.cmp.Ordering.TheVariants.{Less, Equal, Greater}
-use Rattle.lp_meaning.specs.Script.{numeral, counted, IsPath, IsObjectName}
+use Rattle.lp_events.specs.Script.{numeral, counted, IsPath, IsObjectName}
 use Rattle.lp_words.specs.Paths.{is_path, begins_path, is_name, begins_name}
 use Rattle.lp_script.specs.Reading.{is_digit, is_between, is_one_of, passes}
 use Rattle.lp_script.specs.Items.{between_at, count_at, one_of_at, path_named, path_at, name_named, name_at, file_bytes_at, line_bytes_at}

@@ -4,9 +4,9 @@ use Rattle.std.proofs.lemmas.Bool.{leb-true, le-leb, cases_lt}
 use Rattle.std.proofs.lemmas.List.{take_all, take_at, length-append, length-take, length-drop, append-nil, take-take}
 use Rattle.std.proofs.lemmas.List.Concat.{flat_map-append}
 use Rattle.std.proofs.Math.Seq.{take-add}
-use Rattle.lp_meaning.specs.declared.item.Item.{Item}
-use Rattle.lp_meaning.specs.declared.item.Item.TheVariants as items
-use Rattle.lp_meaning.specs.Script.{Context, Over, beginning, after_item, after_items, AllFit, Fits, spelling, spellings, BeginsWith, IsBegun, IsFront, IsScript, IsTooLarge, IsBadScript, longest_input}
+use Rattle.lp_events.specs.declared.item.Item.{Item}
+use Rattle.lp_events.specs.declared.item.Item.TheVariants as items
+use Rattle.lp_events.specs.Script.{Context, Over, beginning, after_item, after_items, AllFit, Fits, spelling, spellings, BeginsWith, IsBegun, IsFront, IsScript, IsTooLarge, IsBadScript, longest_input}
 use Rattle.lp_script.specs.declared.behind.Refusal.TheVariants.{Bad, Large}
 use Rattle.lp_script.specs.Behind.{Behind}
 use Rattle.lp_script.specs.Given.{Stands}

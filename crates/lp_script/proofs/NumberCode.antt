@@ -5,7 +5,7 @@ use Rattle.std.specs.Cmp.Lexicographic.{pointwise}
 use Rattle.std.specs.Fmt.{decimal}
 use Rattle.std.proofs.lemmas.Bool.{eqb-true, ne_eqb, lt-ltb, le-leb, leb-true}
 use Rattle.std.proofs.lemmas.List.{take_more}
-use Rattle.lp_meaning.specs.Script.{numeral}
+use Rattle.lp_events.specs.Script.{numeral}
 use Rattle.lp_script.specs.Reading.{is_digit, is_empty, is_numeral, value_from, number_named, is_between, reaches, begins_between, is_front, is_one_of, begins_any, before, stopped, found}
 use Rattle.lp_script.specs.Items.{count_at, between_at}
 use Rattle.lp_script.specs.declared.stop.Stop.TheVariants.{Wrong}

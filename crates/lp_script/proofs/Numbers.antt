@@ -4,7 +4,7 @@ use Rattle.std.specs.List.{list_all, list_any}
 use Rattle.std.proofs.lemmas.Bool.{cases_lt, eqb-true, lt-ltb, le-ltb, le-leb, leb-true}
 use Rattle.std.proofs.Math.Nat.{mul-le-mul_right, mul-le-mul_left}
 use Rattle.std.proofs.lemmas.List.{append-nil}
-use Rattle.lp_meaning.specs.Script.{numeral}
+use Rattle.lp_events.specs.Script.{numeral}
 use Rattle.lp_script.specs.Reading.{is_digit, is_empty, is_numeral, value_from, number_named, is_between, reaches, begins_between, begins_any, is_one_of, is_front, begins_one_of}
 use Rattle.lp_script.proofs.Numerals.{numeral_digit, numeral_step}
 use Rattle.lp_script.proofs.Exact.{Words, NotIn, eqb-same, eqb-of}

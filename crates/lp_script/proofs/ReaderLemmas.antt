@@ -4,9 +4,9 @@ use Rattle.std.specs.Bool.{⊤}
 use Rattle.std.proofs.lemmas.Bool.{cases_lt}
 use Rattle.std.proofs.lemmas.List.{take_all, length-take}
 use Rattle.std.proofs.lemmas.Grind.{common_steps}
-use Rattle.lp_meaning.specs.declared.item.Item.{Item}
-use Rattle.lp_meaning.specs.declared.item.Item.TheVariants as items
-use Rattle.lp_meaning.specs.Script.{Context, Over as over, after_item, longest_input, IsScript}
+use Rattle.lp_events.specs.declared.item.Item.{Item}
+use Rattle.lp_events.specs.declared.item.Item.TheVariants as items
+use Rattle.lp_events.specs.Script.{Context, Over as over, after_item, longest_input, IsScript}
 use Rattle.lp_script.specs.declared.behind.Refusal.TheVariants.{Large}
 use Rattle.lp_script.specs.declared.fault.ScriptFault.{ScriptFault}
 use Rattle.lp_script.specs.declared.fault.ScriptFault.TheVariants as faults
@@ -102,7 +102,7 @@ reads_at bytes taken cut at before Giving told stays input left = (input, left)
 reads_at bytes taken cut at before (Over Whole) told stays input left = (input, left)
 reads_at bytes taken cut at before (Over (endings.Bad n)) told stays input left = (input, left)
 reads_at bytes taken cut at before (Over endings.Large) told stays input left = (input, left)
-reads_at bytes taken cut at before (Over endings.Failed) told stays input left = tt
+reads_at bytes taken cut at before (Over endings.Failed) told stays input left = left
 
 -- where a reader stands, told apart
 abbrev IsGiving : Phase → Type 0

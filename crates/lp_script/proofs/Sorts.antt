@@ -8,10 +8,10 @@ use Rattle.std.specs.declared.cmp.Ordering.TheVariants.{Less}
 use Rattle.std.proofs.lemmas.Bool.{eqb-true, ltb-true, ltb-false, le-leb, leb-true}
 use Rattle.std.proofs.lemmas.List.Sums.{AllPass-from_list_all, list_all-from_AllPass}
 use Rattle.std.proofs.lemmas.Map.Views.{Contains-from_any, list_any-from_Contains}
-use Rattle.lp_meaning.specs.declared.event.Event.TheVariants.{Connect, Line, Gone, Tick, Reload, Swap}
-use Rattle.lp_meaning.specs.declared.item.Item.{Item}
-use Rattle.lp_meaning.specs.declared.item.Item.TheVariants as items
-use Rattle.lp_meaning.specs.Script.{numeral, event_spelling, spelling, IsPath, IsObjectName, path_of, is_line_byte, Context, Stage, Beginning, Filing, Running, Over, Fits}
+use Rattle.lp_events.specs.declared.event.Event.TheVariants.{Connect, Line, Gone, Tick, Reload, Swap}
+use Rattle.lp_events.specs.declared.item.Item.{Item}
+use Rattle.lp_events.specs.declared.item.Item.TheVariants as items
+use Rattle.lp_events.specs.Script.{numeral, event_spelling, spelling, IsPath, IsObjectName, path_of, is_line_byte, Context, Stage, Beginning, Filing, Running, Over, Fits}
 use Rattle.lp_words.specs.Paths.{begins_path}
 use Rattle.lp_script.specs.Reading.{is_between, is_one_of, passes, pair_at, after, made, either, none_at}
 use Rattle.lp_script.specs.Items.{last_moment, last_seed, last_number, between_at, path_at, file_bytes_at, head_at, file_at, start_at, connect_at, line_at, gone_at, tick_at, reload_at, swap_at, end_at, running_at, stage_at, item_at}

@@ -1,6 +1,6 @@
 -- What stands before an item, in the words of the definition.
-use Rattle.lp_meaning.specs.Script.{Context}
-use Rattle.lp_meaning.specs.Script as script
+use Rattle.lp_events.specs.Script.{Context}
+use Rattle.lp_events.specs.Script as script
 use Rattle.lp_script.specs.declared.before.Before.{Before}
 use Rattle.lp_script.specs.declared.before.Stage.{Stage}
 use Rattle.lp_script.specs.declared.before.Stage.TheVariants.{Beginning, Filing, Running, Over}

@@ -1,7 +1,7 @@
 -- What stands at a place of a script.
 use Rattle.std.specs.Prelude.{◌≡◌, ℕ, ◌<◌, ◌≤◌, List, ◌++◌, length, drop, Bool, true, false, Result, Ok, Err, ◌⊎◌}
-use Rattle.lp_meaning.specs.declared.item.Item.{Item}
-use Rattle.lp_meaning.specs.Script.{Context, Fits, spelling, BeginsWith, IsBegun}
+use Rattle.lp_events.specs.declared.item.Item.{Item}
+use Rattle.lp_events.specs.Script.{Context, Fits, spelling, BeginsWith, IsBegun}
 use Rattle.lp_script.specs.declared.behind.Refusal.{Refusal}
 use Rattle.lp_script.specs.declared.behind.Refusal.TheVariants.{NoMemory, Bad, Large}
 

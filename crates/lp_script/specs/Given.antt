@@ -1,7 +1,7 @@
 -- What was read of a script so far.
 use Rattle.std.specs.Prelude.{◌≡◌, ℕ, ◌+◌, ◌≤◌, List, length, take}
-use Rattle.lp_meaning.specs.declared.item.Item.{Item}
-use Rattle.lp_meaning.specs.Script.{Context, beginning, after_items, AllFit, spellings}
+use Rattle.lp_events.specs.declared.item.Item.{Item}
+use Rattle.lp_events.specs.Script.{Context, beginning, after_items, AllFit, spellings}
 
 -- Of bytes, of which a script may have this many, at most one more was taken; these items are spelled up to a
 -- place, each fitting after those before it, and this stands before the next one.

@@ -3,10 +3,10 @@ use Rattle.std.specs.Borrow.{Bor}
 use Rattle.std.specs.Prelude.{◌≡◌, ◌-◌, ◌^◌, min, Ok, Err, ℕ, ◌+◌, List, [], true, false, ◌&&◌, nat_le, nat_lt, Option, Some, None, Result, if◌then◌else◌, codes}
 use Rattle.std.specs.Ordering.{nat_cmp, is_lt}
 use Rattle.std.specs.Cmp.Lexicographic.{slice_cmp}
-use Rattle.lp_meaning.specs.declared.event.Event.TheVariants.{Connect, Line, Gone, Tick, Reload, Swap}
-use Rattle.lp_meaning.specs.declared.item.Item.{Item}
-use Rattle.lp_meaning.specs.declared.item.Item.TheVariants as items
-use Rattle.lp_meaning.specs.Script.{Context, Stage, Beginning, Filing, Running, Over}
+use Rattle.lp_events.specs.declared.event.Event.TheVariants.{Connect, Line, Gone, Tick, Reload, Swap}
+use Rattle.lp_events.specs.declared.item.Item.{Item}
+use Rattle.lp_events.specs.declared.item.Item.TheVariants as items
+use Rattle.lp_events.specs.Script.{Context, Stage, Beginning, Filing, Running, Over}
 use Rattle.lp_script.specs.declared.stop.Stop.{Stop}
 use Rattle.lp_script.specs.declared.stop.ReadError.{ReadError}
 use Rattle.lp_words.specs.Paths.{is_path, begins_path, is_name, begins_name}

@@ -1,9 +1,9 @@
 -- A reader of scripts, as a caller sees it.
 use Rattle.std.specs.Prelude.{◌≡◌, ℕ, ◌+◌, ◌<◌, ◌≤◌, List, [], ◌∷◌, ◌++◌, length, take, drop, nat_le, Bool, true, false, Option, Some, None, Result, Ok, Err, ⊤, ◌⊎◌}
 use Rattle.lp_io.specs.Told.{before_giving}
-use Rattle.lp_meaning.specs.declared.item.Item.{Item}
-use Rattle.lp_meaning.specs.declared.item.Item.TheVariants as items
-use Rattle.lp_meaning.specs.Script.{Context, Over as over, beginning, after_item, after_items, Fits, AllFit, spelling, spellings, longest_input, IsBadScript, IsTooLarge}
+use Rattle.lp_events.specs.declared.item.Item.{Item}
+use Rattle.lp_events.specs.declared.item.Item.TheVariants as items
+use Rattle.lp_events.specs.Script.{Context, Over as over, beginning, after_item, after_items, Fits, AllFit, spelling, spellings, longest_input, IsBadScript, IsTooLarge}
 use Rattle.lp_script.specs.Behind.{Behind}
 use Rattle.lp_script.specs.declared.behind.Refusal.TheVariants as refusals
 use Rattle.lp_script.specs.declared.fault.ScriptFault.{ScriptFault}
@@ -55,8 +55,12 @@ abbrev pub Reads : List ℕ → Reading → Option (List ℕ) → Type 0
 Reads bytes r told = elim r.phase [
   | Taking ↦ before_giving r.taken told ≡ Some bytes
   | Giving ↦ IsInput bytes r.taken × (before_giving r.taken told ≡ Some bytes)
-  | Over ending ↦ elim ending [ Failed ↦ ⊤ | _ ↦ IsInput bytes r.taken × (before_giving r.taken told ≡ Some bytes) ]
+  | Over ending ↦ elim ending [ Failed ↦ before_giving r.taken told ≡ Some bytes | _ ↦ IsInput bytes r.taken × (before_giving r.taken told ≡ Some bytes) ]
 ]
+
+-- at most the bytes of the longest script and one more are gone from the front of an input
+abbrev pub GoneAtMost : List ℕ → Option (List ℕ) → Type 0
+GoneAtMost bytes told = (n : ℕ) × (n ≤ longest_input + 1) × (told ≡ Some (drop n bytes))
 
 -- where a reader is after an answer
 abbrev pub IsAfter : Result Item ScriptFault → Phase → Type 0

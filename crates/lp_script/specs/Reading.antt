@@ -1,7 +1,7 @@
 -- Reading items from left to right: a field is a value and the bytes behind it, or the bytes ran out, or are wrong.
 use Rattle.std.specs.Prelude.{◌≡◌, ℕ, zero, suc, ◌+◌, ◌*◌, ◌-◌, List, [], ◌∷◌, length, take, drop, Bool, true, false, not, ◌==◌, ◌&&◌, ◌||◌, nat_le, nat_lt, Option, Some, None, Result, Ok, Err, if◌then◌else◌, take_while}
 use Rattle.std.specs.List.{list_all, list_any}
-use Rattle.lp_meaning.specs.Script.{numeral, is_line_byte}
+use Rattle.lp_events.specs.Script.{numeral, is_line_byte}
 use Rattle.lp_script.specs.declared.stop.Stop.{Stop}
 use Rattle.lp_script.specs.declared.stop.Stop.TheVariants.{Short, Wrong}
 use Rattle.lp_script.specs.declared.stop.ReadError.{ReadError}

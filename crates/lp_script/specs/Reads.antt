@@ -1,8 +1,8 @@
 -- What a reader of one item answers, in the words of the definition.
 use Rattle.std.specs.Prelude.{◌≡◌, ℕ, List, ◌++◌, Result, Ok, Err}
 use Rattle.std.specs.Borrow.{Bor}
-use Rattle.lp_meaning.specs.declared.item.Item.{Item}
-use Rattle.lp_meaning.specs.Script.{Context, Fits, spelling, BeginsWith, IsBegun}
+use Rattle.lp_events.specs.declared.item.Item.{Item}
+use Rattle.lp_events.specs.Script.{Context, Fits, spelling, BeginsWith, IsBegun}
 use Rattle.lp_script.specs.declared.stop.Stop.TheVariants.{Short, Wrong}
 use Rattle.lp_script.specs.declared.stop.ReadError.{ReadError}
 use Rattle.lp_script.specs.declared.stop.ReadError.TheVariants as errors

@@ -1,10 +1,10 @@
 -- Runs of texts: the outputs that give one text of a transcript.
 use Rattle.std.specs.Prelude.{◌≡◌, ℕ, ◌<◌, ◌≤◌, ◌||◌, List, [], ◌∷◌, ◌++◌, length, drop, flat_map, take_while, nat_eq, Bool, true, false, Result, Ok, Err}
 use Rattle.lp_io.specs.declared.put.PutFault.{PutFault}
-use Rattle.lp_meaning.specs.Transcript.{output_spelling, block}
+use Rattle.lp_events.specs.Transcript.{output_spelling, block}
 use Rattle.lp_script.specs.Put.{Told, Puts}
-use Rattle.lp_meaning.specs.declared.out.Out.{Out}
-use Rattle.lp_meaning.specs.declared.out.Out.TheVariants.{Text, Hide, Show, Close, Log}
+use Rattle.lp_events.specs.declared.out.Out.{Out}
+use Rattle.lp_events.specs.declared.out.Out.TheVariants.{Text, Hide, Show, Close, Log}
 
 -- there is nothing in a text
 abbrev pub is_empty : List ℕ → Bool

@@ -1,12 +1,12 @@
 //! What stands before the item after another.
 ghost use Rattle.std.specs.Prelude.{◌≡◌, IfOk, OnOk, OnErr};
-ghost use Rattle.lp_meaning.specs.Script.{beginning, after_item, after_event};
+ghost use Rattle.lp_events.specs.Script.{beginning, after_item, after_event};
 ghost use Rattle.lp_script.specs.Before.{context_of};
 
 use crate::before::{Before, Stage};
 use crate::connections::Connections;
-use lp_meaning::event::Event;
-use lp_meaning::item::Item;
+use lp_events::event::Event;
+use lp_events::item::Item;
 use std::alloc::{AllocError, Global};
 
 /// Before the first item. It takes no memory.

@@ -6,7 +6,7 @@ ghost use Rattle.lp_script.specs.Behind.{Behind};
 use crate::before::Before;
 use crate::items::read_item;
 use crate::stop::{ReadError, Stop};
-use lp_meaning::item::Item;
+use lp_events::item::Item;
 use std::alloc::Global;
 
 /// Why no item is given.

@@ -3,15 +3,15 @@ ghost use Rattle.std.specs.Prelude.{◌≡◌, ◌≤◌, ◌<◌, ◌^◌, OnOk
 ghost use Rattle.std.specs.Str.{encode_utf8_all};
 ghost use Rattle.lp_io.specs.Counts.{Counts};
 ghost use Rattle.lp_io.specs.Told.{after_adding, IsCut, is_failed, is_zero_taken};
-ghost use Rattle.lp_meaning.specs.Transcript.{block, output_spelling};
-ghost use Rattle.lp_meaning.specs.declared.out.Out.TheVariants.{Text as the_text, Log as the_log};
+ghost use Rattle.lp_events.specs.Transcript.{block, output_spelling};
+ghost use Rattle.lp_events.specs.declared.out.Out.TheVariants.{Text as the_text, Log as the_log};
 ghost use Rattle.lp_script.specs.Put.{Puts};
 ghost use Rattle.lp_script.specs.Runs.{goes_on as goes_on_lem, text_of as text_of_lem, texts, run_length, alone, Advances};
 
 use crate::put::{put, put_chars, put_pieces};
 use itoa::Buffer;
+use lp_events::out::{Out, Outs};
 use lp_io::{PutFault, Sink};
-use lp_meaning::out::{Out, Outs};
 
 // How many bytes these characters have in UTF-8.
 fn utf8_len(chars: &[char]) -> u128

@@ -1,8 +1,8 @@
 //! Laws of scripts.
 ghost use Rattle.std.specs.Prelude.{◌≡◌, ◌<◌, ◌≤◌, ◌++◌, ◌∷◌, [], ℕ, List, Err, nat_le, true, false, length, take, drop};
-ghost use Rattle.lp_meaning.specs.declared.item.Item.{Item as I};
-ghost use Rattle.lp_meaning.specs.declared.item.Item.TheVariants.{End as the_end};
-ghost use Rattle.lp_meaning.specs.Script.{Context, Over, Fits, spelling, after_item, longest_input, IsScript, IsTooLarge, IsBadScript};
+ghost use Rattle.lp_events.specs.declared.item.Item.{Item as I};
+ghost use Rattle.lp_events.specs.declared.item.Item.TheVariants.{End as the_end};
+ghost use Rattle.lp_events.specs.Script.{Context, Over, Fits, spelling, after_item, longest_input, IsScript, IsTooLarge, IsBadScript};
 ghost use Rattle.lp_script.specs.declared.behind.Refusal.TheVariants.{Bad, Large};
 ghost use Rattle.lp_script.specs.Behind.{Behind};
 ghost use Rattle.lp_script.specs.Given.{Stands};

@@ -1,7 +1,7 @@
 //! Numbers as words.
 ghost use Rattle.std.specs.Prelude.{◌≡◌, ◌-◌, ◌^◌, min};
 ghost use Rattle.std.specs.List.{list_all};
-ghost use Rattle.lp_meaning.specs.Script.{numeral};
+ghost use Rattle.lp_events.specs.Script.{numeral};
 ghost use Rattle.lp_script.specs.Reading.{is_digit, is_numeral as is_numeral_lem, value_from, number_named, is_between, reaches as reaches_lem, begins_between as begins_between_lem, begins_any as begins_any_lem, is_front};
 
 use itoa::Buffer;

@@ -1,9 +1,9 @@
 //! The reader of scripts.
 ghost use Rattle.std.specs.Prelude.{◌≡◌, ◌≢◌, ℕ, ◌+◌, ◌≤◌, List, [], ◌∷◌, ◌++◌, length, take, nat_le, IfOk, IfErr, OnErr, is_ok, if◌then◌else◌};
 ghost use Rattle.lp_io.specs.Counts.{Counts};
-ghost use Rattle.lp_meaning.specs.declared.item.Item.{Item as I};
-ghost use Rattle.lp_meaning.specs.declared.item.Item.TheVariants.{End as the_end};
-ghost use Rattle.lp_meaning.specs.Script.{IsScript, longest_input};
+ghost use Rattle.lp_events.specs.declared.item.Item.{Item as I};
+ghost use Rattle.lp_events.specs.declared.item.Item.TheVariants.{End as the_end};
+ghost use Rattle.lp_events.specs.Script.{IsScript, longest_input};
 ghost use Rattle.lp_script.specs.declared.phase.Ending.{Ending as E};
 ghost use Rattle.lp_script.specs.declared.phase.Phase.TheVariants.{Taking, Giving, Over};
 
@@ -13,8 +13,8 @@ use crate::behind::{Refusal, item_behind};
 use crate::fault::ScriptFault;
 use crate::phase::{Ending, Phase};
 use crate::taking::{LONGEST, TakeFault, take_all};
+use lp_events::item::Item;
 use lp_io::Source;
-use lp_meaning::item::Item;
 use std::alloc::Global;
 use std::marker::Model;
 

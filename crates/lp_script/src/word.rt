@@ -4,7 +4,7 @@ ghost use Rattle.std.specs.List.{list_all};
 ghost use Rattle.lp_script.specs.Reading.{Gives, before as before_lem, text_at as text_at_lem, passes as passes_lem, bytes_at as bytes_at_lem};
 
 use crate::stop::{ReadError, Stop};
-use lp_meaning::octets::Octets;
+use lp_events::octets::Octets;
 use std::alloc::Global;
 
 /// The text, and what is behind it.

@@ -2,14 +2,14 @@
 ghost use Rattle.std.specs.Prelude.{◌≡◌, ◌≤◌, OnOk, OnErr};
 ghost use Rattle.lp_io.specs.Counts.{Counts};
 ghost use Rattle.lp_io.specs.Told.{after_adding, IsCut, is_failed, is_zero_taken};
-ghost use Rattle.lp_meaning.specs.Script.{spelling, event_spelling};
+ghost use Rattle.lp_events.specs.Script.{spelling, event_spelling};
 ghost use Rattle.lp_script.specs.Put.{Puts};
 
 use crate::put::put_pieces;
 use itoa::Buffer;
+use lp_events::event::Event;
+use lp_events::item::Item;
 use lp_io::{PutFault, Sink};
-use lp_meaning::event::Event;
-use lp_meaning::item::Item;
 
 fn put_event<K: Sink>(out: &mut K, event: &Event) -> Result<(), PutFault>
     ensures { Puts (record { written = K.written out.old; faults = K.faults out.old; zeros = K.zeros out.old })

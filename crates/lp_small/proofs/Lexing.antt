@@ -5,10 +5,10 @@ use Rattle.std.proofs.lemmas.Grind.{common_steps}
 use Rattle.std.specs.List.{prefix_len}
 use Rattle.std.proofs.lemmas.List.Sums.{prefix_len_passes}
 use Rattle.std.proofs.lemmas.List.{get_or-take, length-take}
-use Rattle.lp_meaning.specs.declared.small.Kind.{Kind}
-use Rattle.lp_meaning.specs.declared.small.Kind.TheVariants.{Wrong}
-use Rattle.lp_meaning.specs.declared.small.Token.{Token}
-use Rattle.lp_meaning.specs.Small.{text_kind, word_kind, number_kind, mark_kind, front_of, text_at, with_byte, escaped_byte, token_at, tokens_from, tokens_of, is_letter, is_digit, is_word_byte, past, is_blank}
+use Rattle.lp_small.specs.declared.small.Kind.{Kind}
+use Rattle.lp_small.specs.declared.small.Kind.TheVariants.{Wrong}
+use Rattle.lp_small.specs.declared.small.Token.{Token}
+use Rattle.lp_small.specs.Small.{text_kind, word_kind, number_kind, mark_kind, front_of, text_at, with_byte, escaped_byte, token_at, tokens_from, tokens_of, is_letter, is_digit, is_word_byte, past, is_blank}
 use Rattle.lp_small.specs.declared.lexer.Scanned.{Scanned}
 use Rattle.lp_small.specs.declared.lexer.Scanned.TheVariants.{Adds, Escapes, Ends, Breaks}
 use Rattle.lp_small.specs.Views.{scan_of}

@@ -1,10 +1,10 @@
 -- The line of a token.
 use Rattle.std.proofs.Common.{subst, ◌≡◌, ◌∙◌, ◌<◌, ◌≤◌, ◌-◌, ◌+◌, ℕ, zero, suc, List, [], ◌∷◌, length, get_or, Some, refl, sym, ap, arith, rules, slice_get}
-use Rattle.lp_meaning.specs.declared.small.Token.{Token}
+use Rattle.lp_small.specs.declared.small.Token.{Token}
 use Rattle.lp_tree.specs.declared.fault.FaultKind.TheVariants as faults
-use Rattle.lp_meaning.specs.Small.{line_at, kinds_of, tokens_of, IsUnexpected}
-use Rattle.lp_meaning.specs.World.{master_path}
-use Rattle.lp_meaning.specs.Run.{MakesNoneFrom, unexpected}
+use Rattle.lp_small.specs.Small.{line_at, kinds_of, tokens_of, IsUnexpected}
+use Rattle.lp_small.specs.World.{master_path}
+use Rattle.lp_small.specs.Run.{MakesNoneFrom, unexpected}
 
 pub line-within : (ts : List Token) (at : ℕ) (t : Token) → at < length ts → t ≡ get_or ts at t → t.line ≡ line_at ts at
 line-within [] at t l e = absurd (omega arith)

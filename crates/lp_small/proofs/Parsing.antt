@@ -3,16 +3,16 @@ use Rattle.std.proofs.Common.{subst, ◌<◌, ◌+◌, length, take, get_or, ari
 use Rattle.std.proofs.lemmas.List.{append-nil, take_more}
 use Rattle.std.proofs.Math.Seq.{take-length}
 use Rattle.std.specs.Prelude.{is_none, option_and_then, if◌then◌else◌}
-use Rattle.lp_meaning.specs.declared.small.Kind.{Kind}
-use Rattle.lp_meaning.specs.declared.small.Kind.TheVariants as kinds
-use Rattle.lp_meaning.specs.declared.small.Literal.{Literal}
-use Rattle.lp_meaning.specs.declared.small.Literal.TheVariants.{Int, Text, ThisObject}
-use Rattle.lp_meaning.specs.declared.small.Statement.{Statement}
-use Rattle.lp_meaning.specs.declared.small.Statement.TheVariants.{Write, Return}
-use Rattle.lp_meaning.specs.declared.small.Applied.{Applied}
-use Rattle.lp_meaning.specs.declared.small.Applied.TheVariants.{Connect, Logon}
-use Rattle.lp_meaning.specs.declared.small.Function.{Function}
-use Rattle.lp_meaning.specs.Small.{function_of, same_name, value_kinds, statement_kinds, statements_kinds, function_kinds, unit_kinds, HasEachOnce, IsUnit, IsUnexpected, Begins}
+use Rattle.lp_small.specs.declared.small.Kind.{Kind}
+use Rattle.lp_small.specs.declared.small.Kind.TheVariants as kinds
+use Rattle.lp_small.specs.declared.small.Literal.{Literal}
+use Rattle.lp_small.specs.declared.small.Literal.TheVariants.{Int, Text, ThisObject}
+use Rattle.lp_small.specs.declared.small.Statement.{Statement}
+use Rattle.lp_small.specs.declared.small.Statement.TheVariants.{Write, Return}
+use Rattle.lp_small.specs.declared.small.Applied.{Applied}
+use Rattle.lp_small.specs.declared.small.Applied.TheVariants.{Connect, Logon}
+use Rattle.lp_small.specs.declared.small.Function.{Function}
+use Rattle.lp_small.specs.Small.{function_of, same_name, value_kinds, statement_kinds, statements_kinds, function_kinds, unit_kinds, HasEachOnce, IsUnit, IsUnexpected, Begins}
 use Rattle.lp_small.specs.declared.parser.Purpose.{Purpose}
 use Rattle.lp_small.specs.declared.parser.Purpose.TheVariants.{Writes, Returns}
 use Rattle.lp_small.specs.declared.parser.Spot.{Spot}

@@ -3,20 +3,20 @@ use Rattle.std.proofs.Common.{◌≡◌, ◌∙◌, ℕ, zero, suc, pos, negsuc,
 use Rattle.std.specs.Prelude.{Result, Ok, Err, OnOk, if◌then◌else◌, is_some, filter, ◌||◌, ◌==◌}
 use Rattle.lp_values.specs.declared.value.Value.{Value}
 use Rattle.lp_values.specs.declared.value.Value.TheVariants as values
-use Rattle.lp_meaning.specs.declared.event.Event.TheVariants as events
-use Rattle.lp_meaning.specs.declared.out.Out.{Out}
-use Rattle.lp_meaning.specs.declared.out.Out.TheVariants as outs
-use Rattle.lp_meaning.specs.declared.small.Literal.{Literal}
-use Rattle.lp_meaning.specs.declared.small.Literal.TheVariants.{Int, Text, ThisObject}
-use Rattle.lp_meaning.specs.declared.small.Statement.{Statement}
-use Rattle.lp_meaning.specs.declared.small.Statement.TheVariants.{Write, Return}
-use Rattle.lp_meaning.specs.declared.small.Applied.{Applied}
-use Rattle.lp_meaning.specs.declared.small.Applied.TheVariants.{Connect, Logon}
-use Rattle.lp_meaning.specs.declared.small.Function.{Function}
-use Rattle.lp_meaning.specs.Small.{function_of}
-use Rattle.lp_meaning.specs.World.{World, master, functions_of, with_connection, without_connection, number_of, object_of}
-use Rattle.lp_meaning.specs.SmallLanguage.{Env, Ran, eval, written, told, exec, applied, is_zero, after}
-use Rattle.lp_meaning.specs.Run.{turn, Turned, connected, logged_on, free_object, commanded, what}
+use Rattle.lp_events.specs.declared.event.Event.TheVariants as events
+use Rattle.lp_events.specs.declared.out.Out.{Out}
+use Rattle.lp_events.specs.declared.out.Out.TheVariants as outs
+use Rattle.lp_small.specs.declared.small.Literal.{Literal}
+use Rattle.lp_small.specs.declared.small.Literal.TheVariants.{Int, Text, ThisObject}
+use Rattle.lp_small.specs.declared.small.Statement.{Statement}
+use Rattle.lp_small.specs.declared.small.Statement.TheVariants.{Write, Return}
+use Rattle.lp_small.specs.declared.small.Applied.{Applied}
+use Rattle.lp_small.specs.declared.small.Applied.TheVariants.{Connect, Logon}
+use Rattle.lp_small.specs.declared.small.Function.{Function}
+use Rattle.lp_small.specs.Small.{function_of}
+use Rattle.lp_small.specs.World.{World, master, functions_of, with_connection, without_connection, number_of, object_of}
+use Rattle.lp_small.specs.SmallLanguage.{Env, Ran, eval, written, told, exec, applied, is_zero, after}
+use Rattle.lp_small.specs.Run.{turn, Turned, connected, logged_on, free_object, commanded, what}
 use Rattle.lp_small.specs.declared.live.Live.{Live}
 use Rattle.lp_small.specs.Running.{world_of, literal_text, said, Given, ran, ran_of, is_zero_literal, is_this, Connected, logon_of, connect_of, line_of_connection, option_eq, with_connected}
 

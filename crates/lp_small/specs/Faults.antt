@@ -1,12 +1,12 @@
 -- What the parser's refusals say.
 use Rattle.std.specs.Prelude.{ℕ, List, Option, None}
 use Rattle.lp_tree.specs.declared.fault.FaultKind.TheVariants as faults
-use Rattle.lp_meaning.specs.World.{master_path}
-use Rattle.lp_meaning.specs.Run.{MakesNoneFrom}
+use Rattle.lp_small.specs.World.{master_path}
+use Rattle.lp_small.specs.Run.{MakesNoneFrom}
 use Rattle.lp_small.specs.declared.live.StartFault.{StartFault}
 use Rattle.lp_small.specs.declared.live.StartFault.TheVariants as starts
-use Rattle.lp_meaning.specs.declared.small.Kind.{Kind}
-use Rattle.lp_meaning.specs.Small.{IsUnexpected}
+use Rattle.lp_small.specs.declared.small.Kind.{Kind}
+use Rattle.lp_small.specs.Small.{IsUnexpected}
 use Rattle.lp_small.specs.declared.parser.ParseFault.{ParseFault}
 use Rattle.lp_small.specs.declared.parser.ParseFault.TheVariants.{Unexpected, NoMemory}
 

@@ -1,15 +1,15 @@
 -- The machine that reads the small language's tokens, one at a time.
 use Rattle.std.specs.Prelude.{◌≡◌, ℕ, List, [], ◌∷◌, ◌++◌, Bool, true, false, is_none, Option, Some, None, if◌then◌else◌, option_and_then}
-use Rattle.lp_meaning.specs.declared.small.Kind.{Kind}
-use Rattle.lp_meaning.specs.declared.small.Kind.TheVariants as kinds
-use Rattle.lp_meaning.specs.declared.small.Literal.{Literal}
-use Rattle.lp_meaning.specs.declared.small.Literal.TheVariants.{Int, Text, ThisObject}
-use Rattle.lp_meaning.specs.declared.small.Statement.{Statement}
-use Rattle.lp_meaning.specs.declared.small.Statement.TheVariants.{Write, Return}
-use Rattle.lp_meaning.specs.declared.small.Applied.{Applied}
-use Rattle.lp_meaning.specs.declared.small.Applied.TheVariants.{Connect, Logon}
-use Rattle.lp_meaning.specs.declared.small.Function.{Function}
-use Rattle.lp_meaning.specs.Small.{function_of}
+use Rattle.lp_small.specs.declared.small.Kind.{Kind}
+use Rattle.lp_small.specs.declared.small.Kind.TheVariants as kinds
+use Rattle.lp_small.specs.declared.small.Literal.{Literal}
+use Rattle.lp_small.specs.declared.small.Literal.TheVariants.{Int, Text, ThisObject}
+use Rattle.lp_small.specs.declared.small.Statement.{Statement}
+use Rattle.lp_small.specs.declared.small.Statement.TheVariants.{Write, Return}
+use Rattle.lp_small.specs.declared.small.Applied.{Applied}
+use Rattle.lp_small.specs.declared.small.Applied.TheVariants.{Connect, Logon}
+use Rattle.lp_small.specs.declared.small.Function.{Function}
+use Rattle.lp_small.specs.Small.{function_of}
 use Rattle.lp_small.specs.declared.parser.Purpose.{Purpose}
 use Rattle.lp_small.specs.declared.parser.Purpose.TheVariants.{Writes, Returns}
 use Rattle.lp_small.specs.declared.parser.Spot.{Spot}

@@ -1,18 +1,18 @@
 -- What running the master's functions gives, and the world that a state stands for.
 use Rattle.std.specs.Prelude.{◌≡◌, ℕ, zero, suc, pos, negsuc, List, [], ◌∷◌, ◌++◌, Bool, true, false, not, nat_eq, ◌==◌, ◌||◌, if◌then◌else◌, length, is_some, Option, Some, None}
 use Rattle.std.specs.Fmt.{signed_decimal}
-use Rattle.lp_meaning.specs.declared.out.Out.{Out}
-use Rattle.lp_meaning.specs.declared.out.Out.TheVariants as outs
-use Rattle.lp_meaning.specs.declared.small.Literal.{Literal}
-use Rattle.lp_meaning.specs.declared.small.Literal.TheVariants.{Int, Text, ThisObject}
-use Rattle.lp_meaning.specs.declared.small.Statement.{Statement}
-use Rattle.lp_meaning.specs.declared.small.Statement.TheVariants.{Write, Return}
-use Rattle.lp_meaning.specs.declared.small.Applied.{Applied}
-use Rattle.lp_meaning.specs.declared.small.Applied.TheVariants.{Connect, Logon}
-use Rattle.lp_meaning.specs.Run.{what}
-use Rattle.lp_meaning.specs.declared.small.Function.{Function}
-use Rattle.lp_meaning.specs.Small.{function_of}
-use Rattle.lp_meaning.specs.World.{World, Connection, master, master_name}
+use Rattle.lp_events.specs.declared.out.Out.{Out}
+use Rattle.lp_events.specs.declared.out.Out.TheVariants as outs
+use Rattle.lp_small.specs.declared.small.Literal.{Literal}
+use Rattle.lp_small.specs.declared.small.Literal.TheVariants.{Int, Text, ThisObject}
+use Rattle.lp_small.specs.declared.small.Statement.{Statement}
+use Rattle.lp_small.specs.declared.small.Statement.TheVariants.{Write, Return}
+use Rattle.lp_small.specs.declared.small.Applied.{Applied}
+use Rattle.lp_small.specs.declared.small.Applied.TheVariants.{Connect, Logon}
+use Rattle.lp_small.specs.Run.{what}
+use Rattle.lp_small.specs.declared.small.Function.{Function}
+use Rattle.lp_small.specs.Small.{function_of}
+use Rattle.lp_small.specs.World.{World, Connection, master, master_name}
 use Rattle.lp_small.specs.declared.live.Live.{Live}
 
 -- the connections of a master that has this one, if it has one

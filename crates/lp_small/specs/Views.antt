@@ -4,7 +4,7 @@ use Rattle.std.specs.Borrow.{Bor}
 use Rattle.std.specs.declared.alloc.Global.{Global}
 use Rattle.lp_small.specs.declared.lexer.Scanned.{Scanned}
 use Rattle.lp_small.specs.declared.lexer.Scanned.TheVariants.{Adds, Escapes, Ends, Breaks}
-use Rattle.lp_meaning.specs.Small.{escaped_byte}
+use Rattle.lp_small.specs.Small.{escaped_byte}
 
 -- a text's bytes, and the bytes after it
 abbrev pub text_seen : Option (Vec ℕ Global × Bor (List ℕ)) → Option (List ℕ × List ℕ)

@@ -3,10 +3,10 @@ ghost use Rattle.std.specs.Prelude.{◌≡◌, ◌<◌, ◌≤◌, ◌^◌, ◌+
 ghost use Rattle.std.specs.List.{prefix_len, AllPass};
 ghost use Rattle.std.specs.Str.Parse.{digits_value};
 ghost use Rattle.std.specs.Char.{digit_value};
-ghost use Rattle.lp_meaning.specs.Small.{is_blank as blank, is_digit as digit_byte, is_letter as letter, is_word_byte as word_byte, word_kind as kind_of_word, is_type_word as type_word, number_kind as kind_of_number, mark_kind as kind_of_mark, text_kind as kind_of_text, escaped_byte as escape, text_at, token_at, tokens_of, front_of, past};
+ghost use Rattle.lp_small.specs.Small.{is_blank as blank, is_digit as digit_byte, is_letter as letter, is_word_byte as word_byte, word_kind as kind_of_word, is_type_word as type_word, number_kind as kind_of_number, mark_kind as kind_of_mark, text_kind as kind_of_text, escaped_byte as escape, text_at, token_at, tokens_of, front_of, past};
 ghost use Rattle.lp_small.specs.Views.{text_seen, scan_of};
 
-use lp_meaning::small::{Applied, Kind, Token};
+use crate::small::{Applied, Kind, Token};
 use lp_values::text::Text;
 use std::alloc::{AllocError, Global};
 

@@ -5,3 +5,4 @@
 pub mod lexer;
 pub mod live;
 pub mod parser;
+pub mod small;

@@ -2,17 +2,17 @@
 ghost use Rattle.std.specs.Prelude.{◌≡◌, ◌++◌, ◌∷◌, [], ◌<◌, ◌-◌, ◌^◌, ◌↔◌, IfOk, IfErr, OnOk, OnErr, IsTrue, Some, None, length};
 ghost use Rattle.std.specs.Option.{option_map, option_copied, ForSome};
 ghost use Rattle.std.specs.Str.{chars};
-ghost use Rattle.lp_meaning.specs.Small.{function_of, kinds_of, tokens_of, line_at as line_of};
-ghost use Rattle.lp_meaning.specs.World.{master_name};
-ghost use Rattle.lp_meaning.specs.Run.{StartsFrom, turn as meaning, what};
+ghost use Rattle.lp_small.specs.Small.{function_of, kinds_of, tokens_of, line_at as line_of};
+ghost use Rattle.lp_small.specs.World.{master_name};
+ghost use Rattle.lp_small.specs.Run.{StartsFrom, turn as meaning, what};
 ghost use Rattle.lp_small.specs.Faults.{IsStartFault};
 ghost use Rattle.lp_small.specs.Running.{world_of, literal_text, said, ran, ran_of, is_zero_literal, is_this, connect_of, line_of_connection, option_eq};
 
 use crate::lexer::tokens;
 use crate::parser::{ParseFault, parse, same_name};
-use lp_meaning::event::Event;
-use lp_meaning::out::{Out, Outs};
-use lp_meaning::small::{Applied, Literal, Statement, Token, Unit};
+use crate::small::{Applied, Literal, Statement, Token, Unit};
+use lp_events::event::Event;
+use lp_events::out::{Out, Outs};
 use lp_values::decimal::signed_spelling;
 use lp_values::text::Text;
 use std::alloc::{AllocError, Global};

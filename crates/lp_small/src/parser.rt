@@ -1,10 +1,10 @@
 //! The parser: a machine that takes one token at a time.
 ghost use Rattle.std.specs.Prelude.{◌≡◌, ◌≤◌, ◌++◌, ◌∷◌, [], IfOk, IfErr, Some, None};
-ghost use Rattle.lp_meaning.specs.Small.{function_of, kinds_of, IsUnit, IsUnexpected, same_name as are_same};
+ghost use Rattle.lp_small.specs.Small.{function_of, kinds_of, IsUnit, IsUnexpected, same_name as are_same};
 ghost use Rattle.lp_small.specs.Faults.{IsParseFault};
 ghost use Rattle.lp_small.specs.Machine.{is_free as free, has_free as some_free, with_function as one_more_function, step as stepped, step_between as from_between, step_typed as from_typed, step_named as from_named, step_opened as from_opened, step_closed as from_closed, step_inside as from_inside, step_calling as from_calling, step_valuing as from_valuing, step_self as from_this, step_self_opened as from_this_opened, step_valued as from_valued, step_written as from_written};
 
-use lp_meaning::small::{Applied, Body, Function, Kind, Literal, Statement, Token, Unit};
+use crate::small::{Applied, Body, Function, Kind, Literal, Statement, Token, Unit};
 use std::alloc::{AllocError, Global};
 use thiserror::Error;
 

@@ -5,11 +5,11 @@ use Rattle.std.proofs.lemmas.Bool.Decides.{nat_tests}
 use Rattle.std.specs.Prelude.{if◌then◌else◌, nat_le}
 use Rattle.std.specs.Cmp.Lexicographic.{pointwise}
 use Rattle.lp_tree.specs.declared.fault.Fault.{Fault}
-use Rattle.lp_meaning.specs.declared.item.Item.{Item}
-use Rattle.lp_meaning.specs.declared.item.Item.TheVariants as items
-use Rattle.lp_meaning.specs.Script.{beginning, after_item, AllFit, Context, spellings, files_of, events_of}
-use Rattle.lp_meaning.specs.World.{master_path}
-use Rattle.lp_meaning.specs.Run.{is_run_yet, has_started, file_at, StartsFrom, MakesNoneFrom, world_after, before}
+use Rattle.lp_events.specs.declared.item.Item.{Item}
+use Rattle.lp_events.specs.declared.item.Item.TheVariants as items
+use Rattle.lp_events.specs.Script.{beginning, after_item, AllFit, Context, spellings, files_of, events_of}
+use Rattle.lp_small.specs.World.{master_path}
+use Rattle.lp_small.specs.Run.{is_run_yet, has_started, file_at, StartsFrom, MakesNoneFrom, world_after, before}
 use Rattle.lp_script.specs.Reader.{Reading, GoesOn, Reads}
 use Rattle.lp_small.specs.declared.live.Live.{Live}
 use Rattle.lp_small.specs.Running.{world_of}

@@ -4,14 +4,14 @@ use Rattle.std.proofs.lemmas.Bool.{cases_lt}
 use Rattle.std.proofs.lemmas.List.{append-nil, take_all, take-append-drop}
 use Rattle.std.specs.List.{list_all}
 use Rattle.lp_tree.specs.declared.fault.Fault.{Fault}
-use Rattle.lp_meaning.specs.declared.small.Kind.{Kind}
-use Rattle.lp_meaning.specs.declared.small.Function.{Function}
-use Rattle.lp_meaning.specs.declared.item.Item.{Item}
-use Rattle.lp_meaning.specs.declared.item.Item.TheVariants as items
-use Rattle.lp_meaning.specs.Script.{beginning, after_item, after_items, AllFit, Fits, Context, Stage, Beginning, Filing, Running, Over, spelling, spellings, files_of, longest_input, IsScript, IsBadScript}
-use Rattle.lp_meaning.specs.World.{World, master_path}
-use Rattle.lp_meaning.specs.Small.{kinds_of, tokens_of, IsUnit, IsUnexpected}
-use Rattle.lp_meaning.specs.Run.{is_run_yet, file_at, Starts, StartsFrom, MakesNoneFrom, missing, unexpected, BeginsWithItems}
+use Rattle.lp_small.specs.declared.small.Kind.{Kind}
+use Rattle.lp_small.specs.declared.small.Function.{Function}
+use Rattle.lp_events.specs.declared.item.Item.{Item}
+use Rattle.lp_events.specs.declared.item.Item.TheVariants as items
+use Rattle.lp_events.specs.Script.{beginning, after_item, after_items, AllFit, Fits, Context, Stage, Beginning, Filing, Running, Over, spelling, spellings, files_of, longest_input, IsScript, IsBadScript}
+use Rattle.lp_small.specs.World.{World, master_path}
+use Rattle.lp_small.specs.Small.{kinds_of, tokens_of, IsUnit, IsUnexpected}
+use Rattle.lp_small.specs.Run.{is_run_yet, file_at, Starts, StartsFrom, MakesNoneFrom, missing, unexpected, BeginsWithItems}
 use Rattle.lp_top.specs.declared.status.Status.{Status}
 use Rattle.lp_top.specs.declared.status.Status.TheVariants as ends
 use Rattle.lp_top.specs.Replay.{AreRunYet, Ends}
@@ -120,7 +120,7 @@ unit-not-unexpected ks fs at u h = elim (cases-le at (length ks) h.within) as (�
 source-same : {xs ys : List ℕ} → Some xs ≡ Some ys → xs ≡ ys
 source-same e = cc
 
-made-not-none : (o : Option (List ℕ)) (w : World) (fault : Fault) → StartsFrom o w → MakesNoneFrom o fault → ⊥
+pub made-not-none : (o : Option (List ℕ)) (w : World) (fault : Fault) → StartsFrom o w → MakesNoneFrom o fault → ⊥
 made-not-none o w fault s (missing e) = let h = sym s.there ∙ e in absurd cc
 made-not-none o w fault s (unexpected bytes at e u) =
     let same : s.bytes ≡ bytes = source-same (sym s.there ∙ e) in

@@ -2,11 +2,11 @@
 use Rattle.std.proofs.Common.{subst, ◌≡◌, ◌∙◌, ℕ, List, [], ◌∷◌, ◌++◌, length, Bool, true, false, Option, Some, None, nat_eq, refl, sym, ap, arith, ◌⊎◌, inl, inr}
 use Rattle.std.specs.Prelude.{if◌then◌else◌, Ok, nat_le}
 use Rattle.std.specs.Cmp.Lexicographic.{pointwise}
-use Rattle.lp_meaning.specs.declared.item.Item.{Item}
-use Rattle.lp_meaning.specs.declared.item.Item.TheVariants as items
-use Rattle.lp_meaning.specs.Script.{beginning, after_items, after_item, AllFit, Fits, Context, Stage, Beginning, Filing, Running, Over, files_of}
-use Rattle.lp_meaning.specs.World.{master_path}
-use Rattle.lp_meaning.specs.Run.{is_run_yet, has_started, file_at}
+use Rattle.lp_events.specs.declared.item.Item.{Item}
+use Rattle.lp_events.specs.declared.item.Item.TheVariants as items
+use Rattle.lp_events.specs.Script.{beginning, after_items, after_item, AllFit, Fits, Context, Stage, Beginning, Filing, Running, Over, files_of}
+use Rattle.lp_small.specs.World.{master_path}
+use Rattle.lp_small.specs.Run.{is_run_yet, has_started, file_at}
 use Rattle.lp_script.specs.Reader.{Reading, GoesOn, HasGiven, IsAfter, fresh}
 use Rattle.lp_top.specs.declared.status.Status.{Status}
 use Rattle.lp_top.specs.Replay.{AreRunYet, IsAtStart, source_with, is_start, is_end, Ends, EndsReading}

@@ -4,15 +4,15 @@ use Rattle.std.proofs.lemmas.List.{append-nil, take-append-drop, take_all}
 use Rattle.std.specs.Prelude.{Ok, codes}
 use Rattle.lp_io.specs.Counts.{Rose}
 use Rattle.lp_io.specs.Told.{after_adding, before_giving}
-use Rattle.lp_meaning.specs.declared.event.Event.{Event}
-use Rattle.lp_meaning.specs.declared.event.Event.TheVariants.{Connect, Line, Gone, Tick, Reload, Swap}
-use Rattle.lp_meaning.specs.declared.item.Item.{Item}
-use Rattle.lp_meaning.specs.declared.item.Item.TheVariants as items
-use Rattle.lp_meaning.specs.declared.out.Out.{Out}
-use Rattle.lp_meaning.specs.Script.{beginning, after_items, after_item, after_event, AllFit, Fits, Context, Stage, Beginning, Filing, Running, Over, files_of, events_of, IsScript, longest_input}
-use Rattle.lp_meaning.specs.Transcript.{block, blocks, transcript}
-use Rattle.lp_meaning.specs.World.{World}
-use Rattle.lp_meaning.specs.Run.{is_run_yet, has_started, Starts, turn, outputs, world_after, Blocks, started}
+use Rattle.lp_events.specs.declared.event.Event.{Event}
+use Rattle.lp_events.specs.declared.event.Event.TheVariants.{Connect, Line, Gone, Tick, Reload, Swap}
+use Rattle.lp_events.specs.declared.item.Item.{Item}
+use Rattle.lp_events.specs.declared.item.Item.TheVariants as items
+use Rattle.lp_events.specs.declared.out.Out.{Out}
+use Rattle.lp_events.specs.Script.{beginning, after_items, after_item, after_event, AllFit, Fits, Context, Stage, Beginning, Filing, Running, Over, files_of, events_of, IsScript, longest_input}
+use Rattle.lp_events.specs.Transcript.{block, blocks, transcript}
+use Rattle.lp_small.specs.World.{World}
+use Rattle.lp_small.specs.Run.{is_run_yet, has_started, Starts, turn, outputs, world_after, Blocks, started}
 use Rattle.lp_script.specs.Reader.{Reading, GoesOn, HasGiven, IsAfter, IsInput, Reads}
 use Rattle.lp_script.specs.declared.phase.Phase.TheVariants.{Giving}
 use Rattle.lp_script.specs.declared.phase.Phase.TheVariants as phases
@@ -227,7 +227,7 @@ replays-finished b r live from now next ends.Done h t i =
     let es : events_of xs ≡ events_of h.read = events-append h.read (items.End ∷ []) ∙ append-nil (events_of h.read) in
     record {
       read = xs;
-      ends = (t.0, yet-push h.read items.End h.going.yet refl, t.1);
+      ends = (t.0, yet-push h.read items.End h.going.yet refl, t.1, (h.world, subst (λ fs. Starts fs h.world) (sym (files-append h.read (items.End ∷ []) ∙ append-nil (files_of h.read))) h.going.starts));
       wrote = λ old f. (
         blocks_of h.world h.read ++ codes "end\n",
         told-now from next (blocks_of h.world h.read ++ codes "end\n") old (added-more from now (blocks_of h.world h.read) (codes "end\n") next h.written i) f,

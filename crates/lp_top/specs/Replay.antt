@@ -3,12 +3,12 @@ use Rattle.std.specs.Prelude.{◌≡◌, ℕ, ◌≤◌, List, [], ◌∷◌, �
 use Rattle.std.specs.List.{list_all}
 use Rattle.lp_io.specs.Told.{after_adding, IsCut}
 use Rattle.lp_tree.specs.declared.fault.Fault.{Fault}
-use Rattle.lp_meaning.specs.declared.item.Item.{Item}
-use Rattle.lp_meaning.specs.declared.item.Item.TheVariants as items
-use Rattle.lp_meaning.specs.Script.{IsScript, IsBadScript, IsTooLarge, files_of, events_of, longest_input}
-use Rattle.lp_meaning.specs.Transcript.{transcript}
-use Rattle.lp_meaning.specs.World.{World, master_path}
-use Rattle.lp_meaning.specs.Run.{Starts, MakesNone, outputs, world_after, is_run_yet, BeginsWithItems, IsNotRunYet, has_started, Blocks, file_at}
+use Rattle.lp_events.specs.declared.item.Item.{Item}
+use Rattle.lp_events.specs.declared.item.Item.TheVariants as items
+use Rattle.lp_events.specs.Script.{IsScript, IsBadScript, IsTooLarge, files_of, events_of, longest_input}
+use Rattle.lp_events.specs.Transcript.{transcript}
+use Rattle.lp_small.specs.World.{World, master_path}
+use Rattle.lp_small.specs.Run.{Starts, MakesNone, outputs, world_after, is_run_yet, BeginsWithItems, IsNotRunYet, has_started, Blocks, file_at}
 use Rattle.lp_script.specs.declared.phase.Phase.TheVariants.{Giving}
 use Rattle.lp_script.specs.declared.fault.ScriptFault.{ScriptFault}
 use Rattle.lp_script.specs.declared.fault.ScriptFault.TheVariants as script
@@ -27,9 +27,9 @@ pub record Holds (bytes : List ℕ) (xs : List Item) : Type 0 where
   pub begins : BeginsWithItems (take longest_input bytes) xs
   pub yet : AreRunYet xs
 
--- The input, with the items that were read, gives this end.
+-- The input, with the items that were read, gives this end. At Done the files have made a master.
 abbrev pub Ends : List ℕ → List Item → Status → Type 0
-Ends bytes xs Done = IsScript bytes xs × AreRunYet xs × (length bytes ≤ longest_input)
+Ends bytes xs Done = IsScript bytes xs × AreRunYet xs × (length bytes ≤ longest_input) × ((w : World) × Starts (files_of xs) w)
 Ends bytes xs BadWords = ⊥
 Ends bytes xs (BadScript at) = AreRunYet xs × (IsBadScript bytes xs at ⊎ IsNotRunYet bytes xs at)
 Ends bytes xs (NoMaster fs) = Holds bytes (xs ++ items.Start ∷ []) × (has_started xs ≡ false) × (fault : Fault) × (fs ≡ fault ∷ []) × MakesNone (files_of xs) fault

@@ -11,3 +11,4 @@ pub mod Statements
 pub mod StatementView
 pub mod Units
 pub mod UnitView
+pub mod Signs

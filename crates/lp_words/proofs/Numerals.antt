@@ -7,7 +7,7 @@ use Rattle.std.proofs.lemmas.Int.Digits.{number_push, digits_of_step, all_below_
 use Rattle.std.proofs.lemmas.Bool.{and_parts, and_from, eqb-true, eqb-false, leb-true, le-leb, true≢false, ne_eqb}
 use Rattle.std.proofs.lemmas.List.{append-nil}
 use Rattle.std.proofs.lemmas.List.Folds.{list_all-append}
-use Rattle.lp_meaning.specs.Script.{numeral}
+use Rattle.lp_events.specs.Script.{numeral}
 use Rattle.lp_words.specs.Paths.{is_nil, is_digit, is_numeral}
 
 digit-below : (c : ℕ) → is_digit c ≡ true → (48 ≤ c) × (c ≤ 57)

@@ -15,7 +15,7 @@ use Rattle.std.proofs.lemmas.Bool.{and_parts, and_from, eqb-true, eqb-false, leb
 use Rattle.std.proofs.lemmas.List.{append-nil}
 use Rattle.std.proofs.lemmas.List.Folds.{list_all-append}
 use Rattle.std.proofs.lemmas.List.Sums.{AllPass-from_list_all, list_all-from_AllPass}
-use Rattle.lp_meaning.specs.Script.{is_part_byte, IsPart, AreParts, path_of, IsPath, EndsInC, IsObjectName, numeral}
+use Rattle.lp_events.specs.Script.{is_part_byte, IsPart, AreParts, path_of, IsPath, EndsInC, IsObjectName, numeral}
 use Rattle.lp_words.specs.declared.path.Progress.{Progress}
 use Rattle.lp_words.specs.declared.path.Progress.TheVariants.{Start, Slash, Dot, Dots, Part, Refused}
 use Rattle.lp_words.specs.Paths.{BeginsPath, BeginsName, step, read, is_done, is_path, may_go_on, stem, filled, is_above, begins_path, is_nil, is_digit, is_numeral, ends_in_c, is_object_path, before_hash, from_hash, is_clone, is_name, begins_with_parts, begins_name}

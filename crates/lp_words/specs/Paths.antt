@@ -4,7 +4,7 @@ use Rattle.std.specs.List.{list_all, ends_with}
 use Rattle.std.specs.Ordering.{nat_cmp, is_lt}
 use Rattle.std.specs.Cmp.Lexicographic.{slice_cmp}
 use Rattle.std.specs.declared.cmp.Ordering.TheVariants.{Less}
-use Rattle.lp_meaning.specs.Script.{is_part_byte, IsPath, IsObjectName}
+use Rattle.lp_events.specs.Script.{is_part_byte, IsPath, IsObjectName}
 use Rattle.lp_words.specs.declared.path.Progress.{Progress}
 use Rattle.lp_words.specs.declared.path.Progress.TheVariants.{Start, Slash, Dot, Dots, Part, Refused}
 

@@ -1,6 +1,6 @@
 //! Paths and names of objects.
 ghost use Rattle.std.specs.Prelude.{Decides, ◌≡◌, replicate, if◌then◌else◌, not, ◌==◌, ◌&&◌};
-ghost use Rattle.lp_meaning.specs.Script.{is_part_byte as part_byte, IsPath, IsObjectName};
+ghost use Rattle.lp_events.specs.Script.{is_part_byte as part_byte, IsPath, IsObjectName};
 ghost use Rattle.lp_words.specs.declared.path.Progress.TheVariants.{Start, Part, Refused};
 ghost use Rattle.lp_words.specs.Paths.{step as step_of, read, is_done as is_done_of, is_path as path_test, may_go_on as may_go_on_of, stem as stem_of, filled, is_above as above, begins_path as path_begins, is_digit as digit, is_numeral as numeral_test, ends_in_c as source_end, is_object_path as object_path, is_clone as clone_test, is_name as name_test, begins_with_parts as parts_begin, begins_name as name_begins, BeginsPath, BeginsName};
 ghost use Rattle.std.specs.List.{list_all, prefix_len};

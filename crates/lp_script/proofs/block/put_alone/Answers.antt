@@ -1,5 +1,5 @@
 use Rattle.std.proofs.Common.{◌∙◌, codes, arith}
-use Rattle.lp_meaning.specs.Transcript.{output_spelling}
+use Rattle.lp_events.specs.Transcript.{output_spelling}
 use Rattle.lp_script.proofs.PutLemmas.{Puts-same}
 use Rattle.lp_script.proofs.Numerals.{number_pieces}
 use Rattle.lp_script.proofs.block.put_alone.Goals as goal

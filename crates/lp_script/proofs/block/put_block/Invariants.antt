@@ -1,5 +1,5 @@
 use Rattle.std.proofs.Common.{◌≡◌, ◌≤◌, ◌-◌, List, ℕ, ◌++◌, drop, length, Ok}
-use Rattle.lp_meaning.specs.Transcript.{block}
+use Rattle.lp_events.specs.Transcript.{block}
 use Rattle.lp_script.specs.Put.{Puts}
 use Rattle.lp_script.proofs.block.put_block.Given as goal
 

@@ -1,6 +1,6 @@
 use Rattle.std.proofs.Common.{◌∙◌, codes, arith}
 use Rattle.std.proofs.lemmas.Result.{err_from_is_err_and}
-use Rattle.lp_meaning.specs.Transcript.{output_spelling}
+use Rattle.lp_events.specs.Transcript.{output_spelling}
 use Rattle.lp_script.proofs.BlockLemmas.{log_parts, first_of_three, second_of_three, all_of_three}
 use Rattle.lp_script.proofs.block.put_log.Goals as goal
 

@@ -1,4 +1,4 @@
-use Rattle.lp_meaning.specs.Script.{longest_input}
+use Rattle.lp_events.specs.Script.{longest_input}
 use Rattle.lp_script.proofs.ReaderLemmas.{short_window}
 use Rattle.lp_script.proofs.reader.window_of.Goals as goal
 

@@ -1,5 +1,5 @@
 use Rattle.std.proofs.Common.{◌∙◌, ap, codes, length, arith}
-use Rattle.lp_meaning.specs.Script.{event_spelling}
+use Rattle.lp_events.specs.Script.{event_spelling}
 use Rattle.lp_script.proofs.PutLemmas.{Puts-same}
 use Rattle.lp_script.proofs.Numerals.{decimal-numeral, number_pieces, counted_pieces, name_pieces}
 use Rattle.lp_script.proofs.writing.put_event.Goals as goal

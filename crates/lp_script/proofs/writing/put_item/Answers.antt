@@ -1,6 +1,6 @@
 use Rattle.std.proofs.Common.{◌∙◌, ap, codes, length, arith}
 use Rattle.std.proofs.lemmas.List.{append-nil}
-use Rattle.lp_meaning.specs.Script.{spelling}
+use Rattle.lp_events.specs.Script.{spelling}
 use Rattle.lp_script.proofs.PutLemmas.{Puts-same}
 use Rattle.lp_script.proofs.Numerals.{head_pieces, counted_pieces}
 use Rattle.lp_script.proofs.writing.put_item.Goals as goal

@@ -1,5 +1,5 @@
 use Rattle.std.proofs.Common.{◌≡◌, length, false}
-use Rattle.lp_meaning.specs.Small.{text_at}
+use Rattle.lp_small.specs.Small.{text_at}
 use Rattle.lp_small.proofs.Lexing.{behind}
 use Rattle.lp_small.proofs.lexer.text.Given as goal
 

@@ -1,6 +1,6 @@
 use Rattle.std.proofs.Common.{◌≡◌, ◌∙◌, ◌<◌, length, arith, ap, rules, sym, get_or, take, drop, true, false}
 use Rattle.std.proofs.lemmas.Grind.{common_steps}
-use Rattle.lp_meaning.specs.Small.{word_kind, number_kind, text_kind, is_letter, is_word_byte, is_digit, past, text_at}
+use Rattle.lp_small.specs.Small.{word_kind, number_kind, text_kind, is_letter, is_word_byte, is_digit, past, text_at}
 use Rattle.lp_small.proofs.Lexing.{rest_from, paired, front-passes, text-found, text-not-found, token_at-letter, token_at-digit, token_at-mark, token_at-text}
 use Rattle.lp_small.specs.Views.{text_seen}
 use Rattle.lp_small.proofs.lexer.token.Goals as goal

@@ -1,6 +1,6 @@
 use Rattle.std.proofs.Common.{◌≡◌, ◌∙◌, ◌<◌, ◌≤◌, ◌+◌, ◌++◌, refl, length, arith, ap, rules, sym, true, false}
 use Rattle.std.proofs.lemmas.Grind.{common_steps}
-use Rattle.lp_meaning.specs.Small.{tokens_of, tokens_from, token_at}
+use Rattle.lp_small.specs.Small.{tokens_of, tokens_from, token_at}
 use Rattle.lp_small.proofs.Lexing.{one-token, token-leaves-less}
 use Rattle.lp_small.proofs.lexer.tokens.Goals as goal
 

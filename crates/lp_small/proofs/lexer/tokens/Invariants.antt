@@ -1,5 +1,5 @@
 use Rattle.std.proofs.Common.{◌≡◌, ◌≤◌, ◌++◌, ◌+◌, length}
-use Rattle.lp_meaning.specs.Small.{tokens_of, tokens_from}
+use Rattle.lp_small.specs.Small.{tokens_of, tokens_from}
 use Rattle.lp_small.proofs.lexer.tokens.Given as goal
 
 -- the tokens so far, and those of what is left; each line that was left had a byte

@@ -1,5 +1,5 @@
 use Rattle.std.proofs.Common.{◌≡◌, drop}
-use Rattle.lp_meaning.specs.Small.{function_of}
+use Rattle.lp_small.specs.Small.{function_of}
 use Rattle.lp_small.proofs.live.body_of.Given as goal
 
 -- no function so far has the name

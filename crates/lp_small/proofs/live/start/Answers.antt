@@ -1,5 +1,5 @@
 use Rattle.std.proofs.Common.{refl}
-use Rattle.lp_meaning.specs.Run.{missing}
+use Rattle.lp_small.specs.Run.{missing}
 use Rattle.lp_small.proofs.live.start.Goals as goal
 
 pub returns-in-None-clause-fault : goal.returns-in-None-clause-fault

@@ -1,5 +1,5 @@
 use Rattle.std.proofs.Common.{◌∙◌, subst}
-use Rattle.lp_meaning.specs.Small.{kinds_of}
+use Rattle.lp_small.specs.Small.{kinds_of}
 use Rattle.lp_small.specs.Faults.{IsParseFault}
 use Rattle.lp_small.proofs.Lines.{refused-at}
 use Rattle.lp_small.proofs.live.start_of.Goals as goal

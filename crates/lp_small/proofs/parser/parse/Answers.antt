@@ -1,9 +1,9 @@
 use Rattle.std.proofs.Common.{◌≡◌, ◌≢◌, ◌∙◌, ◌<◌, ◌≤◌, ℕ, List, length, map, take, get_or, ap, sym, subst, arith, rules, Some, None, refl, false}
 use Rattle.std.proofs.lemmas.List.{length-map, take_all}
 use Rattle.std.proofs.Math.ListN.{get_or-map}
-use Rattle.lp_meaning.specs.declared.small.Kind.{Kind}
-use Rattle.lp_meaning.specs.declared.small.Token.{Token}
-use Rattle.lp_meaning.specs.Small.{kinds_of, IsUnexpected}
+use Rattle.lp_small.specs.declared.small.Kind.{Kind}
+use Rattle.lp_small.specs.declared.small.Token.{Token}
+use Rattle.lp_small.specs.Small.{kinds_of, IsUnexpected}
 use Rattle.lp_small.specs.declared.parser.Spot.{Spot}
 use Rattle.lp_small.specs.declared.parser.Spot.TheVariants.{Between}
 use Rattle.lp_small.specs.Machine.{beginning, walk, step, is_between, state}

@@ -1,5 +1,5 @@
 use Rattle.std.proofs.Common.{◌≡◌, take, Some}
-use Rattle.lp_meaning.specs.Small.{kinds_of}
+use Rattle.lp_small.specs.Small.{kinds_of}
 use Rattle.lp_small.specs.Machine.{beginning, walk}
 use Rattle.lp_small.proofs.parser.parse.Given as goal
 

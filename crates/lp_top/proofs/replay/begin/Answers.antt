@@ -1,8 +1,8 @@
 use Rattle.std.proofs.Common.{◌∙◌, sym, subst, arith, length, ◌≤◌}
 use Rattle.std.specs.Option.{option_copied}
 use Rattle.lp_tree.specs.declared.fault.FaultKind.TheVariants as faults
-use Rattle.lp_meaning.specs.World.{master_path}
-use Rattle.lp_meaning.specs.Run.{StartsFrom, MakesNoneFrom}
+use Rattle.lp_small.specs.World.{master_path}
+use Rattle.lp_small.specs.Run.{StartsFrom, MakesNoneFrom}
 use Rattle.lp_small.specs.Faults.{IsStartFault}
 use Rattle.lp_small.specs.Running.{world_of}
 use Rattle.lp_top.proofs.Beginning.{small-source, events-none, going-start, replays-none, replays-no-memory}
@@ -29,3 +29,6 @@ returns-in-Err-Unexpected-clause-replays g c = λ b h.
 
 pub returns-in-Err-NoMemory-clause-replays : goal.returns-in-Err-NoMemory-clause-replays
 returns-in-Err-NoMemory-clause-replays g c = λ b h. replays-no-memory b c.args.reader.now _ c.args.source.now _ c.requires h
+
+pub returns-in-Ok-clause-most : goal.returns-in-Ok-clause-most
+returns-in-Ok-clause-most g c = λ b m h. c.events.ensures.most b h

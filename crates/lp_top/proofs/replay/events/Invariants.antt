@@ -1,5 +1,5 @@
 use Rattle.std.proofs.Common.{◌≤◌, ◌-◌, ℕ, suc, List}
-use Rattle.lp_meaning.specs.Script.{longest_input}
+use Rattle.lp_events.specs.Script.{longest_input}
 use Rattle.lp_script.specs.Reader.{Reads}
 use Rattle.lp_top.proofs.Going.{IsRunning}
 use Rattle.lp_top.proofs.replay.events.Given as goal

@@ -1,6 +1,6 @@
 use Rattle.std.proofs.Common.{◌∙◌, ◌<◌, ◌≤◌, sym, subst, arith, ◌++◌, ◌∷◌, []}
 use Rattle.std.proofs.Math.Nat.{le_trans}
-use Rattle.lp_meaning.specs.Script.{longest_input}
+use Rattle.lp_events.specs.Script.{longest_input}
 use Rattle.lp_script.specs.Reader.{HasGiven}
 use Rattle.lp_top.proofs.Reading.{goes_on, cut_within}
 use Rattle.lp_top.proofs.Filing.{IsFiling, filing-more, filing-ends, end-not-early, end-is, inner-is}

@@ -1,5 +1,5 @@
 use Rattle.std.proofs.Common.{◌≡◌, ◌∙◌, subst, sym, ap, Some, ◌+◌, ◌≤◌, length, take}
-use Rattle.lp_meaning.specs.Script.{Over as over, longest_input}
+use Rattle.lp_events.specs.Script.{Over as over, longest_input}
 use Rattle.lp_io.specs.Told.{before_giving}
 use Rattle.lp_script.specs.declared.phase.Phase.TheVariants.{Taking, Giving}
 use Rattle.lp_script.proofs.ReaderLemmas.{given_next, end_next, fault_next, retaken, reads_rest, reads_got, reads_told, taken_same}

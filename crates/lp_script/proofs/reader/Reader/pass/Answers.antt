@@ -1,6 +1,6 @@
 use Rattle.std.proofs.Common.{arith, ◌≡◌, ◌∙◌, ap, sym, subst, length, take, false}
 use Rattle.std.specs.Prelude.{nat_le}
-use Rattle.lp_meaning.specs.Script.{longest_input}
+use Rattle.lp_events.specs.Script.{longest_input}
 use Rattle.lp_script.specs.Reader.{window, is_whole}
 use Rattle.lp_script.proofs.ReaderLemmas.{large_end, same_but}
 use Rattle.lp_script.proofs.reader.Reader.pass.Goals as goal

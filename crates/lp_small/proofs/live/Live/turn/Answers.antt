@@ -1,6 +1,6 @@
 use Rattle.std.proofs.Common.{◌≡◌, ◌∙◌, sym, ap, subst}
 use Rattle.std.specs.Prelude.{IfOk, OnOk}
-use Rattle.lp_meaning.specs.Run.{turn}
+use Rattle.lp_small.specs.Run.{turn}
 use Rattle.lp_small.specs.Running.{world_of}
 use Rattle.lp_small.proofs.Turning.{connect-meaning, on_ok-follows, connected-world}
 use Rattle.lp_small.proofs.live.Live.turn.Goals as goal

@@ -1,0 +1,7 @@
+//! Programs of stack code: instructions, texts, switches, functions and tables, and when they are sound.
+#![tactic(auto)]
+
+pub mod listed;
+pub mod name;
+pub mod program;
+pub mod tables;

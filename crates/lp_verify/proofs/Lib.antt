@@ -1,0 +1,14 @@
+pub mod Completeness
+pub mod Fine
+pub mod Growing
+pub mod Leading
+pub mod Looking
+pub mod Marking
+pub mod Naming
+pub mod Opened
+pub mod Others
+pub mod Owning
+pub mod Soundness
+pub mod Steady
+pub mod Walking
+pub mod Working

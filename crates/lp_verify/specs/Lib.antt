@@ -1,0 +1,11 @@
+pub mod Effects
+pub mod Fails
+pub mod Flow
+pub mod Marks
+pub mod Names
+pub mod Openings
+pub mod Paths
+pub mod Rows
+pub mod Verified
+pub mod Walks
+pub mod Work
