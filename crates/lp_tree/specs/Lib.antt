@@ -1,7 +1,6 @@
 pub mod FaultText
 pub mod Keywords
 pub mod Seen
-pub mod Naturals
 pub mod Types
 pub mod Trees
 pub mod TreeView
