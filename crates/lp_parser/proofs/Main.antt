@@ -1,5 +1,5 @@
 -- The theorem, from where the machine stops.
-use Rattle.std.proofs.Common.{◌≡◌, ℕ, zero, suc, ◌+◌, ◌≤◌, ◌<◌, max, List, [], ◌∷◌, ◌++◌, length, take, get_or, refl, ap, sym, ◌∙◌, subst, arith, map}
+use Rattle.std.proofs.Common.{◌≡◌, ℕ, zero, suc, ◌+◌, ◌≤◌, ◌<◌, List, [], ◌∷◌, ◌++◌, length, take, get_or, refl, ap, sym, ◌∙◌, subst, arith, map}
 use Rattle.std.specs.Prelude.{Option, Some, None, option_and_then}
 use Rattle.std.proofs.lemmas.List.{take_more}
 use Rattle.lp_tree.specs.declared.token.Token.{Token}
@@ -7,7 +7,7 @@ use Rattle.lp_tree.specs.declared.seen.Seen.{Seen}
 use Rattle.lp_tree.specs.Seen.{seen}
 use Rattle.lp_tree.specs.Units.{ItemTree, Inherits, SpellsUnit, unit_height, Begins, BeginsWithin, IsUnexpected, IsTooNested}
 use Rattle.lp_parser.specs.Machine.{Before, State, Top, step, start, finished, run, walk}
-use Rattle.lp_parser.specs.Depth.{here, least}
+use Rattle.lp_parser.specs.Depth.{least}
 use Rattle.lp_parser.specs.Stops.{Stands}
 use Rattle.lp_parser.specs.Theorem.{sight}
 use Rattle.lp_parser.proofs.Complete.{items_run}

@@ -1,19 +1,15 @@
 -- What the reader answers is what is spelled.
-use Rattle.std.proofs.Common.{◌≡◌, ℕ, zero, suc, ◌+◌, ◌-◌, ◌≤◌, ◌<◌, min, max, List, [], ◌∷◌, ◌++◌, length, take, drop, get_or, map, inl, inr, refl, ap, sym, ◌∙◌, subst, arith}
-use Rattle.std.specs.Prelude.{Option, Some, None, Result, Ok, Err, ◌⊎◌, Vec, option_and_then}
+use Rattle.std.proofs.Common.{◌≡◌, ℕ, zero, suc, ◌+◌, ◌-◌, ◌≤◌, ◌<◌, min, List, [], ◌∷◌, length, take, get_or, map, inl, inr, refl, ap, ◌∙◌, arith}
+use Rattle.std.specs.Prelude.{Ok, Err, Vec}
 use Rattle.std.specs.declared.alloc.Global.{Global}
 use Rattle.lp_tree.specs.declared.token.Token.{Token}
-use Rattle.lp_tree.specs.declared.seen.Seen.{Seen}
 use Rattle.lp_tree.specs.declared.unit.Item.{Item}
-use Rattle.lp_tree.specs.Seen.{seen}
 use Rattle.lp_tree.specs.Units.{ItemTree, SpellsUnit, unit_height, IsUnexpected, IsTooNested, line_at}
 use Rattle.lp_tree.specs.UnitView.{item_of}
 use Rattle.lp_parser_expr.specs.declared.fault.Stop.TheVariants as stop
-use Rattle.lp_parser.specs.Machine.{State, start, step, finished, run, walk}
-use Rattle.lp_parser.specs.Depth.{here, least}
-use Rattle.lp_parser.specs.Stops.{Stands, IsStuck, Stops}
+use Rattle.lp_parser.specs.Stops.{IsStuck, Stops}
 use Rattle.lp_parser.specs.Theorem.{sight}
-use Rattle.lp_parser.proofs.Main.{found, unexpected_at, unexpected_end, nested_at, refused, deep, spells_one, front_of, no_unit_at_end}
+use Rattle.lp_parser.proofs.Main.{found, unexpected_at, unexpected_end, nested_at, refused, deep, front_of, no_unit_at_end}
 
 pub ok_found : (limit : ℕ) (ts : List Token) (v : Vec Item Global) → Stops limit ts (Ok v) → SpellsUnit (map item_of v.items) (sight ts) × (unit_height (map item_of v.items) ≤ limit)
 ok_found limit ts v s = found limit ts (length ts) s.0 (map item_of v.items) s.1 refl s.2

@@ -1,5 +1,5 @@
 -- Where the machine of units stops.
-use Rattle.std.specs.Prelude.{◌≡◌, ℕ, ◌+◌, ◌≤◌, ◌<◌, ◌⊎◌, List, length, map, take, Option, Some, None, Result, Ok, Err}
+use Rattle.std.specs.Prelude.{◌≡◌, ℕ, ◌+◌, ◌≤◌, ◌<◌, ◌⊎◌, List, length, map, take, Some, None, Result, Ok, Err}
 use Rattle.lp_tree.specs.declared.token.Token.{Token}
 use Rattle.lp_tree.specs.declared.unit.Item.{Item}
 use Rattle.lp_tree.specs.UnitView.{item_of}
