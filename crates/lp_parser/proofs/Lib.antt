@@ -3,3 +3,4 @@ pub mod Sound
 pub mod Levels
 pub mod Viable
 pub mod Main
+pub mod Replies

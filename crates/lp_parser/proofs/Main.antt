@@ -8,6 +8,7 @@ use Rattle.lp_tree.specs.Seen.{seen}
 use Rattle.lp_tree.specs.Units.{ItemTree, Inherits, SpellsUnit, unit_height, Begins, BeginsWithin, IsUnexpected, IsTooNested}
 use Rattle.lp_parser.specs.Machine.{Before, State, Top, step, start, finished, run, walk}
 use Rattle.lp_parser.specs.Depth.{least}
+use Rattle.lp_parser.specs.Stops.{Stands}
 use Rattle.lp_parser.specs.Theorem.{sight}
 use Rattle.lp_parser.proofs.Complete.{items_run}
 use Rattle.lp_parser.proofs.Sound.{run_rest, rest_spelled}
@@ -46,27 +47,22 @@ run_end : (ts : List Seen) (st : State) (o : Option (List ItemTree)) → walk st
 run_end ts st o e f = run-walk start ts ∙ ap (option_and_then finished) e ∙ f
 
 -- a front that was walked begins a unit as shallow as the state says
-begun : (front : List Seen) (st : State) → walk start front ≡ Some st → (others : List Seen) × (is : List ItemTree) × SpellsUnit is (front ++ others) × (unit_height is ≤ least st)
+pub begun : (front : List Seen) (st : State) → walk start front ≡ Some st → (others : List Seen) × (is : List ItemTree) × SpellsUnit is (front ++ others) × (unit_height is ≤ least st)
 begun front st w =
     let q = some_end st (walk_reached start st front tt w) in
     (q.tokens, q.items, rest_spelled (unwalk start st front q.tokens q.items w q.rest), q.shallow)
 
-refused : (front : List Seen) → walk start front ≡ None → Begins front → ⊥
+pub refused : (front : List Seen) → walk start front ≡ None → Begins front → ⊥
 refused front w b =
     let f = unit_run b.1 (front ++ b.0) b.2 in
     let g = run-append start front b.0 ∙ ap (option_and_then (λ next. run next b.0)) w in
     cc
 
-deep : (front others : List Seen) (is : List ItemTree) (st : State) → walk start front ≡ Some st → SpellsUnit is (front ++ others) → least st ≤ unit_height is
+pub deep : (front others : List Seen) (is : List ItemTree) (st : State) → walk start front ≡ Some st → SpellsUnit is (front ++ others) → least st ≤ unit_height is
 deep front others is st w d =
     let f = unit_run is (front ++ others) d in
     let g = run-append start front others ∙ ap (option_and_then (λ next. run next others)) w in
     run-least st others is (sym g ∙ f)
-
-pub record Stands (limit : ℕ) (ts : List Token) (n : ℕ) (st : State) : Type 0 where
-  pub within : n ≤ length ts
-  pub walked : walk start (sight (take n ts)) ≡ Some st
-  pub shallow : least st ≤ limit
 
 push-step : (o : Option State) (x : Seen) (xs : List Seen) → ((next : State) → walk next (xs ++ x ∷ []) ≡ option_and_then (λ s. step s x) (walk next xs)) → option_and_then (λ next. walk next (xs ++ x ∷ [])) o ≡ option_and_then (λ s. step s x) (option_and_then (λ next. walk next xs) o)
 push-step None x xs ih = refl
@@ -121,16 +117,25 @@ unexpected_at limit ts at st s h w = record {
   not_whole = λ e is d. absurd (omega (arith, e, h, sight-length ts));
 }
 
+pub no_unit_at_end : (limit : ℕ) (ts : List Token) (at : ℕ) (st : State) → Stands limit ts at st → at ≡ length ts → finished st ≡ None → (is : List ItemTree) → SpellsUnit is (sight ts) → ⊥
+no_unit_at_end limit ts at st s e f is d = let g = unit_run is (sight ts) d in let k = run_end (sight ts) st None (ap (λ xs. walk start (sight xs)) (sym (take-whole ts at e)) ∙ s.walked) f in cc
+
+-- a whole unit goes on from each front
+pub front_of : (n : ℕ) (ts : List Token) (is : List ItemTree) → SpellsUnit is (sight ts) → (w : List Seen) × SpellsUnit is (sight (take n ts) ++ w)
+front_of n ts is d = let r = split n ts in (r.0, subst (λ xs. SpellsUnit is xs) r.1 d)
+  where
+    split : (n : ℕ) (ts : List Token) → (w : List Seen) × (sight ts ≡ sight (take n ts) ++ w)
+    split zero ts = (sight ts, refl)
+    split (suc n) [] = ([], refl)
+    split (suc n) (t ∷ ts) = let r = split n ts in (r.0, ap (λ xs. seen t ∷ xs) r.1)
+
 pub unexpected_end : (limit : ℕ) (ts : List Token) (at : ℕ) (st : State) → Stands limit ts at st → at ≡ length ts → finished st ≡ None → IsUnexpected limit (sight ts) at
 unexpected_end limit ts at st s e f = record {
   within = omega (arith, e, sight-length ts);
   before = stands_within limit ts at st s;
   not_so = λ h b. absurd (omega (arith, e, h, sight-length ts));
-  not_whole = λ _ is d. no_unit is d;
+  not_whole = λ _ is d. no_unit_at_end limit ts at st s e f is d;
 }
-  where
-    no_unit : (is : List ItemTree) → SpellsUnit is (sight ts) → ⊥
-    no_unit is d = let g = unit_run is (sight ts) d in let k = run_end (sight ts) st None (ap (λ xs. walk start (sight xs)) (sym (take-whole ts at e)) ∙ s.walked) f in cc
 
 pub nested_at : (limit : ℕ) (ts : List Token) (at : ℕ) (st next : State) → Stands limit ts at st → at < length ts → walk start (sight (take (at + 1) ts)) ≡ Some next → limit < least next → IsTooNested limit (sight ts) at
 nested_at limit ts at st next s h w k = record {

@@ -1,3 +1,4 @@
 pub mod Machine
 pub mod Depth
 pub mod Theorem
+pub mod Stops
