@@ -1,7 +1,8 @@
 //! Tests.
 use lp_lexer::*;
 use lp_tree::operator::{AssignOp, BinOp, Step};
-use lp_tree::token::{Mark, TokenKind};
+use lp_tree::token::{LexKind, Mark, Token, TokenKind};
+use std::alloc::{AllocError, Global};
 use std::fmt::Write;
 use std::process::Abort;
 use std::test::Fail;

@@ -1,6 +1,7 @@
 //! What no clause says: the bytes of worked examples, at ample memory.
 use lp_io::{MemSink, MemSource, Octets};
 use lp_top::{Status, code, run};
+use lp_tree::fault::FaultKind;
 use std::alloc::AllocError;
 use std::test::Fail;
 
