@@ -15,6 +15,7 @@ use Rattle.lp_values.specs.declared.value.Value.TheVariants.{Int, Str, Arr, Map,
 use Rattle.lp_values.specs.contracts.value.ValuePartialEq.TheImpl as derived
 use Rattle.lp_values.proofs.ReadLemmas.{eq_is, not_dead}
 use Rattle.lp_cells.specs.Mapping.{has_room_for, pairs_there, pair_there, pairs_put, value_at_key, IsFullFor}
+use Rattle.lp_values.specs.Limits.{max_items}
 
 -- the test by which the map finds keys is equality of values
 pub lookup-derived : (k : Value) (ps : List (Value × Value)) → lookup ((derived.eq-value).it k) ps ≡ lookup (value_eq k) ps
@@ -65,26 +66,40 @@ insert_all_next live es ps i = ap (insert_all value_eq es) (pairs_there_next liv
 pub length_there : (live : ObjId → Bool) (ps : List (Value × Value)) → length (pairs_there live ps) ≤ length ps
 length_there live ps = rw length-filter (count_by-le-length (λ p. is_some (live_part live p.0)) ps)
 
-room_cases : (o : Option Value) (n : ℕ) → (is_some o || nat_lt n 10000) ≡ true → o ≡ None → n < 10000
-room_cases None n h e = ltb-true n 10000 h
+room_cases : (o : Option Value) (n : ℕ) → (is_some o || nat_lt n max_items) ≡ true → o ≡ None → n < max_items
+room_cases None n h e = ltb-true n max_items h
 room_cases (Some v) n h e = cc
 
-no_room_cases : (o : Option Value) (n : ℕ) → (is_some o || nat_lt n 10000) ≡ false → o ≡ None
+no_room_cases : (o : Option Value) (n : ℕ) → (is_some o || nat_lt n max_items) ≡ false → o ≡ None
 no_room_cases None n h = refl
 no_room_cases (Some v) n h = cc
 
 -- with room, a put is not refused
 pub room_not_full : (live : ObjId → Bool) (ps : List (Value × Value)) (k : Value) → has_room_for live ps k ≡ true → ¬ (IsFullFor live ps k)
-room_not_full live ps k h f = let m : length ps < 10000 = room_cases (value_at_key live ps k) (length ps) h f.0 in let t = length_there live ps in omega (arith, f.1)
+room_not_full live ps k h f = let m : length ps < max_items = room_cases (value_at_key live ps k) (length ps) h f.0 in let t = length_there live ps in omega (arith, f.1)
 
 -- and writes into the pairs as they are stored
 pub put_with_room : (live : ObjId → Bool) (ps : List (Value × Value)) (k v : Value) → has_room_for live ps k ≡ true → pairs_put live ps k v ≡ insert_entry value_eq ps (as_read live k) v
 put_with_room live ps k v h = ap (λ b. insert_entry value_eq (if b then ps else pairs_there live ps) (as_read live k) v) h
 
 -- without room it is refused where 10000 pairs are there
-pub full_without_room : (live : ObjId → Bool) (ps : List (Value × Value)) (k : Value) → has_room_for live ps k ≡ false → 10000 ≤ length (pairs_there live ps) → IsFullFor live ps k
+pub full_without_room : (live : ObjId → Bool) (ps : List (Value × Value)) (k : Value) → has_room_for live ps k ≡ false → max_items ≤ length (pairs_there live ps) → IsFullFor live ps k
 full_without_room live ps k h n = (no_room_cases (value_at_key live ps k) (length ps) h, n)
 
 -- and else writes into the pairs that are there
 pub put_without_room : (live : ObjId → Bool) (ps : List (Value × Value)) (k v : Value) → has_room_for live ps k ≡ false → pairs_put live ps k v ≡ insert_entry value_eq (pairs_there live ps) (as_read live k) v
 put_without_room live ps k v h = ap (λ b. insert_entry value_eq (if b then ps else pairs_there live ps) (as_read live k) v) h
+
+grows_by : (e : Value × Value) (es more : List (Value × Value)) (v : Value) (b : Bool) → length es ≤ length more → length (e ∷ es) ≤ length (if b then (e.0, v) ∷ es else e ∷ more)
+grows_by e es more v true h = omega arith
+grows_by e es more v false h = omega (arith, h)
+
+-- a put never makes a mapping shorter
+insert_entry_grows : (es : List (Value × Value)) (k v : Value) → length es ≤ length (insert_entry value_eq es k v)
+insert_entry_grows [] k v = omega arith
+insert_entry_grows (e ∷ es) k v = grows_by e es (insert_entry value_eq es k v) v (value_eq k e.0) (insert_entry_grows es k v)
+
+-- nor do many puts
+pub insert_all_grows : (es ps : List (Value × Value)) → length es ≤ length (insert_all value_eq es ps)
+insert_all_grows es [] = omega arith
+insert_all_grows es (p ∷ ps) = omega (arith, insert_entry_grows es p.0 p.1, insert_all_grows (insert_entry value_eq es p.0 p.1) ps)

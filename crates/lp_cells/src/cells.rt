@@ -3,13 +3,15 @@ ghost use Rattle.std.specs.Prelude.{◌≡◌, ◌<◌, ◌↔◌, IsTrue, [], �
 ghost use Rattle.std.specs.Map.Iter.{deref_pair};
 ghost use Rattle.std.specs.Option.{option_copied, option_map};
 ghost use Rattle.lp_cells.specs.Cells.{AreThere, IsClosed, IsPairThere, IsThere, KeepsThere, as_pairs, content_at, content_set, item_at, item_set, items_at, items_of, kind_of, pairs_at, size_read, stored_pairs, with_cell};
-ghost use Rattle.lp_cells.specs.Mapping.{IsFullFor, pairs_dropped, pairs_of, pairs_put, value_at_key};
+ghost use Rattle.lp_cells.specs.Mapping.{HasDistinctKeys, IsFullFor, pairs_dropped, pairs_of, pairs_put, value_at_key};
 ghost use Rattle.lp_cells.specs.Refusals.{UnlessFull};
+ghost use Rattle.lp_values.specs.Limits.{max_items};
 
 use crate::content::{Content, Items, Kind};
-use crate::fault::{CellFault, MAX_ITEMS};
+use crate::fault::CellFault;
 use crate::pairs::Pairs;
 use lp_values::id::CellId;
+use lp_values::limits::MAX_ITEMS;
 use lp_values::value::{Living, Value};
 use std::alloc::Global;
 use std::marker::Model;
@@ -56,7 +58,7 @@ impl Cells {
 
     /// A new array. `TooLong` comes exactly above 10000 items.
     pub fn new_array(&mut self, items: Vec<Value>) -> Result<CellId, CellFault>
-        ensures made { UnlessFull (10000 < length items.items) (λ c. (c.0 ≡ length self.old) × (self.new ≡ with_cell self.old (Content.Array items.items))) (self.new ≡ self.old) result }
+        ensures made { UnlessFull (max_items < length items.items) (λ c. (c.0 ≡ length self.old) × (self.new ≡ with_cell self.old (Content.Array items.items))) (self.new ≡ self.old) result }
         ensures stay { KeepsThere self.old self.new }
         ensures closed { IsClosed self.old → All (IsThere self.old) items.items → IsClosed self.new }
     {
@@ -68,7 +70,7 @@ impl Cells {
 
     /// A new mapping of these pairs. `TooLong` comes exactly above 10000 pairs.
     pub fn new_mapping(&mut self, pairs: Pairs) -> Result<CellId, CellFault>
-        ensures made { UnlessFull (10000 < length pairs) (λ c. (c.0 ≡ length self.old) × (self.new ≡ with_cell self.old (Content.Mapping pairs))) (self.new ≡ self.old) result }
+        ensures made { UnlessFull (max_items < length pairs) (λ c. (c.0 ≡ length self.old) × (self.new ≡ with_cell self.old (Content.Mapping pairs))) (self.new ≡ self.old) result }
         ensures stay { KeepsThere self.old self.new }
         ensures closed { IsClosed self.old → All (IsPairThere self.old) pairs → IsClosed self.new }
     {
@@ -81,12 +83,15 @@ impl Cells {
     /// A new mapping. A later equal key wins, at the first one's place. Keys are taken as they stand.
     /// `TooLong` comes exactly above 10000 pairs with different keys.
     pub fn new_map(&mut self, pairs: Vec<(Value, Value)>) -> Result<CellId, CellFault>
-        ensures made { UnlessFull (10000 < length (pairs_of pairs.items)) (λ c. (c.0 ≡ length self.old) × (self.new ≡ with_cell self.old (Content.Mapping (pairs_of pairs.items)))) (self.new ≡ self.old) result }
+        ensures made { UnlessFull (max_items < length (pairs_of pairs.items)) (λ c. (c.0 ≡ length self.old) × (self.new ≡ with_cell self.old (Content.Mapping (pairs_of pairs.items)))) (self.new ≡ self.old) result }
         ensures stay { KeepsThere self.old self.new }
         ensures closed { IsClosed self.old → All (IsPairThere self.old) pairs.items → IsClosed self.new }
     {
-        let pairs = Pairs::from_vec(self.alloc, pairs)?;
-        self.new_mapping(pairs)
+        let pairs = match Pairs::from_vec(self.alloc, pairs) {
+            Ok(pairs) => pairs,
+            Err(fault) => return Err(fault),
+        };
+        Ok(self.new_cell(Content::Mapping(pairs))?)
     }
 
     /// Whether the array or mapping that a value names is there. Takes no memory.
@@ -134,13 +139,17 @@ impl Cells {
         }
     }
 
-    /// The pairs of a mapping. Takes no memory.
+    /// The pairs of a mapping, no key of which is stored twice. Takes no memory.
     pub fn pairs(&self, id: CellId) -> &Pairs
         requires { IsSome (pairs_at self.now id) }
         ensures value { pairs_at self.now id ≡ Some result.now }
+        ensures unique { HasDistinctKeys result.now }
         ensures there { IsClosed self.now → All (IsPairThere self.now) result.now }
     {
-        self.mapping_pairs(id)
+        let pairs = self.mapping_pairs(id);
+        // The map's length comes with what it says of its keys.
+        let _stored = pairs.len();
+        pairs
     }
 
     /// The pairs of a mapping.

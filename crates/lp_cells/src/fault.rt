@@ -5,9 +5,6 @@ ghost use Rattle.lp_cells.specs.declared.fault.CellFault.TheVariants.{NoMemory};
 use std::alloc::{AllocError, AllocFailed};
 use thiserror::Error;
 
-/// How many items an array has at most, and how many pairs a mapping, as read.
-pub const MAX_ITEMS: usize = 10000;
-
 /// Why a call on cells is refused.
 #[derive(Debug, PartialEq, Eq, Drop, Error)]
 pub enum CellFault {

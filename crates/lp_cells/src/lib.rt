@@ -5,5 +5,3 @@ pub mod cells;
 pub mod content;
 pub mod fault;
 pub mod pairs;
-#[cfg(test)]
-mod tests;

@@ -1,15 +1,17 @@
 //! The pairs of a mapping.
-ghost use Rattle.std.specs.Prelude.{◌≡◌, ◌≢◌, ◌+◌, ◌<◌, ◌≤◌, ◌^◌, ◌↔◌, [], length, is_some, slice_get, if◌then◌else◌, IfOk, OnOk, OnErr};
+ghost use Rattle.std.specs.Prelude.{◌≡◌, ◌≢◌, ◌+◌, ◌<◌, ◌≤◌, ◌^◌, ◌↔◌, ⊤, [], length, is_some, slice_get, if◌then◌else◌, IfOk, OnOk, OnErr};
 ghost use Rattle.std.specs.Map.{lookup, remove_entry};
 ghost use Rattle.std.specs.Map.Iter.{deref_pair};
 ghost use Rattle.std.specs.Option.{option_copied, option_map, option_to_list};
 ghost use Rattle.indexmap.specs.IndexMap.{insert_all, insert_entry, spare};
 ghost use Rattle.lp_values.specs.Read.{as_read, live_part, value_eq};
-ghost use Rattle.lp_cells.specs.Mapping.{IsFullFor, has_room_for, is_object, objects_in, pair_there, pairs_dropped, pairs_of, pairs_put, pairs_there, value_at_key};
+ghost use Rattle.lp_cells.specs.Mapping.{HasDistinctKeys, IsFullFor, has_room_for, is_object, objects_in, pair_there, pairs_dropped, pairs_of, pairs_put, pairs_there, value_at_key};
 ghost use Rattle.lp_cells.specs.Refusals.{UnlessFull};
+ghost use Rattle.lp_values.specs.Limits.{max_items};
 
-use crate::fault::{CellFault, MAX_ITEMS};
+use crate::fault::CellFault;
 use indexmap::IndexMap;
+use lp_values::limits::MAX_ITEMS;
 use lp_values::value::{Living, Value, as_read};
 use std::alloc::{AllocError, Global};
 use std::marker::Model;
@@ -48,21 +50,28 @@ impl Pairs {
         }
     }
 
-    /// These pairs, a later equal key winning at the first one's place.
-    pub fn from_vec(alloc: Global, pairs: Vec<(Value, Value)>) -> Result<Pairs, AllocError>
-        ensures { IfOk result (λ t. t ≡ pairs_of pairs.items) }
+    /// These pairs, a later equal key winning at the first one's place, where they have at most
+    /// [`MAX_ITEMS`] keys. No more than one pair above that is stored before it is refused.
+    ///
+    /// - `TooLong`: exactly where they have more keys.
+    pub fn from_vec(alloc: Global, pairs: Vec<(Value, Value)>) -> Result<Pairs, CellFault>
+        ensures { UnlessFull (max_items < length (pairs_of pairs.items)) (λ t. t ≡ pairs_of pairs.items) ⊤ result }
     {
         let mut all = Pairs::new(alloc);
         for (key, v) in pairs {
             all.put(key, v)?;
+            if all.len() > MAX_ITEMS {
+                return Err(CellFault::TooLong);
+            }
         }
         Ok(all)
     }
 
-    /// How many pairs are stored, dead keys included.
+    /// How many pairs are stored, dead keys included. No key is stored twice.
     pub fn len(&self) -> usize
         ensures value { result ≡ length self.now }
         ensures small { result < 2 ^ 63 }
+        ensures unique { HasDistinctKeys self.now }
     {
         self.pairs.len()
     }

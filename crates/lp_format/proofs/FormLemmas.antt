@@ -9,6 +9,7 @@ use Rattle.lp_format.specs.declared.form.Piece.{Piece}
 use Rattle.lp_format.specs.Answers.{Appends, Gives}
 use Rattle.lp_format.specs.Forms.{Placed, marked_len, piece, piece_len, pieces_after}
 use Rattle.lp_format.specs.Formatted.{after, formatted_after, piece_text, short, uses}
+use Rattle.lp_values.specs.Limits.{max_code_points}
 
 passed : (at n : ℕ) (cs : List ℕ) → pieces_after at n cs ≡ pieces_after at 0 (drop n cs)
 passed at zero cs = refl
@@ -28,11 +29,11 @@ next_pieces at form lt some =
     let e : drop at form ≡ get_or form at 0 ∷ drop (at + 1) form = drop_more form at 0 lt in
     subst (λ (l : List ℕ). 0 < piece_len l → pieces_after at 0 l ≡ record { piece = piece l; at = at } ∷ pieces_after (at + piece_len l) 0 (drop (piece_len l) l)) (sym e) (first_and_rest at (get_or form at 0) (drop (at + 1) form)) some ∙ ap (λ (l : List ℕ). record { piece = piece (drop at form); at = at } ∷ pieces_after (at + piece_len (drop at form)) 0 l) (drop-drop (piece_len (drop at form)) at form)
 
-short_is : (t : List ℕ) → length t ≤ 100000 → short t ≡ Ok t
-short_is t le = let e : nat_lt 100000 (length t) ≡ false = search arith in rw e refl
+short_is : (t : List ℕ) → length t ≤ max_code_points → short t ≡ Ok t
+short_is t le = let e : nat_lt max_code_points (length t) ≡ false = search arith in rw e refl
 
-long_is : (t : List ℕ) → 100000 < length t → short t ≡ Err TooLong
-long_is t lt = let e : nat_lt 100000 (length t) ≡ true = search arith in rw e refl
+long_is : (t : List ℕ) → max_code_points < length t → short t ≡ Err TooLong
+long_is t lt = let e : nat_lt max_code_points (length t) ≡ true = search arith in rw e refl
 
 -- a piece's text was appended: the rest goes on behind it
 pub appended : (w : Result (List ℕ) FormatFault) (old new : List ℕ) (more : List ℕ → Result (List ℕ) FormatFault) → Appends (Ok tt) old new w → after w (λ t. after (short (old ++ t)) more) ≡ more new

@@ -9,13 +9,14 @@ use Rattle.lp_format.specs.declared.fault.FormatFault.TheVariants.{TooLong}
 use Rattle.lp_format.specs.Forms.{Placed, behind_left, behind_marks, behind_width, count_len, mark_len, marked_len, precision_len}
 use Rattle.lp_format.specs.Formatted.{after, formatted, formatted_after, piece_text, short, uses}
 use Rattle.lp_format.specs.Laws.{AreTexts, IsFormatted, IsPassed, IsTold, Stops, uses_of}
+use Rattle.lp_values.specs.Limits.{max_code_points}
 
 -- all pieces have texts, behind what there is so far and from place i of the arguments on
 record Whole (live : ObjId → Bool) (spell : Value → List ℕ) (args : List Value) (done : List ℕ) (i : ℕ) (ps : List Placed) (text : List ℕ) : Type 0 where
   texts : List (List ℕ)
   are : AreTexts live spell args i ps texts
   joined : text ≡ done ++ concat texts
-  fits : length text ≤ 100000
+  fits : length text ≤ max_code_points
 
 record Refused (live : ObjId → Bool) (spell : Value → List ℕ) (args : List Value) (done : List ℕ) (i : ℕ) (ps : List Placed) (fault : FormatFault) : Type 0 where
   before : List Placed
@@ -24,7 +25,7 @@ record Refused (live : ObjId → Bool) (spell : Value → List ℕ) (args : List
   split : ps ≡ before ++ last ∷ behind
   texts : List (List ℕ)
   are : AreTexts live spell args i before texts
-  fits : length done + length (concat texts) ≤ 100000
+  fits : length done + length (concat texts) ≤ max_code_points
   stops : Stops (length done + length (concat texts)) fault (piece_text live spell args (i + uses_of before) last.at last.piece)
 
 abbrev Told : (ObjId → Bool) → (Value → List ℕ) → List Value → List ℕ → ℕ → List Placed → Result (List ℕ) FormatFault → Type 0
@@ -54,7 +55,7 @@ told_behind live spell args done i p ps t (Err fault) e w =
     }
 
 -- a first piece that ends the text
-told_here : (live : ObjId → Bool) (spell : Value → List ℕ) (args : List Value) (done : List ℕ) (i : ℕ) (p : Placed) (ps : List Placed) (fault : FormatFault) → length done ≤ 100000 → Stops (length done) fault (piece_text live spell args i p.at p.piece) → Told live spell args done i (p ∷ ps) (Err fault)
+told_here : (live : ObjId → Bool) (spell : Value → List ℕ) (args : List Value) (done : List ℕ) (i : ℕ) (p : Placed) (ps : List Placed) (fault : FormatFault) → length done ≤ max_code_points → Stops (length done) fault (piece_text live spell args i p.at p.piece) → Told live spell args done i (p ∷ ps) (Err fault)
 told_here live spell args done i p ps fault fits stops =
     let n : length done + 0 ≡ length done = omega arith in
     let k : i + 0 ≡ i = omega arith in
@@ -70,19 +71,19 @@ told_here live spell args done i p ps fault fits stops =
     }
 
 -- a first piece by its length
-told_by_length : (live : ObjId → Bool) (spell : Value → List ℕ) (args : List Value) (done : List ℕ) (i : ℕ) (p : Placed) (ps : List Placed) (t : List ℕ) (b : Bool) → length done ≤ 100000 → piece_text live spell args i p.at p.piece ≡ Ok t → nat_lt 100000 (length (done ++ t)) ≡ b → (length (done ++ t) ≤ 100000 → Told live spell args (done ++ t) (i + uses p.piece) ps (formatted_after live spell args (done ++ t) (i + uses p.piece) ps)) → Told live spell args done i (p ∷ ps) (after (cond b (Err TooLong) (Ok (done ++ t))) (λ all. formatted_after live spell args all (i + uses p.piece) ps))
+told_by_length : (live : ObjId → Bool) (spell : Value → List ℕ) (args : List Value) (done : List ℕ) (i : ℕ) (p : Placed) (ps : List Placed) (t : List ℕ) (b : Bool) → length done ≤ max_code_points → piece_text live spell args i p.at p.piece ≡ Ok t → nat_lt max_code_points (length (done ++ t)) ≡ b → (length (done ++ t) ≤ max_code_points → Told live spell args (done ++ t) (i + uses p.piece) ps (formatted_after live spell args (done ++ t) (i + uses p.piece) ps)) → Told live spell args done i (p ∷ ps) (after (cond b (Err TooLong) (Ok (done ++ t))) (λ all. formatted_after live spell args all (i + uses p.piece) ps))
 told_by_length live spell args done i p ps t true fits e long more =
-    let over : 100000 < length (done ++ t) = search arith in
+    let over : max_code_points < length (done ++ t) = search arith in
     told_here live spell args done i p ps TooLong fits (subst (Stops (length done) TooLong) (sym e) (refl, omega (arith, over, length-append done t)))
 told_by_length live spell args done i p ps t false fits e long more =
-    let under : length (done ++ t) ≤ 100000 = search arith in
+    let under : length (done ++ t) ≤ max_code_points = search arith in
     told_behind live spell args done i p ps t (formatted_after live spell args (done ++ t) (i + uses p.piece) ps) e (more under)
 
-told_first : (live : ObjId → Bool) (spell : Value → List ℕ) (args : List Value) (done : List ℕ) (i : ℕ) (p : Placed) (ps : List Placed) (r : Result (List ℕ) FormatFault) → length done ≤ 100000 → piece_text live spell args i p.at p.piece ≡ r → ((t : List ℕ) → length (done ++ t) ≤ 100000 → Told live spell args (done ++ t) (i + uses p.piece) ps (formatted_after live spell args (done ++ t) (i + uses p.piece) ps)) → Told live spell args done i (p ∷ ps) (after r (λ t. after (short (done ++ t)) (λ all. formatted_after live spell args all (i + uses p.piece) ps)))
-told_first live spell args done i p ps (Ok t) fits e more = told_by_length live spell args done i p ps t (nat_lt 100000 (length (done ++ t))) fits e refl (more t)
+told_first : (live : ObjId → Bool) (spell : Value → List ℕ) (args : List Value) (done : List ℕ) (i : ℕ) (p : Placed) (ps : List Placed) (r : Result (List ℕ) FormatFault) → length done ≤ max_code_points → piece_text live spell args i p.at p.piece ≡ r → ((t : List ℕ) → length (done ++ t) ≤ max_code_points → Told live spell args (done ++ t) (i + uses p.piece) ps (formatted_after live spell args (done ++ t) (i + uses p.piece) ps)) → Told live spell args done i (p ∷ ps) (after r (λ t. after (short (done ++ t)) (λ all. formatted_after live spell args all (i + uses p.piece) ps)))
+told_first live spell args done i p ps (Ok t) fits e more = told_by_length live spell args done i p ps t (nat_lt max_code_points (length (done ++ t))) fits e refl (more t)
 told_first live spell args done i p ps (Err fault) fits e more = told_here live spell args done i p ps fault fits (subst (Stops (length done) fault) (sym e) refl)
 
-told : (live : ObjId → Bool) (spell : Value → List ℕ) (args : List Value) (done : List ℕ) (i : ℕ) (ps : List Placed) → length done ≤ 100000 → Told live spell args done i ps (formatted_after live spell args done i ps)
+told : (live : ObjId → Bool) (spell : Value → List ℕ) (args : List Value) (done : List ℕ) (i : ℕ) (ps : List Placed) → length done ≤ max_code_points → Told live spell args done i ps (formatted_after live spell args done i ps)
 told live spell args done i [] fits = record { texts = []; are = tt; joined = sym (append-nil done); fits = fits }
 told live spell args done i (p ∷ ps) fits = told_first live spell args done i p ps (piece_text live spell args i p.at p.piece) fits refl (λ t. told live spell args (done ++ t) (i + uses p.piece) ps)
 

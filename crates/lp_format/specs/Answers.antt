@@ -3,6 +3,7 @@ use Rattle.std.specs.Prelude.{◌≡◌, ◌<◌, ◌≤◌, ℕ, List, ◌++◌
 use Rattle.std.specs.Bool.{⊤}
 use Rattle.lp_format.specs.declared.fault.FormatFault.{FormatFault}
 use Rattle.lp_format.specs.declared.fault.FormatFault.TheVariants.{BadFormat, TooFewArgs, BadArg, TooLong, NoMemory}
+use Rattle.lp_values.specs.Limits.{max_code_points}
 
 -- the answer is this result
 abbrev pub Gives : {A : Type 0} → Result A FormatFault → Result A FormatFault → Type 0
@@ -15,8 +16,8 @@ Gives (Err TooLong) wanted = wanted ≡ Err TooLong
 
 -- the text became this one where it has at most 100000 code points, and exactly above that the answer is TooLong
 abbrev pub Becomes : Result (Unit {0}) FormatFault → List ℕ → List ℕ → Type 0
-Becomes (Ok _) new t = (new ≡ t) × (length t ≤ 100000)
-Becomes (Err TooLong) new t = 100000 < length t
+Becomes (Ok _) new t = (new ≡ t) × (length t ≤ max_code_points)
+Becomes (Err TooLong) new t = max_code_points < length t
 Becomes (Err NoMemory) new t = ⊤
 Becomes (Err (BadFormat at)) new t = ⊥
 Becomes (Err TooFewArgs) new t = ⊥

@@ -10,6 +10,7 @@ use Rattle.lp_format.specs.declared.form.Piece.TheVariants.{Bad, Made, Plain}
 use Rattle.lp_format.specs.Forms.{Placed}
 use Rattle.lp_format.specs.Fill.{filled}
 use Rattle.lp_format.specs.Conversions.{conversion_uses, count_uses, measured, written}
+use Rattle.lp_values.specs.Limits.{max_code_points}
 
 -- the first fault counts
 abbrev pub after : {A B : Type 0} → Result A FormatFault → (A → Result B FormatFault) → Result B FormatFault
@@ -42,7 +43,7 @@ piece_text live spell args i at Bad = Err (BadFormat at)
 
 -- a text of at most 100000 code points
 abbrev pub short : List ℕ → Result (List ℕ) FormatFault
-short t = if nat_lt 100000 (length t) then Err TooLong else Ok t
+short t = if nat_lt max_code_points (length t) then Err TooLong else Ok t
 
 -- the text of pieces, one after another, behind what there is so far: the first fault counts, and the length is looked at after each piece
 abbrev pub formatted_after : (ObjId → Bool) → (Value → List ℕ) → List Value → List ℕ → ℕ → List Placed → Result (List ℕ) FormatFault

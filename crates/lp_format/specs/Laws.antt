@@ -8,6 +8,7 @@ use Rattle.lp_format.specs.declared.fault.FormatFault.{FormatFault}
 use Rattle.lp_format.specs.declared.fault.FormatFault.TheVariants.{TooLong}
 use Rattle.lp_format.specs.Forms.{Placed, behind_precision, marked_len}
 use Rattle.lp_format.specs.Formatted.{formatted, piece_text, uses}
+use Rattle.lp_values.specs.Limits.{max_code_points}
 
 -- how many arguments pieces take together
 abbrev pub uses_of : List Placed → ℕ
@@ -23,7 +24,7 @@ AreTexts live spell args i (p ∷ ps) [] = ⊥
 
 -- a piece behind n code points ends the text with this fault: its own, or it is one piece too many
 abbrev pub Stops : ℕ → FormatFault → Result (List ℕ) FormatFault → Type 0
-Stops n fault (Ok t) = (fault ≡ TooLong) × (100000 < n + length t)
+Stops n fault (Ok t) = (fault ≡ TooLong) × (max_code_points < n + length t)
 Stops n fault (Err own) = fault ≡ own
 
 -- all pieces have texts, and the text is these one after another
@@ -31,7 +32,7 @@ pub record IsWhole (live : ObjId → Bool) (spell : Value → List ℕ) (args : 
   pub texts : List (List ℕ)
   pub are : AreTexts live spell args 0 ps texts
   pub joined : text ≡ concat texts
-  pub fits : length text ≤ 100000
+  pub fits : length text ≤ max_code_points
 
 -- the pieces up to one have texts, which fit, and that one ends the text with this fault
 pub record IsRefused (live : ObjId → Bool) (spell : Value → List ℕ) (args : List Value) (ps : List Placed) (fault : FormatFault) : Type 0 where
@@ -41,7 +42,7 @@ pub record IsRefused (live : ObjId → Bool) (spell : Value → List ℕ) (args 
   pub split : ps ≡ before ++ last ∷ behind
   pub texts : List (List ℕ)
   pub are : AreTexts live spell args 0 before texts
-  pub fits : length (concat texts) ≤ 100000
+  pub fits : length (concat texts) ≤ max_code_points
   pub stops : Stops (length (concat texts)) fault (piece_text live spell args (uses_of before) last.at last.piece)
 
 -- a text is whole, and a fault is that of the first piece that has one or is one too many

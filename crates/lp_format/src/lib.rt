@@ -7,6 +7,4 @@ pub mod names;
 mod out;
 mod spell;
 pub mod sprintf;
-#[cfg(test)]
-mod tests;
 mod write;

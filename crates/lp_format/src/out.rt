@@ -4,7 +4,8 @@ ghost use Rattle.std.specs.Str.{chars};
 ghost use Rattle.lp_format.specs.Fill.{put_in as put_in_at};
 ghost use Rattle.lp_format.specs.Answers.{AppendsText, Becomes};
 
-use crate::fault::{FormatFault, LONGEST};
+use crate::fault::FormatFault;
+use lp_values::limits::MAX_CODE_POINTS;
 use lp_values::text::{Text, code_points};
 use std::alloc::{AllocError, Global};
 use std::marker::Model;
@@ -65,7 +66,7 @@ impl Out {
     pub(crate) fn push(&mut self, c: char) -> Result<(), FormatFault>
         ensures { AppendsText result self.old self.new (c ∷ []) }
     {
-        if self.chars.len() >= LONGEST {
+        if self.chars.len() >= MAX_CODE_POINTS {
             return Err(FormatFault::TooLong);
         }
         self.chars.push(c)?;
@@ -76,7 +77,7 @@ impl Out {
     pub(crate) fn push_all(&mut self, s: &[char]) -> Result<(), FormatFault>
         ensures { AppendsText result self.old self.new s.now }
     {
-        if s.len() > LONGEST || self.chars.len() > LONGEST - s.len() {
+        if s.len() > MAX_CODE_POINTS || self.chars.len() > MAX_CODE_POINTS - s.len() {
             return Err(FormatFault::TooLong);
         }
         self.chars.extend_from_slice(s)?;
@@ -97,7 +98,7 @@ impl Out {
         ensures { Becomes result self.new (put_in_at place n c self.old) }
     {
         let len = self.chars.len();
-        if n > LONGEST || len > LONGEST - n {
+        if n > MAX_CODE_POINTS || len > MAX_CODE_POINTS - n {
             return Err(FormatFault::TooLong);
         }
         self.chars.resize(len + n, c)?;

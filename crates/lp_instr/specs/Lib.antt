@@ -1,3 +1,4 @@
 pub mod EfunList
+pub mod EfunKinds
 pub mod Code
 pub mod Sound

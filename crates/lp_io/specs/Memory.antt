@@ -14,9 +14,10 @@ pub record Reading : Type 0 where
   pub left : List ℕ
   pub calls : Calls
 
--- a sink in memory: the bytes that it took, the most that it takes at once, its calls, and how many writes took nothing of a piece that has bytes
+-- a sink in memory: the bytes that it took, whether no write followed the last flush, the most that it takes at once, its calls, and how many writes took nothing of a piece that has bytes
 pub record Writing : Type 0 where
   pub bytes : List ℕ
+  pub passed : Bool
   pub most : ℕ
   pub calls : Calls
   pub zeros : ℕ

@@ -18,6 +18,11 @@ abbrev pub IsAtEnd : Option (List ℕ) → Type 0
 IsAtEnd None = ⊤
 IsAtEnd (Some xs) = xs ≡ []
 
+-- all that was taken was passed on, where that is told
+abbrev pub IsPassedOn : Option Bool → Type 0
+IsPassedOn None = ⊤
+IsPassedOn (Some passed) = passed ≡ true
+
 -- a write took no byte of a piece that has some
 abbrev pub took_none : List ℕ → Result ℕ Failed → Bool
 took_none piece (Ok n) = (n == 0) && nat_lt 0 (length piece)

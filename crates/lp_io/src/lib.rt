@@ -15,6 +15,3 @@ pub use outside::{Failed, Sink, Source};
 pub use put::{PutFault, put_all};
 pub use quiet::{QuietSink, QuietSource};
 pub use standard::{StdSink, StdSource};
-
-#[cfg(test)]
-mod tests;

@@ -1,9 +1,9 @@
 //! A source and a sink in memory, whose calls fail as they are told.
-ghost use Rattle.std.specs.Prelude.{◌≡◌, ℕ, ◌<◌, ◌≤◌, ◌++◌, [], length, take, drop, min, Some, IfOk, OnErr, IsTrue, IsErr, if◌then◌else◌};
+ghost use Rattle.std.specs.Prelude.{◌≡◌, ℕ, ◌<◌, ◌≤◌, ◌++◌, [], true, false, length, take, drop, min, Some, IfOk, OnOk, OnErr, IsTrue, IsErr, if◌then◌else◌};
 ghost use Rattle.std.specs.Result.{is_err};
 ghost use Rattle.lp_io.specs.Counts.{Counts};
 ghost use Rattle.lp_io.specs.Memory.{after_call, after_failure, next_is_listed};
-ghost use Rattle.lp_io.specs.Told.{after_adding, before_giving, took_none, IsAtEnd};
+ghost use Rattle.lp_io.specs.Told.{after_adding, before_giving, took_none, IsAtEnd, IsPassedOn};
 
 use crate::bytes::Octets;
 use crate::calls::CallList;
@@ -100,6 +100,7 @@ impl Source for MemSource {
 #[derive(Debug, Drop)]
 pub struct MemSink {
     content: Vec<u8>,
+    passed: bool,
     most: usize,
     calls: CallList,
     zeros: u64,
@@ -110,17 +111,18 @@ impl Model for MemSink {
 
     ghost Value = { Writing };
 
-    ghost view = { λ s. record { bytes = s.content.items; most = s.most; calls = s.calls; zeros = s.zeros } };
+    ghost view = { λ s. record { bytes = s.content.items; passed = s.passed; most = s.most; calls = s.calls; zeros = s.zeros } };
 }
 
 impl MemSink {
     /// An empty sink. Its calls with the numbers in `fail` fail, where writes and flushes are
     /// numbered together from 1, and each write takes `take` bytes at most. It takes no memory.
     pub fn new(alloc: Global, fail: Vec<u64>, take: usize) -> MemSink
-        ensures { result ≡ record { bytes = []; most = take; calls = record { listed = fail.items; made = 0; failed = 0 }; zeros = 0 } }
+        ensures { result ≡ record { bytes = []; passed = true; most = take; calls = record { listed = fail.items; made = 0; failed = 0 }; zeros = 0 } }
     {
         MemSink {
             content: Vec::new(alloc),
+            passed: true,
             most: take,
             calls: CallList::new(fail),
             zeros: 0,
@@ -156,6 +158,8 @@ impl Sink for MemSink {
 
     ghost written = { λ s. Some s.bytes };
 
+    ghost passed = { λ s. Some s.passed };
+
     /// Takes the whole piece, or the most that it takes at once. It fails where the number of this
     /// call is listed, and where there is no memory for the bytes.
     fn write(&mut self, piece: &[u8]) -> Result<usize, Failed>
@@ -168,6 +172,8 @@ impl Sink for MemSink {
         ensures zeros_no_fall { self.old.zeros ≤ self.new.zeros }
         ensures fails { IsTrue (next_is_listed self.old.calls) → IsErr result }
         ensures count { IfOk result (λ n. n ≡ min self.old.most (length piece.now)) }
+        ensures held { OnOk result (self.new.passed ≡ false) }
+        ensures held_still { OnErr result (self.new.passed ≡ self.old.passed) }
         ensures calls { self.new.calls ≡ (if is_err result then after_failure self.old.calls else after_call self.old.calls) }
         ensures most { self.new.most ≡ self.old.most }
     {
@@ -182,6 +188,7 @@ impl Sink for MemSink {
         if n == 0 && !piece.is_empty() {
             self.zeros = self.zeros.saturating_add(1);
         }
+        self.passed = false;
         Ok(n)
     }
 
@@ -191,6 +198,7 @@ impl Sink for MemSink {
         ensures faults { Counts (is_err result) self.old.calls.failed self.new.calls.failed }
         ensures no_fall { self.old.calls.failed ≤ self.new.calls.failed }
         ensures zeros { self.new.zeros ≡ self.old.zeros }
+        ensures passed { OnOk result (IsPassedOn (Some self.new.passed)) }
         ensures fails { is_err result ≡ next_is_listed self.old.calls }
         ensures calls { self.new.calls ≡ (if is_err result then after_failure self.old.calls else after_call self.old.calls) }
         ensures most { self.new.most ≡ self.old.most }
@@ -198,6 +206,7 @@ impl Sink for MemSink {
         if self.calls.next_fails() {
             return Err(Failed);
         }
+        self.passed = true;
         Ok(())
     }
 }

@@ -1,5 +1,5 @@
 //! Sources and sinks of bytes, with what each call promises.
-ghost use Rattle.std.specs.Prelude.{◌≡◌, ℕ, ◌<◌, ◌≤◌, List, Option, length, take, IfOk, OnErr};
+ghost use Rattle.std.specs.Prelude.{◌≡◌, ℕ, ◌<◌, ◌≤◌, Bool, List, Option, length, take, IfOk, OnOk, OnErr};
 ghost use Rattle.std.specs.Result.{is_err};
 ghost use Rattle.lp_io.specs.Counts.{Counts};
 
@@ -37,15 +37,18 @@ pub trait Source {
 ///
 /// A sink counts its faults in `faults`, and in `zeros` the writes that took no byte of a piece
 /// that has some. Neither count ever falls, and each stands still at `u64::MAX`. A sink in memory
-/// tells in `written` the bytes that it has taken; one over a real device tells `None`.
+/// tells in `written` the bytes that it has taken, and in `passed` whether a flush has passed all of
+/// them on; one over a real device tells `None`.
 pub trait Sink {
-    ghost use Rattle.lp_io.specs.Told.{after_adding, took_none};
+    ghost use Rattle.lp_io.specs.Told.{after_adding, took_none, IsPassedOn};
 
     ghost faults: { Self → ℕ };
 
     ghost zeros: { Self → ℕ };
 
     ghost written: { Self → Option (List ℕ) };
+
+    ghost passed: { Self → Option Bool };
 
     /// Takes bytes from the front of `piece` and returns how many, at most `piece.len()`.
     ///
@@ -65,5 +68,6 @@ pub trait Sink {
         ensures kept { written self.new ≡ written self.old }
         ensures faults { Counts (is_err result) (faults self.old) (faults self.new) }
         ensures no_fall { faults self.old ≤ faults self.new }
-        ensures zeros { zeros self.new ≡ zeros self.old };
+        ensures zeros { zeros self.new ≡ zeros self.old }
+        ensures passed { OnOk result (IsPassedOn (passed self.new)) };
 }

@@ -32,6 +32,8 @@ impl Sink for QuietSink {
 
     ghost written = { λ _. None };
 
+    ghost passed = { λ _. None };
+
     fn write(&mut self, piece: &[u8]) -> Result<usize, Failed> {
         Ok(piece.len())
     }

@@ -92,6 +92,8 @@ impl<W: Write> Sink for StdSink<W> {
 
     ghost written = { λ _. None };
 
+    ghost passed = { λ _. None };
+
     /// Takes what one write of the writer takes.
     fn write(&mut self, piece: &[u8]) -> Result<usize, Failed>
         ensures within { IfOk result (λ n. n ≤ length piece.now) }

@@ -6,3 +6,4 @@ pub mod Walking
 pub mod Order
 pub mod Cover
 pub mod Ends
+pub mod Unsigned

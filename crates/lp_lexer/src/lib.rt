@@ -8,6 +8,7 @@
 ghost use Rattle.std.specs.Prelude.{◌≡◌, ℕ, ◌≤◌, ◌<◌, List, length, IfOk, IfErr};
 ghost use Rattle.lp_tree.specs.declared.token.Token.{Token as Tok};
 ghost use Rattle.lp_tree.specs.declared.token.LexKind.{LexKind as Kind};
+ghost use Rattle.lp_tree.specs.Signs.{AreUnsigned};
 ghost use Rattle.lp_lexer.specs.Source.{most_bytes};
 ghost use Rattle.lp_lexer.specs.Lexis.{IsLexed, IsFault};
 ghost use Rattle.lp_lexer.specs.Laws.{AreDisjoint, IsAccounted, HasAnswer};
@@ -97,6 +98,11 @@ pub fn law_accounted()
         → IsLexed bs ts → (k : ℕ) → k < length bs → IsAccounted bs ts k }
 {}
 
+/// A law of the definitions: no integer token is negative, since a sign is a token of its own.
+pub fn law_unsigned()
+    ensures { (bs : List ℕ) (ts : List Tok) → IsLexed bs ts → AreUnsigned ts }
+{}
+
 /// The tokens of a file, or its first fault.
 fn answer(alloc: Global, bytes: &[u8]) -> Result<Vec<Token>, LexFault>
     requires { length bytes.now ≤ most_bytes }
@@ -124,6 +130,3 @@ fn answer(alloc: Global, bytes: &[u8]) -> Result<Vec<Token>, LexFault>
         kind: LexKind::NotUtf8,
     })
 }
-
-#[cfg(test)]
-mod tests;

@@ -25,6 +25,7 @@ use Rattle.lp_ops.specs.Effects.{Answers, IsEffectThere, Meets, Yields, referenc
 use Rattle.lp_ops.specs.Integers.{divided, int, remainder, shifted_left, shifted_right, whole, fits}
 use Rattle.lp_ops.specs.Operands.{Opened, Number, Chars, Array, Mapping, Object, opened, value_of}
 use Rattle.lp_ops.specs.Operators.{added, anded, at_place, compared, index, on_integers, or_bad_index, pairs_without, part_of, place_of, result_of, subtracted, text_le, text_lt, first_place, last_place, from_zero, as_point}
+use Rattle.lp_values.specs.Limits.{max_code_points, max_items}
 
 -- what an opened operand holds is there
 abbrev pub IsOpenedThere : Store → Opened → Type 0
@@ -47,14 +48,14 @@ choice_there cells false e f i j = j
 
 value_within : (cells : Store) (v : Value) → IsThere cells v → IsEffectThere cells (within (Gives v))
 value_within cells (Int n) i = tt
-value_within cells (Str s) i = choice_there cells (nat_lt 100000 (length s)) (refused TextTooLong) (Gives (Str s)) tt tt
+value_within cells (Str s) i = choice_there cells (nat_lt max_code_points (length s)) (refused TextTooLong) (Gives (Str s)) tt tt
 value_within cells (Arr c) i = i
 value_within cells (Map c) i = i
 value_within cells (Obj o) i = tt
 
 content_within : (cells : Store) (x : Content) → AreThere cells x → IsEffectThere cells (within (Makes x))
-content_within cells (content.Array vs) i = choice_there cells (nat_lt 10000 (length vs)) (refused TooLong) (Makes (content.Array vs)) tt i
-content_within cells (content.Mapping ps) i = choice_there cells (nat_lt 10000 (length ps)) (refused TooLong) (Makes (content.Mapping ps)) tt i
+content_within cells (content.Array vs) i = choice_there cells (nat_lt max_items (length vs)) (refused TooLong) (Makes (content.Array vs)) tt i
+content_within cells (content.Mapping ps) i = choice_there cells (nat_lt max_items (length ps)) (refused TooLong) (Makes (content.Mapping ps)) tt i
 
 -- the limits of length take nothing that is not there
 pub within_there : (cells : Store) (e : Effect) → IsEffectThere cells e → IsEffectThere cells (within e)

@@ -12,6 +12,7 @@ use Rattle.lp_ops.specs.declared.effect.Effect.{Effect}
 use Rattle.lp_ops.specs.declared.effect.Effect.TheVariants.{Gives, Makes, Fault}
 use Rattle.lp_ops.specs.declared.fault.OpFault.{OpFault}
 use Rattle.lp_ops.specs.declared.fault.OpFault.TheVariants.{NoMemory, Run}
+use Rattle.lp_values.specs.Limits.{max_code_points, max_items}
 
 -- a refusal of this kind
 abbrev pub refused : ErrorKind → Effect
@@ -20,15 +21,15 @@ refused k = Fault (plain k)
 -- results too long are errors: texts above 100000 code points, arrays and mappings above 10000
 abbrev pub within_value : Value → Effect
 within_value (Int n) = Gives (Int n)
-within_value (Str s) = if nat_lt 100000 (length s) then refused TextTooLong else Gives (Str s)
+within_value (Str s) = if nat_lt max_code_points (length s) then refused TextTooLong else Gives (Str s)
 within_value (Arr c) = Gives (Arr c)
 within_value (Map c) = Gives (Map c)
 within_value (Obj o) = Gives (Obj o)
 
 abbrev pub within : Effect → Effect
 within (Gives v) = within_value v
-within (Makes (Array vs)) = if nat_lt 10000 (length vs) then refused TooLong else Makes (Array vs)
-within (Makes (Mapping ps)) = if nat_lt 10000 (length ps) then refused TooLong else Makes (Mapping ps)
+within (Makes (Array vs)) = if nat_lt max_items (length vs) then refused TooLong else Makes (Array vs)
+within (Makes (Mapping ps)) = if nat_lt max_items (length ps) then refused TooLong else Makes (Mapping ps)
 within (Fault e) = Fault e
 
 -- the reference to a new cell of this content

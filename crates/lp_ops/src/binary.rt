@@ -1,25 +1,25 @@
 //! The binary operators.
-ghost use Rattle.std.specs.Prelude.{◌≡◌, ◌*ℤ◌, IfOk, IsSome, int_le, int_lt};
+ghost use Rattle.std.specs.Prelude.{◌≡◌, ◌++◌, ◌*ℤ◌, IfOk, IsSome, int_le, int_lt};
 ghost use Rattle.std.specs.Int.{int_bit_or, int_bit_xor, w64};
 ghost use Rattle.lp_cells.specs.Cells.{IsClosed, IsThere, KeepsThere, pairs_at, stored_pairs};
 ghost use Rattle.lp_cells.specs.Mapping.{pairs_of, pairs_there};
-ghost use Rattle.lp_ops.specs.Effects.{Meets};
+ghost use Rattle.lp_ops.specs.Effects.{Meets, within};
 ghost use Rattle.lp_ops.specs.Integers.{divided, int, remainder, shifted_left, shifted_right, whole};
 ghost use Rattle.lp_ops.specs.Operands.{opened, operand};
-ghost use Rattle.lp_ops.specs.Operators.{added, anded, binary, compared, on_integers, pairs_without, result_of, subtracted, text_le, text_lt};
+ghost use Rattle.lp_ops.specs.Operators.{added, anded, binary, compared, on_integers, pairs_without, subtracted, text_le, text_lt};
 
-use crate::effect::{Effect, array, carry_out, mapping, refused, text};
+use crate::effect::{Effect, array, carry_out, from_text, mapping, refused};
 use crate::fault::OpFault;
 use crate::int::{divided, int, remainder, shifted_left, shifted_right, truth, whole};
-use crate::list::{
-    items_common, items_joined, items_without, pairs_joined, pairs_without, text_joined,
-};
+use crate::list::{items_common, items_joined, items_without, pairs_joined, pairs_without};
 use lp_cells::cells::Cells;
 use lp_cells::content::Content;
+use lp_text::items::join;
 use lp_tree::operator::BinOp;
 use lp_values::decimal::signed_spelling;
 use lp_values::error::ErrorKind;
 use lp_values::id::CellId;
+use lp_values::limits::MAX_ITEMS;
 use lp_values::value::{Living, Value};
 use std::alloc::{AllocError, Global};
 
@@ -44,7 +44,7 @@ pub fn binary<L: Living>(
     carry_out(alloc, effect, cells)
 }
 
-/// What a binary operator does with values that were read, before the limits of length.
+/// What a binary operator does with values that were read, up to the limits of length.
 fn effect_of<L: Living>(
     alloc: Global,
     op: BinOp,
@@ -55,7 +55,7 @@ fn effect_of<L: Living>(
 ) -> Result<Effect, AllocError>
     requires left { IsThere cells.now a.now }
     requires right { IsThere cells.now b.now }
-    ensures { IfOk result (λ e. e ≡ result_of (L.live live.now) op (opened (L.live live.now) cells.now a.now) (opened (L.live live.now) cells.now b.now)) }
+    ensures { IfOk result (λ e. within e ≡ binary (L.live live.now) op (opened (L.live live.now) cells.now a.now) (opened (L.live live.now) cells.now b.now)) }
 {
     match op {
         BinOp::Add => added(alloc, a, b, cells, live),
@@ -77,7 +77,7 @@ fn effect_of<L: Living>(
     }
 }
 
-/// `+`
+/// `+`, up to the limits of length: what is too long is refused before it is built.
 fn added<L: Living>(
     alloc: Global,
     a: &Value,
@@ -87,29 +87,42 @@ fn added<L: Living>(
 ) -> Result<Effect, AllocError>
     requires left { IsThere cells.now a.now }
     requires right { IsThere cells.now b.now }
-    ensures { IfOk result (λ e. e ≡ added (opened (L.live live.now) cells.now a.now) (opened (L.live live.now) cells.now b.now)) }
+    ensures { IfOk result (λ e. within e ≡ within (added (opened (L.live live.now) cells.now a.now) (opened (L.live live.now) cells.now b.now))) }
 {
     match (a, b) {
         (Value::Int(m), Value::Int(n)) => whole(alloc, m.checked_add(*n)),
-        (Value::Str(s), Value::Str(t)) => {
-            text(alloc, text_joined(alloc, s.as_slice(), t.as_slice())?)
-        }
+        (Value::Str(s), Value::Str(t)) => joined(alloc, s.as_slice(), t.as_slice()),
         (Value::Str(s), Value::Int(n)) => {
             let spelled = signed_spelling(alloc, *n)?;
-            text(alloc, text_joined(alloc, s.as_slice(), spelled.as_slice())?)
+            joined(alloc, s.as_slice(), spelled.as_slice())
         }
         (Value::Int(m), Value::Str(t)) => {
             let spelled = signed_spelling(alloc, *m)?;
-            text(alloc, text_joined(alloc, spelled.as_slice(), t.as_slice())?)
+            joined(alloc, spelled.as_slice(), t.as_slice())
         }
-        (Value::Arr(c), Value::Arr(d)) => {
-            Ok(array(items_joined(alloc, cells.items(*c), cells.items(*d))?))
-        }
+        (Value::Arr(c), Value::Arr(d)) => arrays_joined(alloc, cells.items(*c), cells.items(*d)),
         (Value::Map(c), Value::Map(d)) => {
             Ok(mapping(pairs_joined(alloc, cells.pairs(*c), cells.pairs(*d), live)?))
         }
         _ => refused(alloc, ErrorKind::BadOperands),
     }
+}
+
+/// One text and then another, or the refusal where they are too long together.
+fn joined(alloc: Global, first: &[char], second: &[char]) -> Result<Effect, AllocError>
+    ensures { IfOk result (λ e. within e ≡ within (Effect.Gives (Value.Str (first.now ++ second.now)))) }
+{
+    from_text(alloc, join(alloc, first, second))
+}
+
+/// The items of one array and then those of another, or the refusal where they are too many together.
+fn arrays_joined(alloc: Global, first: &[Value], second: &[Value]) -> Result<Effect, AllocError>
+    ensures { IfOk result (λ e. within e ≡ within (Effect.Makes (Content.Array (first.now ++ second.now)))) }
+{
+    if first.len() > MAX_ITEMS || second.len() > MAX_ITEMS - first.len() {
+        return refused(alloc, ErrorKind::TooLong);
+    }
+    Ok(array(items_joined(alloc, first, second)?))
 }
 
 /// `-`

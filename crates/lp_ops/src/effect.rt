@@ -1,5 +1,6 @@
 //! What an operator does, and how it is carried out.
-ghost use Rattle.std.specs.Prelude.{◌≡◌, IfOk, if◌then◌else◌};
+ghost use Rattle.std.specs.Prelude.{◌≡◌, ℕ, List, IfOk, if◌then◌else◌};
+ghost use Rattle.lp_text.specs.Gives.{GivesText};
 ghost use Rattle.lp_values.specs.Errors.{plain};
 ghost use Rattle.lp_cells.specs.Cells.{IsClosed, IsThere, KeepsThere};
 ghost use Rattle.lp_ops.specs.Effects.{Answers, IsEffectThere, Meets, Refuses, refused, within, within_value};
@@ -9,13 +10,12 @@ use lp_cells::cells::Cells;
 use lp_cells::content::{Content, Items};
 use lp_cells::fault::CellFault;
 use lp_cells::pairs::Pairs;
+use lp_text::fault::TextFault;
 use lp_values::error::{ErrorKind, RunError};
+use lp_values::limits::MAX_CODE_POINTS;
 use lp_values::text::Text;
 use lp_values::value::Value;
 use std::alloc::{AllocError, Global};
-
-/// How many code points a text has at most.
-pub const MAX_TEXT: usize = 100000;
 
 /// What an operator does, apart from memory.
 #[derive(Drop)]
@@ -35,11 +35,17 @@ pub fn refused(alloc: Global, kind: ErrorKind) -> Result<Effect, AllocError>
     Ok(Effect::Fault(RunError::plain(alloc, kind)?))
 }
 
-/// A text of these code points.
-pub fn text(alloc: Global, points: Vec<char>) -> Result<Effect, AllocError>
-    ensures { IfOk result (λ e. e ≡ Effect.Gives (Value.Str points.items)) }
+/// What a text function answered, as an effect: its text, or the refusal of one that is too long.
+pub fn from_text(alloc: Global, text: Result<Text, TextFault>) -> Result<Effect, AllocError>
+    requires { (cs : List ℕ) × GivesText text cs }
+    ensures { (cs : List ℕ) → GivesText text cs → IfOk result (λ e. within e ≡ within (Effect.Gives (Value.Str cs))) }
 {
-    Ok(Effect::Gives(Value::Str(Text::from_vec(alloc, points)?)))
+    match text {
+        Ok(text) => Ok(Effect::Gives(Value::Str(text))),
+        Err(TextFault::TooLong) => refused(alloc, ErrorKind::TextTooLong),
+        Err(TextFault::NoMemory) => Err(AllocError),
+        Err(TextFault::BadFormat { .. }) => unreachable!(),
+    }
 }
 
 /// A new array of these items.
@@ -70,7 +76,7 @@ pub fn fault(alloc: Global, kind: ErrorKind) -> OpFault
 pub fn carry_out(alloc: Global, effect: Effect, cells: &mut Cells) -> Result<Value, OpFault>
     ensures value { Meets (within effect) cells.old cells.new result }
     ensures stay { KeepsThere cells.old cells.new }
-    ensures closed { IsClosed cells.old → IsEffectThere cells.old effect → IsClosed cells.new × IfOk result (IsThere cells.new) }
+    ensures closed { IsClosed cells.old → IsEffectThere cells.old (within effect) → IsClosed cells.new × IfOk result (IsThere cells.new) }
 {
     match effect {
         Effect::Gives(v) => give(alloc, v),
@@ -94,7 +100,7 @@ fn is_too_long(v: &Value) -> bool
     ensures { within_value v.now ≡ (if result then refused ErrorKind.TextTooLong else Effect.Gives v.now) }
 {
     match v {
-        Value::Str(s) => s.as_slice().len() > MAX_TEXT,
+        Value::Str(s) => s.as_slice().len() > MAX_CODE_POINTS,
         _ => false,
     }
 }

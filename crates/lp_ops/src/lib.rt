@@ -8,9 +8,8 @@ pub mod fault;
 pub mod index;
 pub mod int;
 pub mod list;
+pub mod operation;
 pub mod price;
 pub mod range;
 pub mod set;
-#[cfg(test)]
-mod tests;
 pub mod unary;

@@ -89,15 +89,6 @@ pub fn items_common<L: Living>(
     Ok(kept)
 }
 
-/// The code points of the first, and then those of the second.
-pub fn text_joined(alloc: Global, first: &[char], second: &[char]) -> Result<Vec<char>, AllocError>
-    ensures { IfOk result (λ v. v.items ≡ first.now ++ second.now) }
-{
-    let mut all = Vec::from_slice(alloc, first)?;
-    all.extend_from_slice(second)?;
-    Ok(all)
-}
-
 /// The pairs of both that are there, the second winning at a key of both.
 pub fn pairs_joined<L: Living>(
     alloc: Global,

@@ -1,24 +1,22 @@
 //! What operators cost. The machine pays: first what is due before an operator acts, then what its result is due.
-ghost use Rattle.std.specs.Prelude.{◌≡◌, ◌<◌, ◌^◌};
+ghost use Rattle.std.specs.Prelude.{◌≡◌, ◌<◌, ◌≤◌, ◌*◌, ◌^◌, All, length};
 ghost use Rattle.lp_cells.specs.Cells.{IsThere, Store};
 ghost use Rattle.lp_ops.specs.Effects.{Yields};
 ghost use Rattle.lp_ops.specs.Operands.{operand, size_of};
-ghost use Rattle.lp_ops.specs.Prices.{binary_after, binary_before, has_share, range_after, range_before};
+ghost use Rattle.lp_ops.specs.Prices.{binary_after, binary_before, binary_has_share, has_share, literal_after, literal_before, price_after, price_before, range_after, range_before, total_size};
 ghost use Rattle.lp_ops.specs.declared.effect.Effect.{Effect};
 
+use crate::operation::Operation;
 use lp_cells::cells::Cells;
 use lp_tree::operator::BinOp;
 use lp_values::value::{Living, Value, as_read};
 
-/// What a prefix operator, or an index that is read or written, costs.
-pub const ONE: u64 = 1;
-
 /// How much of a length is paid: one of so many.
 const SHARE: u64 = 16;
 
-/// Whether an operator pays for the lengths of its operands and its result.
-fn has_share(op: BinOp) -> bool
-    ensures { result ≡ has_share op }
+/// Whether a binary operator pays for the lengths of its operands and its result.
+fn binary_has_share(op: BinOp) -> bool
+    ensures { result ≡ binary_has_share op }
 {
     match op {
         BinOp::Add => true,
@@ -26,6 +24,39 @@ fn has_share(op: BinOp) -> bool
         BinOp::And => true,
         _ => false,
     }
+}
+
+/// Whether an operation does.
+fn has_share(op: Operation) -> bool
+    ensures { result ≡ has_share op }
+{
+    match op {
+        Operation::Binary(op) => binary_has_share(op),
+        Operation::Range => true,
+        Operation::Literal => true,
+        _ => false,
+    }
+}
+
+/// What an operation costs before it acts, where its operands that are texts, arrays and mappings
+/// have this total length. Takes no memory.
+pub fn price_before(op: Operation, total: u64) -> u64
+    ensures { result ≡ price_before op total }
+{
+    if has_share(op) {
+        return 1 + total / SHARE;
+    }
+    1
+}
+
+/// What a result of this length costs after the operation. Takes no memory.
+pub fn price_after(op: Operation, length: u64) -> u64
+    ensures { result ≡ price_after op length }
+{
+    if has_share(op) {
+        return length / SHARE;
+    }
+    0
 }
 
 /// The length of a text, an array or a mapping, as read, or 0. Takes no memory.
@@ -48,10 +79,14 @@ pub fn binary_before<L: Living>(op: BinOp, a: &Value, b: &Value, cells: &Cells, 
     requires right { IsThere cells.now b.now }
     ensures { result ≡ binary_before op (operand (L.live live.now) cells.now a.now) (operand (L.live live.now) cells.now b.now) }
 {
-    if has_share(op) {
-        return ONE + (size(a, cells, live) + size(b, cells, live)) / SHARE;
+    // Lengths are looked at only where they are paid for: the length of a mapping may take a walk.
+    if binary_has_share(op) {
+        return price_before(
+            Operation::Binary(op),
+            size(a, cells, live) + size(b, cells, live),
+        );
     }
-    ONE
+    1
 }
 
 /// What its result costs after it acted. Takes no memory.
@@ -59,8 +94,8 @@ pub fn binary_after<L: Living>(op: BinOp, v: &Value, cells: &Cells, live: &L) ->
     requires { IsThere cells.now v.now }
     ensures { (e : Effect) (old : Store) → Yields e old cells.now v.now → result ≡ binary_after (L.live live.now) op old e }
 {
-    if has_share(op) {
-        return size(v, cells, live) / SHARE;
+    if binary_has_share(op) {
+        return price_after(Operation::Binary(op), size(v, cells, live));
     }
     0
 }
@@ -70,7 +105,7 @@ pub fn range_before<L: Living>(a: &Value, cells: &Cells, live: &L) -> u64
     requires { IsThere cells.now a.now }
     ensures { result ≡ range_before (operand (L.live live.now) cells.now a.now) }
 {
-    ONE + size(a, cells, live) / SHARE
+    price_before(Operation::Range, size(a, cells, live))
 }
 
 /// What its result costs after it acted. Takes no memory.
@@ -78,5 +113,34 @@ pub fn range_after<L: Living>(v: &Value, cells: &Cells, live: &L) -> u64
     requires { IsThere cells.now v.now }
     ensures { (e : Effect) (old : Store) → Yields e old cells.now v.now → result ≡ range_after (L.live live.now) old e }
 {
-    size(v, cells, live) / SHARE
+    price_after(Operation::Range, size(v, cells, live))
+}
+
+/// What an array or a mapping of these parts costs before it is made. Takes no memory.
+pub fn literal_before<L: Living>(parts: &[Value], cells: &Cells, live: &L) -> u128
+    requires { All (IsThere cells.now) parts.now }
+    ensures { result ≡ literal_before (L.live live.now) cells.now parts.now }
+{
+    1 + total_size(parts, cells, live) / SHARE as u128
+}
+
+/// What it costs after it was made. Takes no memory.
+pub fn literal_after<L: Living>(v: &Value, cells: &Cells, live: &L) -> u64
+    requires { IsThere cells.now v.now }
+    ensures { (e : Effect) (old : Store) → Yields e old cells.now v.now → result ≡ literal_after (L.live live.now) old e }
+{
+    price_after(Operation::Literal, size(v, cells, live))
+}
+
+/// The lengths of all parts of a literal together: each is below 2^63, and so are their number.
+fn total_size<L: Living>(parts: &[Value], cells: &Cells, live: &L) -> u128
+    requires { All (IsThere cells.now) parts.now }
+    ensures value { result ≡ total_size (L.live live.now) cells.now parts.now }
+    ensures small { result ≤ 2 ^ 63 * length parts.now }
+{
+    let mut total = 0;
+    for v in parts {
+        total += size(v, cells, live) as u128;
+    }
+    total
 }

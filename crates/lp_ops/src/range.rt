@@ -1,15 +1,16 @@
 //! Ranges of arrays and texts.
 ghost use Rattle.std.specs.Prelude.{◌≡◌, ◌+ℤ◌, IfOk, length, min, pos};
 ghost use Rattle.lp_cells.specs.Cells.{IsClosed, IsThere, KeepsThere};
-ghost use Rattle.lp_ops.specs.Effects.{Meets};
+ghost use Rattle.lp_ops.specs.Effects.{Meets, within};
 ghost use Rattle.lp_ops.specs.Operands.{opened, operand};
-ghost use Rattle.lp_ops.specs.Operators.{between, first_place, from_zero, last_place, part_of, range};
+ghost use Rattle.lp_ops.specs.Operators.{between, first_place, from_zero, last_place, range};
 
-use crate::effect::{Effect, array, carry_out, refused, text};
+use crate::effect::{Effect, array, carry_out, from_text, refused};
 use crate::end::End;
 use crate::fault::OpFault;
 use crate::list::copies;
 use lp_cells::cells::Cells;
+use lp_text::items::text_of;
 use lp_values::error::ErrorKind;
 use lp_values::value::{Living, Value};
 use std::alloc::{AllocError, Global};
@@ -33,7 +34,7 @@ pub fn range<L: Living>(
     carry_out(alloc, effect, cells)
 }
 
-/// What a range does with a value that was read, before the limits of length.
+/// What a range does with a value that was read, up to the limits of length.
 fn part_of<L: Living>(
     alloc: Global,
     a: &Value,
@@ -43,11 +44,11 @@ fn part_of<L: Living>(
     _live: &L,
 ) -> Result<Effect, AllocError>
     requires { IsThere cells.now a.now }
-    ensures { IfOk result (λ e. e ≡ part_of (opened (L.live _live.now) cells.now a.now) from to) }
+    ensures { IfOk result (λ e. within e ≡ range (opened (L.live _live.now) cells.now a.now) from to) }
 {
     match a {
         Value::Arr(c) => Ok(array(copies(alloc, part(cells.items(*c), from, to))?)),
-        Value::Str(s) => text(alloc, Vec::from_slice(alloc, part(s.as_slice(), from, to))?),
+        Value::Str(s) => from_text(alloc, text_of(alloc, part(s.as_slice(), from, to))),
         _ => refused(alloc, ErrorKind::BadOperands),
     }
 }

@@ -19,6 +19,3 @@ pub mod tall;
 
 pub use fault::ParseFault;
 pub use reading::expr;
-
-#[cfg(test)]
-mod tests;

@@ -102,7 +102,7 @@ reads_at bytes taken cut at before Giving told stays input left = (input, left)
 reads_at bytes taken cut at before (Over Whole) told stays input left = (input, left)
 reads_at bytes taken cut at before (Over (endings.Bad n)) told stays input left = (input, left)
 reads_at bytes taken cut at before (Over endings.Large) told stays input left = (input, left)
-reads_at bytes taken cut at before (Over endings.Failed) told stays input left = tt
+reads_at bytes taken cut at before (Over endings.Failed) told stays input left = left
 
 -- where a reader stands, told apart
 abbrev IsGiving : Phase → Type 0

@@ -55,8 +55,12 @@ abbrev pub Reads : List ℕ → Reading → Option (List ℕ) → Type 0
 Reads bytes r told = elim r.phase [
   | Taking ↦ before_giving r.taken told ≡ Some bytes
   | Giving ↦ IsInput bytes r.taken × (before_giving r.taken told ≡ Some bytes)
-  | Over ending ↦ elim ending [ Failed ↦ ⊤ | _ ↦ IsInput bytes r.taken × (before_giving r.taken told ≡ Some bytes) ]
+  | Over ending ↦ elim ending [ Failed ↦ before_giving r.taken told ≡ Some bytes | _ ↦ IsInput bytes r.taken × (before_giving r.taken told ≡ Some bytes) ]
 ]
+
+-- at most the bytes of the longest script and one more are gone from the front of an input
+abbrev pub GoneAtMost : List ℕ → Option (List ℕ) → Type 0
+GoneAtMost bytes told = (n : ℕ) × (n ≤ longest_input + 1) × (told ≡ Some (drop n bytes))
 
 -- where a reader is after an answer
 abbrev pub IsAfter : Result Item ScriptFault → Phase → Type 0

@@ -10,8 +10,8 @@ ghost use Rattle.lp_script.specs.Runs.{goes_on as goes_on_lem, text_of as text_o
 
 use crate::put::{put, put_chars, put_pieces};
 use itoa::Buffer;
-use lp_io::{PutFault, Sink};
 use lp_events::out::{Out, Outs};
+use lp_io::{PutFault, Sink};
 
 // How many bytes these characters have in UTF-8.
 fn utf8_len(chars: &[char]) -> u128

@@ -25,6 +25,3 @@ pub use items::{one_spelling, read_item};
 pub use laws::{more_items, refusals};
 pub use reader::Reader;
 pub use writing::write_item;
-
-#[cfg(test)]
-mod tests;

@@ -13,8 +13,8 @@ use crate::behind::{Refusal, item_behind};
 use crate::fault::ScriptFault;
 use crate::phase::{Ending, Phase};
 use crate::taking::{LONGEST, TakeFault, take_all};
-use lp_io::Source;
 use lp_events::item::Item;
+use lp_io::Source;
 use std::alloc::Global;
 use std::marker::Model;
 

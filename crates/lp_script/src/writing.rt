@@ -7,9 +7,9 @@ ghost use Rattle.lp_script.specs.Put.{Puts};
 
 use crate::put::put_pieces;
 use itoa::Buffer;
-use lp_io::{PutFault, Sink};
 use lp_events::event::Event;
 use lp_events::item::Item;
+use lp_io::{PutFault, Sink};
 
 fn put_event<K: Sink>(out: &mut K, event: &Event) -> Result<(), PutFault>
     ensures { Puts (record { written = K.written out.old; faults = K.faults out.old; zeros = K.zeros out.old })

@@ -10,9 +10,9 @@ ghost use Rattle.lp_small.specs.Running.{world_of, literal_text, said, ran, ran_
 
 use crate::lexer::tokens;
 use crate::parser::{ParseFault, parse, same_name};
+use crate::small::{Applied, Literal, Statement, Token, Unit};
 use lp_events::event::Event;
 use lp_events::out::{Out, Outs};
-use crate::small::{Applied, Literal, Statement, Token, Unit};
 use lp_values::decimal::signed_spelling;
 use lp_values::text::Text;
 use std::alloc::{AllocError, Global};

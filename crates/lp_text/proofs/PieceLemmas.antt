@@ -8,6 +8,7 @@ use Rattle.std.specs.List.{starts_with, flat_map}
 use Rattle.lp_text.specs.Texts.{place_from, place}
 use Rattle.lp_text.specs.Pieces.{pieces_after, pieces, with_head, exploded, imploded, AreNext, AreRoundFirst}
 use Rattle.lp_text.proofs.FindLemmas.{not_past}
+use Rattle.lp_values.specs.Limits.{max_code_points}
 
 -- a text that another begins with is its front
 is_front : (s t : List ℕ) → starts_with nat_eq s t ≡ true → t ≡ take (length t) s
@@ -124,7 +125,7 @@ round_trip [] cs = singles_joined cs
 round_trip (b ∷ bs) cs = ap (imploded (b ∷ bs)) (exploded_is (b ∷ bs) cs (omega arith)) ∙ joined_is (b ∷ bs) (omega arith) 0 cs
 
 -- with one more text the whole is at least as long as what there is so far and that text
-pub too_long : (by : List ℕ) (rest : List (List ℕ)) (i start total : ℕ) (p : List ℕ) → i < length rest → p ≡ get_or rest i p → total ≡ start + length (flat_map (λ p. by ++ p) (take i rest)) → 100000 < total + (length by + length p) → start + length (flat_map (λ p. by ++ p) rest) ≤ 100000 → ⊥
+pub too_long : (by : List ℕ) (rest : List (List ℕ)) (i start total : ℕ) (p : List ℕ) → i < length rest → p ≡ get_or rest i p → total ≡ start + length (flat_map (λ p. by ++ p) (take i rest)) → max_code_points < total + (length by + length p) → start + length (flat_map (λ p. by ++ p) rest) ≤ max_code_points → ⊥
 too_long by rest i start total p lt e sofar above fits =
     let a : length (by ++ get_or rest i p) ≡ length by + length (get_or rest i p) = length-append by (get_or rest i p) in
     let n : length p ≡ length (get_or rest i p) = ap (λ (l : List ℕ). length l) e in

@@ -4,6 +4,7 @@ use Rattle.std.specs.List.{starts_with, join_by}
 use Rattle.std.specs.declared.alloc.Global.{Global}
 use Rattle.lp_text.specs.declared.fault.TextFault.{TextFault}
 use Rattle.lp_text.specs.declared.fault.TextFault.TheVariants.{TooLong, BadFormat, NoMemory}
+use Rattle.lp_values.specs.Limits.{max_code_points}
 
 -- a code point before the first of some pieces
 abbrev pub with_head : ℕ → List (List ℕ) → List (List ℕ)
@@ -35,10 +36,10 @@ AreRoundFirst by cs ps (Some i) = ps ≡ take i cs ∷ pieces by (drop (i + leng
 
 -- the answer is these pieces of a text of at most 100000 code points, and exactly above that it is TooLong; want of memory comes last
 abbrev pub GivesPieces : Result (Vec (List ℕ) Global) TextFault → List ℕ → List (List ℕ) → Type 0
-GivesPieces (Ok v) cs ps = (v.items ≡ ps) × (length cs ≤ 100000)
-GivesPieces (Err TooLong) cs ps = 100000 < length cs
+GivesPieces (Ok v) cs ps = (v.items ≡ ps) × (length cs ≤ max_code_points)
+GivesPieces (Err TooLong) cs ps = max_code_points < length cs
 GivesPieces (Err (BadFormat at)) cs ps = ⊥
-GivesPieces (Err NoMemory) cs ps = length cs ≤ 100000
+GivesPieces (Err NoMemory) cs ps = length cs ≤ max_code_points
 
 -- the pieces of the rest from a place on, by the place of the separator that follows
 abbrev pub AreNext : List ℕ → List ℕ → ℕ → Option ℕ → Type 0

@@ -13,6 +13,7 @@ use Rattle.lp_text.specs.declared.fault.TextFault.{TextFault}
 use Rattle.lp_text.specs.declared.fault.TextFault.TheVariants.{TooLong, BadFormat, NoMemory}
 use Rattle.lp_text.specs.Forms.{Part}
 use Rattle.lp_text.specs.Texts.{place_from}
+use Rattle.lp_values.specs.Limits.{max_code_points}
 
 -- what is assigned of a value
 abbrev pub if_kept : Bool → Scanned → Option Scanned
@@ -83,7 +84,7 @@ scanned (p ∷ ps) cs = going_on (step p.item p.rest cs) (λ n. scanned ps (drop
 
 -- the answer is what is assigned: exactly a form's fault comes first, then exactly a text above 100000 code points, and want of memory last
 abbrev pub GivesScan : Result (Vec Scanned Global) TextFault → Option ℕ → List ℕ → List Scanned → Type 0
-GivesScan (Ok v) fault cs found = (fault ≡ None) × (length cs ≤ 100000) × (v.items ≡ found)
-GivesScan (Err TooLong) fault cs found = (fault ≡ None) × (100000 < length cs)
+GivesScan (Ok v) fault cs found = (fault ≡ None) × (length cs ≤ max_code_points) × (v.items ≡ found)
+GivesScan (Err TooLong) fault cs found = (fault ≡ None) × (max_code_points < length cs)
 GivesScan (Err (BadFormat at)) fault cs found = fault ≡ Some at
-GivesScan (Err NoMemory) fault cs found = (fault ≡ None) × (length cs ≤ 100000)
+GivesScan (Err NoMemory) fault cs found = (fault ≡ None) × (length cs ≤ max_code_points)

@@ -4,9 +4,6 @@ ghost use Rattle.std.specs.Prelude.{◌≡◌};
 use std::alloc::{AllocError, AllocFailed};
 use thiserror::Error;
 
-/// The greatest length of a text, in code points.
-pub(crate) const LONGEST: usize = 100000;
-
 /// Why a text function has no answer.
 #[derive(Debug, PartialEq, Eq, Drop, Error)]
 pub enum TextFault {

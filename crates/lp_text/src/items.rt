@@ -3,7 +3,8 @@ ghost use Rattle.std.specs.Prelude.{◌≡◌, ◌++◌, slice_get};
 ghost use Rattle.lp_text.specs.Gives.{GivesText};
 ghost use Rattle.lp_text.specs.Texts.{part as part_of};
 
-use crate::fault::{LONGEST, TextFault};
+use crate::fault::TextFault;
+use lp_values::limits::MAX_CODE_POINTS;
 use lp_values::text::Text;
 use std::alloc::Global;
 
@@ -20,7 +21,7 @@ pub fn at(s: &[char], i: u64) -> Option<char>
 pub fn text_of(alloc: Global, s: &[char]) -> Result<Text, TextFault>
     ensures { GivesText result s.now }
 {
-    if s.len() > LONGEST {
+    if s.len() > MAX_CODE_POINTS {
         return Err(TextFault::TooLong);
     }
     Ok(Text::from_slice(alloc, s)?)
@@ -56,7 +57,7 @@ fn between(s: &[char], from: u64, to: u64) -> &[char]
 pub fn join(alloc: Global, a: &[char], b: &[char]) -> Result<Text, TextFault>
     ensures { GivesText result (a.now ++ b.now) }
 {
-    if a.len() > LONGEST || b.len() > LONGEST - a.len() {
+    if a.len() > MAX_CODE_POINTS || b.len() > MAX_CODE_POINTS - a.len() {
         return Err(TextFault::TooLong);
     }
     let mut all = Vec::with_capacity(alloc, a.len() + b.len())?;

@@ -4,8 +4,9 @@ ghost use Rattle.std.specs.Char.{to_ascii_uppercase, to_ascii_lowercase};
 ghost use Rattle.lp_text.specs.Gives.{GivesText};
 ghost use Rattle.lp_text.specs.Texts.{is_blank as blank, without_first, without_last, trimmed};
 
-use crate::fault::{LONGEST, TextFault};
+use crate::fault::TextFault;
 use crate::items::text_of;
+use lp_values::limits::MAX_CODE_POINTS;
 use lp_values::text::Text;
 use std::alloc::Global;
 
@@ -15,7 +16,7 @@ use std::alloc::Global;
 pub fn upper(alloc: Global, s: &[char]) -> Result<Text, TextFault>
     ensures { GivesText result (map to_ascii_uppercase s.now) }
 {
-    if s.len() > LONGEST {
+    if s.len() > MAX_CODE_POINTS {
         return Err(TextFault::TooLong);
     }
     let chars = s.iter().map(|c| c.to_ascii_uppercase()).collect(alloc)?;
@@ -28,7 +29,7 @@ pub fn upper(alloc: Global, s: &[char]) -> Result<Text, TextFault>
 pub fn lower(alloc: Global, s: &[char]) -> Result<Text, TextFault>
     ensures { GivesText result (map to_ascii_lowercase s.now) }
 {
-    if s.len() > LONGEST {
+    if s.len() > MAX_CODE_POINTS {
         return Err(TextFault::TooLong);
     }
     let chars = s.iter().map(|c| c.to_ascii_lowercase()).collect(alloc)?;

@@ -8,5 +8,3 @@ pub mod letters;
 pub mod pieces;
 pub mod scan;
 pub mod search;
-#[cfg(test)]
-mod tests;

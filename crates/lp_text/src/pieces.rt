@@ -4,10 +4,12 @@ ghost use Rattle.std.specs.List.{flat_map};
 ghost use Rattle.lp_text.specs.Gives.{GivesText};
 ghost use Rattle.lp_text.specs.Pieces.{AreNext, AreRoundFirst, GivesPieces, exploded, imploded, pieces as pieces_of};
 ghost use Rattle.lp_text.specs.Texts.{place as place_of};
+ghost use Rattle.lp_values.specs.Limits.{max_code_points};
 
-use crate::fault::{LONGEST, TextFault};
+use crate::fault::TextFault;
 use crate::items::text_of;
 use crate::search::find;
+use lp_values::limits::MAX_CODE_POINTS;
 use lp_values::text::Text;
 use std::alloc::{AllocError, Global};
 
@@ -18,7 +20,7 @@ use std::alloc::{AllocError, Global};
 pub fn explode(alloc: Global, s: &[char], by: &[char]) -> Result<Vec<Text>, TextFault>
     ensures { GivesPieces result s.now (exploded by.now s.now) }
 {
-    if s.len() > LONGEST {
+    if s.len() > MAX_CODE_POINTS {
         return Err(TextFault::TooLong);
     }
     if by.is_empty() {
@@ -96,7 +98,7 @@ fn implode_from(
 ) -> Result<Text, TextFault>
     ensures { GivesText result (first.now ++ flat_map (λ p. by.now ++ p) rest.now) }
 {
-    if first.len() > LONGEST {
+    if first.len() > MAX_CODE_POINTS {
         return Err(TextFault::TooLong);
     }
     match length_with(first.len(), rest, by) {
@@ -108,12 +110,12 @@ fn implode_from(
 /// How many code points there are after more texts, each with the separator before it: none above
 /// 100000.
 fn length_with(start: usize, rest: &[Text], by: &[char]) -> Option<usize>
-    requires { start ≤ 100000 }
-    ensures { SomeIff result (start + length (flat_map (λ p. by.now ++ p) rest.now) ≤ 100000) (start + length (flat_map (λ p. by.now ++ p) rest.now)) }
+    requires { start ≤ max_code_points }
+    ensures { SomeIff result (start + length (flat_map (λ p. by.now ++ p) rest.now) ≤ max_code_points) (start + length (flat_map (λ p. by.now ++ p) rest.now)) }
 {
     let mut total = start;
     for part in rest {
-        let room = LONGEST - total;
+        let room = MAX_CODE_POINTS - total;
         let more = part.as_slice().len();
         if by.len() > room || more > room - by.len() {
             return None;

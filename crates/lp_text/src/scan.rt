@@ -8,9 +8,10 @@ ghost use Rattle.lp_text.specs.Forms.{fault_of, parts};
 ghost use Rattle.lp_text.specs.Scans.{GivesScan, digits_number, if_kept, literal, number_step, plain_step, scanned, signed, step, words_step, words_taken};
 ghost use Rattle.lp_text.specs.Texts.{place_from};
 
-use crate::fault::{LONGEST, TextFault};
+use crate::fault::TextFault;
 use crate::form::{Item, item_of, point, rest_of, wanted, width_of};
 use crate::search::find;
+use lp_values::limits::MAX_CODE_POINTS;
 use lp_values::text::Text;
 use std::alloc::{AllocError, Global};
 
@@ -50,7 +51,7 @@ pub fn scan(alloc: Global, s: &[char], form: &[char]) -> Result<Vec<Scanned>, Te
     ensures { GivesScan result (fault_of (parts form.now)) s.now (scanned (parts form.now) s.now) }
 {
     wanted(form)?;
-    if s.len() > LONGEST {
+    if s.len() > MAX_CODE_POINTS {
         return Err(TextFault::TooLong);
     }
     Ok(matched(alloc, s, form)?)

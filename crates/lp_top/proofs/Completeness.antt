@@ -120,7 +120,7 @@ unit-not-unexpected ks fs at u h = elim (cases-le at (length ks) h.within) as (�
 source-same : {xs ys : List ℕ} → Some xs ≡ Some ys → xs ≡ ys
 source-same e = cc
 
-made-not-none : (o : Option (List ℕ)) (w : World) (fault : Fault) → StartsFrom o w → MakesNoneFrom o fault → ⊥
+pub made-not-none : (o : Option (List ℕ)) (w : World) (fault : Fault) → StartsFrom o w → MakesNoneFrom o fault → ⊥
 made-not-none o w fault s (missing e) = let h = sym s.there ∙ e in absurd cc
 made-not-none o w fault s (unexpected bytes at e u) =
     let same : s.bytes ≡ bytes = source-same (sym s.there ∙ e) in

@@ -227,7 +227,7 @@ replays-finished b r live from now next ends.Done h t i =
     let es : events_of xs ≡ events_of h.read = events-append h.read (items.End ∷ []) ∙ append-nil (events_of h.read) in
     record {
       read = xs;
-      ends = (t.0, yet-push h.read items.End h.going.yet refl, t.1);
+      ends = (t.0, yet-push h.read items.End h.going.yet refl, t.1, (h.world, subst (λ fs. Starts fs h.world) (sym (files-append h.read (items.End ∷ []) ∙ append-nil (files_of h.read))) h.going.starts));
       wrote = λ old f. (
         blocks_of h.world h.read ++ codes "end\n",
         told-now from next (blocks_of h.world h.read ++ codes "end\n") old (added-more from now (blocks_of h.world h.read) (codes "end\n") next h.written i) f,

@@ -1,5 +1,6 @@
 -- What a reader that has given items says of its input.
 use Rattle.std.proofs.Common.{subst, ◌≡◌, ◌∙◌, ◌<◌, ◌≤◌, ◌+◌, ℕ, zero, suc, List, [], ◌∷◌, ◌++◌, length, take, drop, ◌&&◌, Bool, true, false, Option, Some, None, refl, sym, ap, arith, append_assoc, length-append, inl, inr}
+use Rattle.std.proofs.Math.Seq.{drop-append_seam}
 use Rattle.std.proofs.lemmas.List.{length-take, length-take-le, take-append-le, take-append-drop}
 use Rattle.std.specs.List.{list_all}
 use Rattle.std.specs.Prelude.{Ok, Err}
@@ -12,7 +13,7 @@ use Rattle.lp_small.specs.Run.{is_run_yet}
 use Rattle.lp_script.specs.declared.phase.Phase.{Phase}
 use Rattle.lp_script.specs.declared.phase.Phase.TheVariants.{Taking, Giving, Over}
 use Rattle.lp_script.specs.declared.phase.Ending.TheVariants.{Whole, Bad, Large, Failed}
-use Rattle.lp_script.specs.Reader.{Reading, GoesOn, HasGiven, IsInput, Reads, IsAfter, Says}
+use Rattle.lp_script.specs.Reader.{Reading, GoesOn, GoneAtMost, HasGiven, IsInput, Reads, IsAfter, Says}
 use Rattle.lp_script.specs.declared.fault.ScriptFault.{ScriptFault}
 use Rattle.lp_script.specs.declared.fault.ScriptFault.TheVariants as script
 use Rattle.lp_top.specs.declared.status.Status.TheVariants as ends
@@ -30,7 +31,7 @@ abbrev pub ReadsAt : List ℕ → List ℕ → Option (List ℕ) → Phase → T
 ReadsAt b taken told p = elim p [
   | Taking ↦ before_giving taken told ≡ Some b
   | Giving ↦ IsInput b taken × (before_giving taken told ≡ Some b)
-  | Over ending ↦ elim ending [ Failed ↦ Unit {0} | _ ↦ IsInput b taken × (before_giving taken told ≡ Some b) ]
+  | Over ending ↦ elim ending [ Failed ↦ before_giving taken told ≡ Some b | _ ↦ IsInput b taken × (before_giving taken told ≡ Some b) ]
 ]
 
 some-injective : {xs ys : List ℕ} → Some xs ≡ Some ys → xs ≡ ys
@@ -143,6 +144,22 @@ ends-not-yet b old new told xs x at h g v w y n e =
         }),
       );
     }
+
+-- at most the bytes that a reader took are gone
+gone-of : (b taken : List ℕ) (told : Option (List ℕ)) → length taken ≤ longest_input + 1 → before_giving taken told ≡ Some b → GoneAtMost b told
+gone-of b taken None m e = absurd cc
+gone-of b taken (Some rest) m e = (length taken, m, ap (λ xs. Some xs) (sym (ap (drop (length taken)) (sym (some-injective e)) ∙ drop-append_seam taken rest)))
+
+gone-at : (b taken : List ℕ) (told : Option (List ℕ)) (p : Phase) → length taken ≤ longest_input + 1 → ReadsAt b taken told p → GoneAtMost b told
+gone-at b taken told Taking m h = gone-of b taken told m h
+gone-at b taken told Giving m h = gone-of b taken told m h.1
+gone-at b taken told (Over Whole) m h = gone-of b taken told m h.1
+gone-at b taken told (Over (Bad at)) m h = gone-of b taken told m h.1
+gone-at b taken told (Over Large) m h = gone-of b taken told m h.1
+gone-at b taken told (Over Failed) m h = gone-of b taken told m h
+
+pub gone : (b : List ℕ) (r : Reading) (told : Option (List ℕ)) → length r.taken ≤ longest_input + 1 → Reads b r told → GoneAtMost b told
+gone b r told m h = gone-at b r.taken told r.phase m h
 
 -- after an item all that a reader wants was taken
 pub at_phase : (b taken : List ℕ) (told : Option (List ℕ)) (p q : Phase) → p ≡ q → ReadsAt b taken told p → ReadsAt b taken told q

@@ -27,9 +27,9 @@ pub record Holds (bytes : List ℕ) (xs : List Item) : Type 0 where
   pub begins : BeginsWithItems (take longest_input bytes) xs
   pub yet : AreRunYet xs
 
--- The input, with the items that were read, gives this end.
+-- The input, with the items that were read, gives this end. At Done the files have made a master.
 abbrev pub Ends : List ℕ → List Item → Status → Type 0
-Ends bytes xs Done = IsScript bytes xs × AreRunYet xs × (length bytes ≤ longest_input)
+Ends bytes xs Done = IsScript bytes xs × AreRunYet xs × (length bytes ≤ longest_input) × ((w : World) × Starts (files_of xs) w)
 Ends bytes xs BadWords = ⊥
 Ends bytes xs (BadScript at) = AreRunYet xs × (IsBadScript bytes xs at ⊎ IsNotRunYet bytes xs at)
 Ends bytes xs (NoMaster fs) = Holds bytes (xs ++ items.Start ∷ []) × (has_started xs ≡ false) × (fault : Fault) × (fs ≡ fault ∷ []) × MakesNone (files_of xs) fault

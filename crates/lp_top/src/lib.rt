@@ -3,8 +3,6 @@
 
 pub mod replay;
 pub mod status;
-#[cfg(test)]
-mod tests;
 pub mod words;
 
 pub use replay::run;

@@ -1,26 +1,27 @@
 //! The command `replay`: reads a script, and writes its transcript.
 ghost use Rattle.std.specs.Prelude.{◌≡◌, ◌≢◌, ℕ, ◌≤◌, List, [], ◌∷◌, ◌++◌, Some, true, false, IfOk, IfErr, OnOk, OnErr, ◌⊎◌, ◌↔◌, length};
-ghost use Rattle.lp_io.specs.Counts.{Counts, Rose};
+ghost use Rattle.lp_io.specs.Counts.{Rose};
 ghost use Rattle.lp_events.specs.declared.item.Item.{Item as I};
 ghost use Rattle.lp_events.specs.declared.item.Item.TheVariants.{End as the_end};
 ghost use Rattle.lp_events.specs.Script.{IsScript, longest_input};
-ghost use Rattle.lp_io.specs.Told.{after_adding};
+ghost use Rattle.lp_io.specs.Told.{IsPassedOn, after_adding};
+ghost use Rattle.lp_top.specs.Causes.{BlamesInput, BlamesOutput, StartsOrFaults};
 ghost use Rattle.lp_events.specs.Script.{events_of, files_of};
 ghost use Rattle.lp_events.specs.Transcript.{block};
 ghost use Rattle.lp_small.specs.World.{World, master_path};
 ghost use Rattle.lp_small.specs.Run.{is_run_yet as run_yet, has_started, turn, Starts};
 ghost use Rattle.lp_small.specs.Running.{world_of};
-ghost use Rattle.lp_script.specs.Reader.{fresh, GoesOn, HasGiven, Reads, IsAfter};
+ghost use Rattle.lp_script.specs.Reader.{fresh, GoesOn, GoneAtMost, HasGiven, Reads, IsAfter};
 ghost use Rattle.std.specs.Option.{option_copied};
 ghost use Rattle.lp_top.specs.Words.{AreReplay};
 ghost use Rattle.lp_top.specs.Replay.{AreRunYet, EndsReading, IsReadingEnd, IsAtStart, IsGoing, IsReplayEnd, IsNoMaster, Interrupts, Finishes, Replays, Ends, status_of_fault, source_with, is_start as start_item, is_end as end_item};
 
 use crate::status::{Faults, Status};
 use crate::words::are_replay;
-use lp_io::{Sink, Source, put_all};
 use lp_events::event::Event;
 use lp_events::item::Item;
 use lp_events::octets::Octets;
+use lp_io::{Sink, Source, put_all};
 use lp_script::{Reader, ScriptFault, one_spelling, write_outs};
 use lp_small::live::{Live, StartFault, start};
 use lp_tree::fault::{Fault, FaultKind};
@@ -65,8 +66,9 @@ fn next_item<S: Source>(reader: &mut Reader, input: &mut S) -> Result<Item, Stat
     ensures fault { (b : List ℕ) (xs : List I) → GoesOn reader.old.phase → HasGiven reader.old xs → AreRunYet xs → Reads b reader.old (S.remaining input.old)
         → IfErr result (EndsReading b xs) }
     ensures kind { IfErr result IsReadingEnd }
-    ensures cause { GoesOn reader.old.phase → IfErr result (λ s. s ≡ Status.InputFault → Rose (S.faults input.old) (S.faults input.new)) }
+    ensures cause { GoesOn reader.old.phase → IfErr result (λ s. BlamesInput s (S.faults input.old) (S.faults input.new)) }
     ensures no_fall { S.faults input.old ≤ S.faults input.new }
+    ensures most { (b : List ℕ) → Reads b reader.old (S.remaining input.old) → GoneAtMost b (S.remaining input.new) }
 {
     match reader.next(input) {
         Ok(item) => {
@@ -113,8 +115,9 @@ fn files<S: Source>(reader: &mut Reader, input: &mut S) -> Result<Option<Octets>
     ensures reads { (b : List ℕ) → S.remaining input.old ≡ Some b → OnOk result (Reads b reader.new (S.remaining input.new)) }
     ensures end { (b : List ℕ) → S.remaining input.old ≡ Some b → IfErr result (λ s. (xs : List I) × (has_started xs ≡ false) × Ends b xs s) }
     ensures kind { IfErr result IsReadingEnd }
-    ensures cause { IfErr result (λ s. s ≡ Status.InputFault → Rose (S.faults input.old) (S.faults input.new)) }
+    ensures cause { IfErr result (λ s. BlamesInput s (S.faults input.old) (S.faults input.new)) }
     ensures no_fall { S.faults input.old ≤ S.faults input.new }
+    ensures most { (b : List ℕ) → S.remaining input.old ≡ Some b → GoneAtMost b (S.remaining input.new) }
 {
     let mut source = None;
     loop {
@@ -142,7 +145,7 @@ fn carry_out<K: Sink>(
     ensures world { OnOk result (world_of live.new ≡ (turn (world_of live.old) event.now).world) }
     ensures written { OnOk result (K.written out.new ≡ after_adding (K.written out.old) (block (turn (world_of live.old) event.now).outputs)) }
     ensures end { IfErr result (Interrupts (K.written out.old) (K.written out.new) (block (turn (world_of live.old) event.now).outputs)) }
-    ensures cause { IfErr result (λ s. s ≡ Status.OutputFault → Rose (K.faults out.old) (K.faults out.new) ⊎ Rose (K.zeros out.old) (K.zeros out.new)) }
+    ensures cause { IfErr result (λ s. BlamesOutput s (K.faults out.old) (K.faults out.new) (K.zeros out.old) (K.zeros out.new)) }
     ensures no_fall { K.faults out.old ≤ K.faults out.new }
     ensures zeros_no_fall { K.zeros out.old ≤ K.zeros out.new }
 {
@@ -159,9 +162,10 @@ fn carry_out<K: Sink>(
 // Writes the line at the end of a transcript, and hands on what the sink may hold back.
 fn finish<K: Sink>(out: &mut K) -> Status
     ensures end { Finishes (K.written out.old) (K.written out.new) result }
-    ensures cause { result ≡ Status.OutputFault → Rose (K.faults out.old) (K.faults out.new) ⊎ Rose (K.zeros out.old) (K.zeros out.new) }
+    ensures cause { BlamesOutput result (K.faults out.old) (K.faults out.new) (K.zeros out.old) (K.zeros out.new) }
     ensures no_fall { K.faults out.old ≤ K.faults out.new }
     ensures zeros_no_fall { K.zeros out.old ≤ K.zeros out.new }
+    ensures passed { result ≡ Status.Done → IsPassedOn (K.passed out.new) }
 {
     match put_all(out, b"end\n") {
         Ok(()) => {}
@@ -184,9 +188,11 @@ fn events<S: Source, K: Sink>(
     requires { (xs : List I) × (w : World) × IsGoing reader.old live xs w × (events_of xs ≡ []) }
     ensures replays { (b : List ℕ) → Reads b reader.old (S.remaining input.old) → Replays b result (K.written out.old) (K.written out.new) }
     ensures whole { result ≡ Status.Done → (b : List ℕ) → Reads b reader.old (S.remaining input.old) → S.remaining input.new ≡ Some [] }
+    ensures most { (b : List ℕ) → Reads b reader.old (S.remaining input.old) → GoneAtMost b (S.remaining input.new) }
+    ensures passed { result ≡ Status.Done → IsPassedOn (K.passed out.new) }
     ensures kind { IsReplayEnd result }
-    ensures input_cause { result ≡ Status.InputFault → Rose (S.faults input.old) (S.faults input.new) }
-    ensures output_cause { result ≡ Status.OutputFault → Rose (K.faults out.old) (K.faults out.new) ⊎ Rose (K.zeros out.old) (K.zeros out.new) }
+    ensures input_cause { BlamesInput result (S.faults input.old) (S.faults input.new) }
+    ensures output_cause { BlamesOutput result (K.faults out.old) (K.faults out.new) (K.zeros out.old) (K.zeros out.new) }
 {
     let mut live = live;
     loop {
@@ -244,9 +250,11 @@ fn begin<S: Source, K: Sink>(
     requires { IsAtStart reader.old source.now }
     ensures replays { (b : List ℕ) → Reads b reader.old (S.remaining input.old) → Replays b result (K.written out.old) (K.written out.new) }
     ensures whole { result ≡ Status.Done → (b : List ℕ) → Reads b reader.old (S.remaining input.old) → S.remaining input.new ≡ Some [] }
+    ensures most { (b : List ℕ) → GoneAtMost b (S.remaining input.old) → Reads b reader.old (S.remaining input.old) → GoneAtMost b (S.remaining input.new) }
+    ensures passed { result ≡ Status.Done → IsPassedOn (K.passed out.new) }
     ensures kind { IsReplayEnd result }
-    ensures input_cause { result ≡ Status.InputFault → Rose (S.faults input.old) (S.faults input.new) }
-    ensures output_cause { result ≡ Status.OutputFault → Rose (K.faults out.old) (K.faults out.new) ⊎ Rose (K.zeros out.old) (K.zeros out.new) }
+    ensures input_cause { BlamesInput result (S.faults input.old) (S.faults input.new) }
+    ensures output_cause { BlamesOutput result (K.faults out.old) (K.faults out.new) (K.zeros out.old) (K.zeros out.new) }
 {
     match start(alloc, as_source(source)) {
         Ok(live) => events(alloc, reader, input, out, live),
@@ -260,9 +268,11 @@ fn begin<S: Source, K: Sink>(
 fn replay<S: Source, K: Sink>(alloc: Global, input: &mut S, out: &mut K) -> Status
     ensures replays { (b : List ℕ) → S.remaining input.old ≡ Some b → Replays b result (K.written out.old) (K.written out.new) }
     ensures whole { result ≡ Status.Done → (b : List ℕ) → S.remaining input.old ≡ Some b → S.remaining input.new ≡ Some [] }
+    ensures most { (b : List ℕ) → S.remaining input.old ≡ Some b → GoneAtMost b (S.remaining input.new) }
+    ensures passed { result ≡ Status.Done → IsPassedOn (K.passed out.new) }
     ensures kind { IsReplayEnd result }
-    ensures input_cause { result ≡ Status.InputFault → Rose (S.faults input.old) (S.faults input.new) }
-    ensures output_cause { result ≡ Status.OutputFault → Rose (K.faults out.old) (K.faults out.new) ⊎ Rose (K.zeros out.old) (K.zeros out.new) }
+    ensures input_cause { BlamesInput result (S.faults input.old) (S.faults input.new) }
+    ensures output_cause { BlamesOutput result (K.faults out.old) (K.faults out.new) (K.zeros out.old) (K.zeros out.new) }
 {
     let mut reader = Reader::new(alloc);
     let source = match files(&mut reader, input) {
@@ -271,6 +281,11 @@ fn replay<S: Source, K: Sink>(alloc: Global, input: &mut S, out: &mut K) -> Stat
     };
     begin(alloc, &source, &mut reader, input, out)
 }
+
+/// A law of the definitions: files that make a master have no fault that hinders it.
+pub fn law_start()
+    ensures { StartsOrFaults }
+{}
 
 /// Carries out the command that the words name: `replay` reads a script from `input` and writes its
 /// transcript to `out`.
@@ -287,6 +302,9 @@ fn replay<S: Source, K: Sink>(alloc: Global, input: &mut S, out: &mut K) -> Stat
 ///   rose.
 /// - `NoMemory`: the blocks of the events before were written.
 ///
+/// At most 67108865 bytes of the input are taken, at every end. At `Done` all that was written was
+/// passed on by a flush.
+///
 /// What was read and written is known of a source and a sink that tell it, such as those in memory.
 pub fn run<S: Source, K: Sink>(
     alloc: Global,
@@ -298,8 +316,10 @@ pub fn run<S: Source, K: Sink>(
     ensures untouched { result ≡ Status.BadWords → (input.new ≡ input.old) × (out.new ≡ out.old) }
     ensures replays { AreReplay words.now → (b : List ℕ) → S.remaining input.old ≡ Some b → Replays b result (K.written out.old) (K.written out.new) }
     ensures whole { result ≡ Status.Done → (b : List ℕ) → S.remaining input.old ≡ Some b → S.remaining input.new ≡ Some [] }
-    ensures input_fault { result ≡ Status.InputFault → Rose (S.faults input.old) (S.faults input.new) }
-    ensures output_fault { result ≡ Status.OutputFault → Rose (K.faults out.old) (K.faults out.new) ⊎ Rose (K.zeros out.old) (K.zeros out.new) }
+    ensures most { (b : List ℕ) → S.remaining input.old ≡ Some b → GoneAtMost b (S.remaining input.new) }
+    ensures passed { result ≡ Status.Done → IsPassedOn (K.passed out.new) }
+    ensures input_fault { BlamesInput result (S.faults input.old) (S.faults input.new) }
+    ensures output_fault { BlamesOutput result (K.faults out.old) (K.faults out.new) (K.zeros out.old) (K.zeros out.new) }
     // A script whose master is made, over devices that do not fail, is carried out to its end.
     ensures complete { (b : List ℕ) (xs : List I) (w : World) → AreReplay words.now → S.remaining input.old ≡ Some b → length b ≤ longest_input → IsScript b xs → AreRunYet xs → Starts (files_of xs) w
         → (Rose (S.faults input.old) (S.faults input.new) → ⊥) → (Rose (K.faults out.old) (K.faults out.new) → ⊥) → (Rose (K.zeros out.old) (K.zeros out.new) → ⊥)

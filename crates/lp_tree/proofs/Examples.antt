@@ -24,5 +24,17 @@ are_spelled a = record {
       (stmts.label_part stmts.default_case
       (stmts.stmt_part (stmts.return (stmts.given exprs.name)) stmts.no_part)))))) stmts.no_more))) units.by_fun
       units.no_item;
+  in_block =
+      stmts.block
+      (stmts.stmt (stmts.local (stmts.declares (stmts.another (stmts.plain (one_more none)) (stmts.one (stmts.set_to none exprs.int (omega arith))))))
+      (stmts.stmt (stmts.while exprs.name (stmts.continue refl))
+      (stmts.stmt (stmts.do_while stmts.empty exprs.name)
+      (stmts.stmt (stmts.for (stmts.init_local (stmts.declares (stmts.one (stmts.set_to none exprs.int (omega arith))))) (stmts.given exprs.name) stmts.missing (stmts.break refl))
+      (stmts.stmt (stmts.for (stmts.init_expr exprs.name) stmts.missing (stmts.given exprs.name) (stmts.block stmts.no_more))
+      (stmts.stmt (stmts.for stmts.no_init stmts.missing stmts.missing stmts.empty)
+      (stmts.stmt (stmts.foreach (stmts.two_eaches (stmts.typed (typed none)) (stmts.typed (typed none))) stmts.colon exprs.name stmts.empty)
+      (stmts.stmt (stmts.switch exprs.name (stmts.label_part (stmts.case_value stmts.string) (stmts.label_part (stmts.case_value stmts.int) (stmts.stmt_part (stmts.run exprs.name) stmts.no_part))))
+      (stmts.stmt (stmts.if_else exprs.name (stmts.return stmts.missing) stmts.empty)
+      stmts.no_more)))))))));
   levels = refl;
 }

@@ -10,3 +10,4 @@ pub mod Statements
 pub mod StatementView
 pub mod Units
 pub mod UnitView
+pub mod Signs

@@ -4,7 +4,6 @@
 pub mod decimal;
 pub mod error;
 pub mod id;
-#[cfg(test)]
-mod tests;
+pub mod limits;
 pub mod text;
 pub mod value;

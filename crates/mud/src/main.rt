@@ -3,28 +3,60 @@
 
 use lp_io::{Sink, StdSink, StdSource};
 use lp_top::{Status, code, run};
-use std::alloc::{AllocError, Global};
-use std::env;
-use std::io::BufWriter;
+use std::env::{self, FillError};
+use std::io::{BufWriter, ErrorKind};
 use std::process::ExitCode;
+use std::rt::Env;
 
-/// The words of the command line, without the program's name.
-fn words<R: std::rt::Env + AllocGlobal>(rt: &R) -> Result<Vec<String>, AllocError> {
+/// The command line with an empty word in place of the program's own name, which need not be text.
+#[derive(Drop)]
+struct Unnamed<'a, R>(&'a R);
+
+impl<R: Env> Env for Unnamed<'_, R> {
+    fn arg(&self, i: usize, buf: &mut [u8]) -> Result<usize, FillError> {
+        if i == 0 {
+            return Ok(0);
+        }
+        self.0.arg(i, buf)
+    }
+
+    fn var(&self, name: &str, buf: &mut [u8]) -> Result<usize, FillError> {
+        self.0.var(name, buf)
+    }
+
+    fn var_at(&self, i: usize, buf: &mut [u8]) -> Result<usize, FillError> {
+        self.0.var_at(i, buf)
+    }
+}
+
+/// The words of the command line, without the program's name. One that is not UTF-8 names no
+/// command.
+fn words<R: Env + AllocGlobal>(rt: &R) -> Result<Vec<String>, Status> {
     let mut words = Vec::new(rt.alloc());
-    let all = match env::args(rt) {
+    let all = match env::args(&(Unnamed(rt), rt.alloc())) {
         Ok(all) => all,
-        Err(_) => return Err(AllocError),
+        Err(fault) => return Err(status_of_words(fault.kind())),
     };
     for word in all.skip(1) {
-        words.push(word)?;
+        if words.push(word).is_err() {
+            return Err(Status::NoMemory);
+        }
     }
     Ok(words)
+}
+
+/// How the program ends where its words could not be had.
+fn status_of_words(kind: ErrorKind) -> Status {
+    match kind {
+        ErrorKind::InvalidData => Status::BadWords,
+        _ => Status::NoMemory,
+    }
 }
 
 fn status(rt: &HostRuntime) -> Status {
     let words = match words(rt) {
         Ok(words) => words,
-        Err(_) => return Status::NoMemory,
+        Err(status) => return status,
     };
     let writer = match BufWriter::new(rt.alloc(), rt.stdout()) {
         Ok(writer) => writer,

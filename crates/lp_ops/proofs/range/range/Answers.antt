@@ -1,9 +1,9 @@
 use Rattle.std.proofs.Common.{subst, sym}
 use Rattle.lp_ops.specs.Effects.{IsEffectThere}
 use Rattle.lp_ops.specs.Operands.{opened}
-use Rattle.lp_ops.proofs.ClosedLemmas.{opened_there, part_there}
+use Rattle.lp_ops.proofs.ClosedLemmas.{opened_there, part_there, within_there}
 use Rattle.lp_ops.proofs.range.range.Goals as goal
 
 pub returns-clause-closed : goal.returns-clause-closed
 returns-clause-closed g c = λ h.
-    c.carry_out.ensures.closed h (subst (IsEffectThere c.args.cells.now) (sym c.in_ok-effect.ensures) (part_there c.args.cells.now (opened (g.L.Living.live c.args.live.now) c.args.cells.now c.in_ok-a.a) c.args.from c.args.to (opened_there (g.L.Living.live c.args.live.now) c.args.cells.now c.in_ok-a.a h)))
+    c.carry_out.ensures.closed h (subst (IsEffectThere c.args.cells.now) (sym c.in_ok-effect.ensures) (within_there c.args.cells.now _ (part_there c.args.cells.now (opened (g.L.Living.live c.args.live.now) c.args.cells.now c.in_ok-a.a) c.args.from c.args.to (opened_there (g.L.Living.live c.args.live.now) c.args.cells.now c.in_ok-a.a h))))

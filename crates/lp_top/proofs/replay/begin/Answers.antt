@@ -29,3 +29,6 @@ returns-in-Err-Unexpected-clause-replays g c = λ b h.
 
 pub returns-in-Err-NoMemory-clause-replays : goal.returns-in-Err-NoMemory-clause-replays
 returns-in-Err-NoMemory-clause-replays g c = λ b h. replays-no-memory b c.args.reader.now _ c.args.source.now _ c.requires h
+
+pub returns-in-Ok-clause-most : goal.returns-in-Ok-clause-most
+returns-in-Ok-clause-most g c = λ b m h. c.events.ensures.most b h

@@ -134,3 +134,12 @@ unreachable-requires-in-Start g c =
     let goes = goes-running c.loop-item.reader c.loop-item.live _ _ i in
     let v = c.in-Ok.ensures.given i.read goes i.going.given in
     first-not-late c.next_item.new.reader i.read _ i.going.started refl (subst (λ x. HasGiven c.next_item.new.reader (i.read ++ x ∷ [])) c.in-Start.is v)
+
+pub returns-in-Err-clause-most : goal.returns-in-Err-clause-most
+returns-in-Err-clause-most g c = λ b h. c.in-Err.ensures.most b (c.loop-item.invariant.reads b h)
+
+pub returns-in-Err-carry_out-clause-most : goal.returns-in-Err-carry_out-clause-most
+returns-in-Err-carry_out-clause-most g c = λ b h. c.in-Ok.ensures.most b (c.loop-item.invariant.reads b h)
+
+pub returns-in-End-clause-most : goal.returns-in-End-clause-most
+returns-in-End-clause-most g c = λ b h. c.in-Ok.ensures.most b (c.loop-item.invariant.reads b h)

@@ -1,6 +1,6 @@
 use Rattle.std.proofs.Common.{◌∙◌, sym, subst}
 use Rattle.lp_top.specs.Replay.{EndsReading}
-use Rattle.lp_top.proofs.Reading.{script_within, taken-after, goes-after, says-of, ends-reading, ends-not-yet}
+use Rattle.lp_top.proofs.Reading.{gone, script_within, taken-after, goes-after, says-of, ends-reading, ends-not-yet}
 use Rattle.lp_top.proofs.replay.next_item.Goals as goal
 
 pub returns-then-is_run_yet-clause-end : goal.returns-then-is_run_yet-clause-end
@@ -18,3 +18,12 @@ pub returns-in-Err-clause-fault : goal.returns-in-Err-clause-fault
 returns-in-Err-clause-fault g c = λ b xs go v y h.
     let s = says-of b c.next.new.self _ xs c.in-Err.fault c.in-Err.ensures.phase (c.in-Err.ensures.reads b h) (λ i. c.in-Err.ensures.fault b xs go v i) in
     subst (EndsReading b xs) (sym c.status_of.ensures) (ends-reading b c.args.reader.now _ xs c.in-Err.fault h go v y s)
+
+pub returns-then-is_run_yet-clause-most : goal.returns-then-is_run_yet-clause-most
+returns-then-is_run_yet-clause-most g c = λ b h. gone b c.next.new.self _ c.in-Ok.ensures.most (c.in-Ok.ensures.reads b h)
+
+pub returns-else-is_run_yet-clause-most : goal.returns-else-is_run_yet-clause-most
+returns-else-is_run_yet-clause-most g c = λ b h. gone b c.next.new.self _ c.in-Ok.ensures.most (c.in-Ok.ensures.reads b h)
+
+pub returns-in-Err-clause-most : goal.returns-in-Err-clause-most
+returns-in-Err-clause-most g c = λ b h. gone b c.next.new.self _ c.in-Err.ensures.most (c.in-Err.ensures.reads b h)

@@ -11,3 +11,6 @@ returns-clause-replays g c = λ b h. c.begin.ensures.replays b (c.in-Ok.ensures.
 
 pub returns-clause-whole : goal.returns-clause-whole
 returns-clause-whole g c = λ e b h. c.begin.ensures.whole e b (c.in-Ok.ensures.reads b h)
+
+pub returns-clause-most : goal.returns-clause-most
+returns-clause-most g c = λ b h. c.begin.ensures.most b (c.in-Ok.ensures.most b h) (c.in-Ok.ensures.reads b h)

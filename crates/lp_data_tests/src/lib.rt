@@ -1,0 +1,13 @@
+//! What no clause says of texts, cells, operators and forms.
+//!
+//! The tests stand here and not beside the code, so that no library is proved twice.
+#![tactic(auto)]
+
+#[cfg(test)]
+mod cells;
+#[cfg(test)]
+mod forms;
+#[cfg(test)]
+mod operators;
+#[cfg(test)]
+mod texts;

@@ -1,0 +1,9 @@
+mod Values
+mod Calls
+mod Loads
+mod Places
+mod Commands
+mod Time
+mod Files
+mod WrongRules
+mod Runs

@@ -1,0 +1,9 @@
+pub mod Rows
+pub mod Values
+pub mod Calls
+pub mod Loads
+pub mod Places
+pub mod Commands
+pub mod Time
+pub mod Files
+pub mod WrongRules

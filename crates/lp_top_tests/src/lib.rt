@@ -1,0 +1,9 @@
+//! What no clause says of scripts and of a whole run.
+//!
+//! The tests stand here and not beside the code, so that no library is proved twice.
+#![tactic(auto)]
+
+#[cfg(test)]
+mod runs;
+#[cfg(test)]
+mod scripts;
