@@ -1,6 +1,6 @@
 -- Where steps lead.
 use Rattle.std.proofs.Common.{◌≡◌, ℕ, length, ◌+◌, ◌≤◌, ◌<◌, max, List, [], ◌∷◌, ◌++◌, Bool, true, false, None, refl, sym, ap, subst, arith}
-use Rattle.std.specs.Prelude.{Result, Ok, Err, reverse, nat_lt, map, not, ℤ, pos}
+use Rattle.std.specs.Prelude.{Result, Ok, Err, reverse, nat_lt, map, not, pos}
 use Rattle.std.specs.Ordering.{int_eq}
 use Rattle.lp_tree.specs.declared.fault.FaultKind.TheVariants.{BadDirective, Lex, MacroDepth, TooManyTokens}
 use Rattle.lp_tree.specs.declared.token.Token.{Token}
@@ -143,8 +143,8 @@ pub tested_decided : (c : Setting) (s : State) (ts : List Token) (line : ℕ) (f
     → Branches c (tested s ts line f) r (λ b. f (record s { put_in = n }) b)
 tested_decided c s ts line f ws n (Ok b) g d = λ o l.
     asks g.1 (tests (subst (λ us. HasValue us d.0) (sym g.2) d.1)
-      (subst (λ k. LeadsTo c (f (record s { put_in = k }) (not (int_eq d.0 (pos 0)))) o) (sym g.3)
-      (subst (λ x. LeadsTo c (f (record s { put_in = n }) x) o) d.2 l)))
+    (subst (λ k. LeadsTo c (f (record s { put_in = k }) (not (int_eq d.0 (pos 0)))) o) (sym g.3)
+    (subst (λ x. LeadsTo c (f (record s { put_in = n }) x) o) d.2 l)))
 tested_decided c s ts line f ws n (Err NoMemory) g d = tt
 tested_decided c s ts line f ws n (Err (At kind l)) g d =
     subst (λ k. LeadsTo c (tested s ts line f) (Faulty k l)) (sym d.0)

@@ -1,9 +1,12 @@
 -- Maps with names as keys, before and after a change.
-use Rattle.std.proofs.Common.{◌≡◌, ℕ, Bool, true, false, cond, Vec, Global, List, Option, None, Some, refl, sym, ap, subst, ◌∙◌, inl, inr}
-use Rattle.std.specs.Ordering.{nat_cmp, is_eq, eq_by_cmp}
+use Rattle.std.specs.Option.{option_map, is_some}
+use Rattle.lp_preproc.specs.Names.{same_name}
+use Rattle.lp_preproc.specs.Places.{place_of}
+use Rattle.std.proofs.Common.{◌≡◌, ℕ, suc, [], ◌∷◌, ◌++◌, length, Bool, true, false, cond, Vec, Global, List, Option, None, Some, refl, sym, ap, subst, ◌∙◌, inl, inr}
+use Rattle.std.specs.Ordering.{nat_cmp, is_eq}
 use Rattle.std.specs.Cmp.{eq_by_cmp_equiv}
 use Rattle.std.specs.Cmp.Lexicographic.{slice_cmp, nat_list_cmp_total}
-use Rattle.std.specs.BTreeMap.{BTreeMap, get_by, is_at, UpdatesBy}
+use Rattle.std.specs.BTreeMap.{BTreeMap, get_by, UpdatesBy}
 use Rattle.std.specs.Map.{lookup, KeepsOthers}
 use Rattle.std.specs.Str.{bytes_eq}
 use Rattle.std.proofs.lemmas.Bool.{true≢false, cases_Bool, cond-true, cond-false}
@@ -26,7 +29,7 @@ apart n q k a e =
     ]
 
 others : {K X : Type 0} (eq : K → K → Bool) (test : K → Bool) (old new : List (K × X)) → KeepsOthers eq test old new
-    → (other : K → Bool) → ((x y : K) → eq x y ≡ true → other x ≡ other y) → ((x : K) → test x ≡ true → other x ≡ false) → lookup other new ≡ lookup other old
+    → (other : K → Bool) → ((x y : K) → other x ≡ true → other y ≡ eq x y) → ((x : K) → test x ≡ true → other x ≡ false) → lookup other new ≡ lookup other old
 unfolding KeepsOthers
 others eq test old new h = h
 
@@ -45,3 +48,54 @@ after_change n m o w h q =
 -- two maps that have the same at each name are one table
 pub same_table : {X : Type 0} (f g : List ℕ → X) → ((q : List ℕ) → f q ≡ g q) → f ≡ g
 same_table f g h = λ i q. h q i
+
+-- ---- places of names
+
+some_none : {i : ℕ} → Some i ≡ None → ⊥
+some_none e = cc
+
+unmapped : (r : Option ℕ) → option_map suc r ≡ None → r ≡ None
+unmapped None e = refl
+unmapped (Some i) e = absurd (some_none e)
+
+option_map_cond : (b : Bool) (x y : Option ℕ) → option_map suc (cond b x y) ≡ cond b (option_map suc x) (option_map suc y)
+option_map_cond true x y = refl
+option_map_cond false x y = refl
+
+-- letters are the same either way round
+turned : (q n : List ℕ) (b : Bool) → bytes_eq n q ≡ b → same_name q n ≡ b
+turned q n true y = (bytes_eq-Decides q n).1 (sym ((bytes_eq-Decides n q).0 y))
+turned q n false y =
+    elim (cases_Bool (same_name q n)) [
+      | inl t ↦ absurd (true≢false (sym ((bytes_eq-Decides n q).1 (sym ((bytes_eq-Decides q n).0 t))) ∙ y))
+      | inr f ↦ f
+    ]
+
+-- a name that is another than one that is p
+apart_names : (q n p : List ℕ) → same_name q p ≡ true → same_name n p ≡ false → bytes_eq n q ≡ false
+apart_names q n p f g =
+    elim (cases_Bool (bytes_eq n q)) [
+      | inl t ↦ absurd (true≢false (sym f ∙ ap (λ l. same_name l p) (sym ((bytes_eq-Decides n q).0 t)) ∙ g))
+      | inr e ↦ e
+    ]
+
+-- one more name: the others keep their places
+pub place_of-more : (q n : List ℕ) (ps : List (List ℕ)) → place_of n ps ≡ None → place_of q (ps ++ n ∷ []) ≡ cond (bytes_eq n q) (Some (length ps)) (place_of q ps)
+place_of-more q n [] e = at_end (bytes_eq n q) refl
+  where
+    at_end : (b : Bool) → bytes_eq n q ≡ b → place_of q (n ∷ []) ≡ cond (bytes_eq n q) (Some 0) None
+    at_end true y = rw (turned q n true y, y) refl
+    at_end false y = rw (turned q n false y, y) refl
+place_of-more q n (p ∷ ps) e = at_name (same_name q p) (same_name n p) refl refl e (place_of-more q n ps)
+  where
+    at_name : (a b : Bool) → same_name q p ≡ a → same_name n p ≡ b → cond (same_name n p) (Some 0) (option_map suc (place_of n ps)) ≡ None
+        → (place_of n ps ≡ None → place_of q (ps ++ n ∷ []) ≡ cond (bytes_eq n q) (Some (length ps)) (place_of q ps))
+        → place_of q (p ∷ (ps ++ n ∷ [])) ≡ cond (bytes_eq n q) (Some (suc (length ps))) (place_of q (p ∷ ps))
+    at_name a true f g none more = absurd (some_none (rw g at none))
+    at_name true false f g none more = rw (f, apart_names q n p f g) refl
+    at_name false false f g none more = rw f (ap (option_map suc) (more (unmapped (place_of n ps) (rw g at none))) ∙ option_map_cond (bytes_eq n q) (Some (length ps)) (place_of q ps))
+
+-- what was looked up and is not there
+pub none_of_get : {A B : Type 0} (f : A → B) (r : Option A) (o : Option B) → option_map f r ≡ o → is_some r ≡ false → o ≡ None
+none_of_get f None o e h = sym e
+none_of_get f (Some x) o e h = absurd (true≢false h)

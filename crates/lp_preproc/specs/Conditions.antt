@@ -1,5 +1,5 @@
 -- The value of an `#if`.
-use Rattle.std.specs.Prelude.{◌≡◌, ℤ, pos, ◌≤◌, List, [], map, Bool, true, false, Option, Some, None, Result, Ok, Err, ⊤, ◌&&◌, if◌then◌else◌}
+use Rattle.std.specs.Prelude.{◌≡◌, ℤ, pos, ◌≤◌, List, [], map, Bool, true, false, Option, Some, None, ◌&&◌, if◌then◌else◌}
 use Rattle.std.specs.Ordering.{int_eq}
 use Rattle.lp_tree.specs.declared.operator.UnOp.{UnOp}
 use Rattle.lp_tree.specs.declared.operator.BinOp.{BinOp}
@@ -13,10 +13,8 @@ use Rattle.lp_values.specs.declared.value.Value.{Value}
 use Rattle.lp_values.specs.declared.value.Value.TheVariants as values
 use Rattle.lp_ops.specs.declared.effect.Effect.{Effect}
 use Rattle.lp_ops.specs.declared.effect.Effect.TheVariants.{Gives}
-use Rattle.lp_ops.specs.declared.fault.OpFault.{OpFault}
-use Rattle.lp_ops.specs.declared.fault.OpFault.TheVariants.{NoMemory, Run}
 use Rattle.lp_ops.specs.Operands.{Number}
-use Rattle.lp_ops.specs.Operators.{binary, unary}
+use Rattle.lp_ops.specs.Operators.{result_of, unary}
 use Rattle.lp_preproc.specs.declared.word.Word.{Word}
 
 -- names that are no macros are 0
@@ -49,7 +47,7 @@ integer_given (Gives v) = integer_of v
 integer_given _ = None
 
 abbrev pub of_two : BinOp → Option ℤ → Option ℤ → Option ℤ
-of_two op (Some m) (Some n) = integer_given (binary (λ _. true) op (Number m) (Number n))
+of_two op (Some m) (Some n) = integer_given (result_of (λ _. true) op (Number m) (Number n))
 of_two op _ _ = None
 
 abbrev pub of_one : UnOp → Option ℤ → Option ℤ
@@ -88,9 +86,3 @@ IsValue ws None = (z : ℤ) → HasValue ws z → ⊥
 -- the value of an expression that is a condition
 abbrev pub condition_value : Tree → Option ℤ
 condition_value t = if is_condition t then value t else None
-
--- the integer of an operator's answer
-abbrev pub IsIntegerOf : Result Value OpFault → Option ℤ → Type 0
-IsIntegerOf (Ok v) r = r ≡ integer_of v
-IsIntegerOf (Err NoMemory) r = ⊤
-IsIntegerOf (Err (Run e)) r = r ≡ None

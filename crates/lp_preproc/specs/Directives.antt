@@ -13,6 +13,8 @@ use Rattle.lp_lexer.specs.Source.{joins, most_bytes}
 use Rattle.lp_preproc.specs.declared.macros.Macro.{Macro}
 use Rattle.lp_preproc.specs.declared.macros.Body.TheVariants.{Tokens}
 use Rattle.lp_preproc.specs.declared.word.Word.{Word}
+use Rattle.lp_preproc.specs.declared.definitions.ParameterStep.{ParameterStep}
+use Rattle.lp_preproc.specs.declared.definitions.ParameterStep.TheVariants as step
 use Rattle.lp_preproc.specs.declared.directive.Directive.{Directive}
 use Rattle.lp_preproc.specs.declared.directive.Directive.TheVariants as says
 use Rattle.lp_preproc.specs.declared.state.Group.{Group}
@@ -252,6 +254,16 @@ more_parameters names (t ∷ u ∷ us) = by_name (new_name names (name_of t.kind
 abbrev pub IsParameter : List (List ℕ) → Option (List ℕ) → List (List ℕ) → Bool → Type 0
 IsParameter old n new true = (m : List ℕ) × (new_name old n ≡ Some m) × (new ≡ old ++ m ∷ [])
 IsParameter old n new false = new_name old n ≡ None
+
+-- what stands behind a parameter
+abbrev pub step_by : TokenKind → ParameterStep
+step_by k = if is_close k then step.Ends else (if is_comma k then step.GoesOn else step.Bad)
+
+-- a parameter and what stands behind it: the last one, one more, or none
+abbrev pub IsParameterStep : List (List ℕ) → Token → Token → List (List ℕ) → ParameterStep → Type 0
+IsParameterStep old t u new step.Ends = (us : List Token) → more_parameters old (t ∷ u ∷ us) ≡ Some (record { names = new; after = us })
+IsParameterStep old t u new step.GoesOn = (us : List Token) → more_parameters old (t ∷ u ∷ us) ≡ more_parameters new us
+IsParameterStep old t u new step.Bad = (us : List Token) → more_parameters old (t ∷ u ∷ us) ≡ None
 
 -- the parameters of these words, and the place behind them
 abbrev pub AreParameters : List Token → Option Parameters → Option (List (List ℕ) × ℕ) → Type 0

@@ -15,7 +15,7 @@ use Rattle.lp_lexer.specs.Source.{most_bytes}
 use Rattle.lp_preproc.specs.declared.state.Group.{Group}
 use Rattle.lp_preproc.specs.declared.word.Word.{Word}
 use Rattle.lp_preproc.specs.State.{Setting, Open, State, begin, Next, Goes, Ends, Fails, Asks, Reads, Tests, line_or, skips}
-use Rattle.lp_preproc.specs.Uses.{read, ended, folder}
+use Rattle.lp_preproc.specs.Uses.{read, ended}
 use Rattle.lp_preproc.specs.Conditions.{HasValue}
 use Rattle.lp_preproc.specs.Directives.{rest_of_line, next_lines, is_hash, is_bad, directive}
 

@@ -1,5 +1,5 @@
 -- Names, macros and the table of macros.
-use Rattle.std.specs.Prelude.{ℕ, pos, List, [], ◌∷◌, Bool, true, false, Option, Some, None, ◌+◌, ◌==◌, ◌&&◌, is_some, if◌then◌else◌, codes, nat_eq}
+use Rattle.std.specs.Prelude.{ℕ, pos, List, [], ◌∷◌, Bool, true, false, Option, Some, None, ◌+◌, ◌==◌, ◌&&◌, is_some, if◌then◌else◌, codes}
 use Rattle.std.specs.Cmp.Lexicographic.{pointwise}
 pub use Rattle.lp_preproc.specs.Names.{same_name, among, with_name, with_names}
 use Rattle.std.specs.Ordering.{int_eq}

@@ -1,5 +1,5 @@
 -- What the code's functions do.
-use Rattle.std.specs.Prelude.{◌≡◌, ℕ, ℤ, pos, Vec, not, ◌≤◌, ◌<◌, length, map, List, [], ◌∷◌, reverse, Bool, true, false, Option, Some, None, Result, Ok, Err, chars}
+use Rattle.std.specs.Prelude.{◌≡◌, ℕ, ℤ, pos, Vec, not, ◌≤◌, ◌<◌, length, List, [], ◌∷◌, reverse, Bool, true, false, Option, Some, None, Result, Ok, Err, chars}
 use Rattle.std.specs.Ordering.{int_eq}
 use Rattle.std.specs.declared.alloc.Global.{Global}
 use Rattle.lp_tree.specs.declared.fault.FaultKind.TheVariants.{Lex, BadDirective}
@@ -29,7 +29,7 @@ use Rattle.lp_preproc.specs.declared.state.Group.{Group}
 use Rattle.lp_preproc.specs.declared.state.Purpose.{Purpose}
 use Rattle.lp_preproc.specs.declared.state.Reading.TheVariants.{Plain}
 use Rattle.lp_preproc.specs.declared.row.Row.{Row}
-use Rattle.lp_preproc.specs.Expansion.{line_at, came_out, came_out_of, Outcome, Whole, Faulty, LeadsTo}
+use Rattle.lp_preproc.specs.Expansion.{line_at, Outcome, Whole, Faulty, LeadsTo}
 use Rattle.lp_preproc.specs.declared.state.Use.{Use}
 use Rattle.lp_preproc.specs.Uses.{expanded, used, folder, Asked}
 

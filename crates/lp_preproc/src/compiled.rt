@@ -88,16 +88,32 @@ fn predefined(alloc: Global) -> Result<Table, AllocError>
     ensures { IfOk result (λ t. macros_in t ≡ predefined) }
 {
     let mut table = Table::new(alloc);
-    table.put(alloc, &['_', '_', 'F', 'I', 'L', 'E', '_', '_'], plain(Body::File))?;
-    table.put(alloc, &['_', '_', 'L', 'I', 'N', 'E', '_', '_'], plain(Body::Line))?;
-    table.put(alloc, &['_', '_', 'D', 'I', 'R', '_', '_'], plain(Body::Folder))?;
+    table.put(
+        alloc,
+        &['_', '_', 'F', 'I', 'L', 'E', '_', '_'],
+        plain(Body::File),
+    )?;
+    table.put(
+        alloc,
+        &['_', '_', 'L', 'I', 'N', 'E', '_', '_'],
+        plain(Body::Line),
+    )?;
+    table.put(
+        alloc,
+        &['_', '_', 'D', 'I', 'R', '_', '_'],
+        plain(Body::Folder),
+    )?;
     let version = token(alloc, TokenKind::Text(letters(alloc, &['3', '.', '6'])?))?;
     table.put(
         alloc,
         &['_', '_', 'V', 'E', 'R', 'S', 'I', 'O', 'N', '_', '_'],
         version,
     )?;
-    table.put(alloc, &['L', 'P', 'C', '3'], token(alloc, TokenKind::Int(1))?)?;
+    table.put(
+        alloc,
+        &['L', 'P', 'C', '3'],
+        token(alloc, TokenKind::Int(1))?,
+    )?;
     table.put(
         alloc,
         &['_', '_', 'L', 'D', 'M', 'U', 'D', '_', '_'],
@@ -210,11 +226,7 @@ fn place_of(alloc: Global, path: &str) -> Result<Place, AllocError>
 }
 
 // The expansion of a file, as words.
-fn expand_words(
-    alloc: Global,
-    files: &Store,
-    path: &str,
-) -> Result<(Row<Word>, Pragmas), Stop>
+fn expand_words(alloc: Global, files: &Store, path: &str) -> Result<(Row<Word>, Pragmas), Stop>
     ensures { Expanding (setting files.now path.now) (opening (setting files.now path.now)) result }
 {
     let Some(bytes) = files.read(path) else {

@@ -1,19 +1,19 @@
 //! The directives that change the table of macros, and pragmas.
 ghost use Rattle.std.specs.Prelude.{◌≡◌, IfOk, Some, [], drop};
 ghost use Rattle.std.specs.Option.{option_copied};
-ghost use Rattle.lp_preproc.specs.Directives.{AreParameters, IsParameter, define, defined, definition, directive_of, kinds, more_parameters, one_name, other_of, parameters, said, undefine, with_named, with_parameters, with_pragma, with_pragmas};
+ghost use Rattle.lp_preproc.specs.Directives.{AreParameters, IsParameter, IsParameterStep, define, define_name, defined, definition, directive_of, kinds, more_parameters, one_name, other_of, parameters, said, step_by, undefine, with_named, with_parameters, with_pragma, with_pragmas};
 ghost use Rattle.lp_preproc.specs.State.{State};
 ghost use Rattle.lp_preproc.specs.Steps.{Does};
 ghost use Rattle.lp_preproc.specs.Tables.{macros_in};
 ghost use Rattle.lp_preproc.specs.Uses.{is_close, is_comma, is_open, name_of};
 ghost use Rattle.lp_preproc.specs.Macros.{macro_of, plain};
 
-use crate::directive::Directive;
 use crate::bytes::is_directly_behind;
+use crate::directive::Directive;
 use crate::macros::{Body, Kinds, Macro};
 use crate::params::{Distinct, Params};
-use crate::same::same_macro;
 use crate::result::same_name;
+use crate::same::same_macro;
 use crate::stop::Stop;
 use crate::table::Table;
 use crate::word::copy_kind;
@@ -216,11 +216,7 @@ fn is_comma(kind: &TokenKind) -> bool
 }
 
 // A name is one more parameter, unless it is one; what is no name is none.
-fn add_parameter(
-    alloc: Global,
-    names: &mut Distinct,
-    kind: &TokenKind,
-) -> Result<bool, AllocError>
+fn add_parameter(alloc: Global, names: &mut Distinct, kind: &TokenKind) -> Result<bool, AllocError>
     ensures { IfOk result (IsParameter names.old (name_of kind.now) names.new) }
 {
     match name_part(kind) {
@@ -229,35 +225,64 @@ fn add_parameter(
     }
 }
 
-// The parameters that begin here, and the place behind their `)`.
-fn more_parameters(
+/// What a parameter and what stands behind it come to.
+#[derive(Clone, Copy, Debug, PartialEq, Eq)]
+pub enum ParameterStep {
+    /// It is the last one.
+    Ends,
+    /// Another follows.
+    GoesOn,
+    /// They are no parameters.
+    Bad,
+}
+
+// What stands behind a parameter.
+fn step_by(kind: &TokenKind) -> ParameterStep
+    ensures { result ≡ step_by kind.now }
+{
+    if is_close(kind) {
+        return ParameterStep::Ends;
+    }
+    if is_comma(kind) {
+        return ParameterStep::GoesOn;
+    }
+    ParameterStep::Bad
+}
+
+// A parameter, and what stands behind it.
+fn take_parameter(
     alloc: Global,
-    words: &[Token],
-) -> Result<Option<(Distinct, usize)>, AllocError>
+    names: &mut Distinct,
+    t: &Token,
+    u: &Token,
+) -> Result<ParameterStep, AllocError>
+    ensures { IfOk result (IsParameterStep names.old t.now u.now names.new) }
+{
+    if add_parameter(alloc, names, &t.kind)? {
+        Ok(step_by(&u.kind))
+    } else {
+        Ok(ParameterStep::Bad)
+    }
+}
+
+// The parameters that begin here, and the place behind their `)`.
+fn more_parameters(alloc: Global, words: &[Token]) -> Result<Option<(Distinct, usize)>, AllocError>
     ensures { IfOk result (AreParameters words.now (more_parameters [] words.now)) }
 {
     let mut names = Distinct::new(alloc);
     let mut i = 0;
-    'names: while i + 1 < words.len() {
-        if !add_parameter(alloc, &mut names, &words[i].kind)? {
-            return Ok(None);
+    'names: while words.len().saturating_sub(i) > 1 {
+        match take_parameter(alloc, &mut names, &words[i], &words[i + 1])? {
+            ParameterStep::Ends => return Ok(Some((names, i + 2))),
+            ParameterStep::GoesOn => i += 2,
+            ParameterStep::Bad => return Ok(None),
         }
-        if is_close(&words[i + 1].kind) {
-            return Ok(Some((names, i + 2)));
-        }
-        if !is_comma(&words[i + 1].kind) {
-            return Ok(None);
-        }
-        i += 2;
     }
     Ok(None)
 }
 
 // The parameters behind a `(`, and the place behind their `)`.
-fn parameters(
-    alloc: Global,
-    words: &[Token],
-) -> Result<Option<(Distinct, usize)>, AllocError>
+fn parameters(alloc: Global, words: &[Token]) -> Result<Option<(Distinct, usize)>, AllocError>
     ensures { IfOk result (AreParameters words.now (parameters words.now)) }
 {
     if words.len() == 0 {
@@ -335,6 +360,26 @@ fn define_as(
     }
 }
 
+// A name is defined by these words.
+fn define_name(
+    alloc: Global,
+    table: &mut Table,
+    bytes: &[u8],
+    token: &Token,
+    rest: &[Token],
+    line: u32,
+) -> Result<(), Stop>
+    ensures { (s : State) → Does (define_name (record s { macros = (macros_in table.old) }) (name_of token.now.kind) (definition bytes.now token.now rest.now) line) result (record s { macros = (macros_in table.new) }) }
+{
+    let Some(name) = name_part(&token.kind) else {
+        return Err(Stop::At(FaultKind::BadDirective, line));
+    };
+    let Some(meaning) = definition(alloc, bytes, token, rest)? else {
+        return Err(Stop::At(FaultKind::BadDirective, line));
+    };
+    define_as(alloc, table, name.as_slice(), meaning, line)
+}
+
 /// `#define`
 pub fn define(
     alloc: Global,
@@ -348,11 +393,5 @@ pub fn define(
     if words.len() == 0 {
         return Err(Stop::At(FaultKind::BadDirective, line));
     }
-    let Some(name) = name_part(&words[0].kind) else {
-        return Err(Stop::At(FaultKind::BadDirective, line));
-    };
-    let Some(meaning) = definition(alloc, bytes, &words[0], &words[1..])? else {
-        return Err(Stop::At(FaultKind::BadDirective, line));
-    };
-    define_as(alloc, table, name.as_slice(), meaning, line)
+    define_name(alloc, table, bytes, &words[0], &words[1..], line)
 }

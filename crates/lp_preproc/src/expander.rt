@@ -186,7 +186,14 @@ fn carry_if(
 ) -> Result<(), Stop>
     ensures { (c : Setting) → IsOf place.now c → Reaches c (carried_out c (record (whole_of expander.old) { files = source ∷ expander.old.files }) source (Some If) rest.now line) result (whole_of expander.new) }
 {
-    match holds(alloc, place, &expander.table, &mut expander.reader, rest, line) {
+    match holds(
+        alloc,
+        place,
+        &expander.table,
+        &mut expander.reader,
+        rest,
+        line,
+    ) {
         Ok(holds) => {
             let mut source = source;
             source.groups.push(begun(holds))?;
@@ -213,7 +220,14 @@ fn evaluate_elif(
     if let Some(bad) = bad_place(rest) {
         return Err(Stop::At(FaultKind::Lex, source.line_of(bad.line)));
     }
-    match holds(alloc, place, &expander.table, &mut expander.reader, rest, line) {
+    match holds(
+        alloc,
+        place,
+        &expander.table,
+        &mut expander.reader,
+        rest,
+        line,
+    ) {
         Ok(holds) => {
             let mut source = source;
             source.groups.push(Group {
@@ -381,7 +395,10 @@ fn include_file(
     if expander.files.len() > MOST_INCLUDED {
         return Err(Stop::At(FaultKind::IncludeDepth, line));
     }
-    if expander.reader.put_in >= MOST_PUT_IN || bytes.len() > MOST_BYTES {
+    if expander.reader.put_in >= MOST_PUT_IN {
+        return Err(Stop::At(FaultKind::TooManyTokens, line));
+    }
+    if bytes.len() > MOST_BYTES {
         return Err(Stop::At(FaultKind::TooManyTokens, line));
     }
     match tokens_of(alloc, bytes, line) {
@@ -471,7 +488,16 @@ fn take_directive(
     if let Some(bad) = bad_place(words) {
         return Err(Stop::At(FaultKind::Lex, source.line_of(bad.line)));
     }
-    carry_any(alloc, files, place, expander, source, says, behind(words), line)
+    carry_any(
+        alloc,
+        files,
+        place,
+        expander,
+        source,
+        says,
+        behind(words),
+        line,
+    )
 }
 
 // Nothing came to an end.
@@ -559,7 +585,12 @@ fn from_file(
 }
 
 // What comes next where no word waits.
-fn from_files(alloc: Global, files: &Store, place: &Place, expander: &mut Expander) -> Result<bool, Stop>
+fn from_files(
+    alloc: Global,
+    files: &Store,
+    place: &Place,
+    expander: &mut Expander,
+) -> Result<bool, Stop>
     ensures { (c : Setting) → IsIn files.now place.now c → Turns c (from_files c (whole_of expander.old) expander.old.files) result (whole_of expander.new) }
 {
     match expander.files.pop() {

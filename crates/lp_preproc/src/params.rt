@@ -64,13 +64,12 @@ impl Distinct {
         let place = self.names.len();
         let letters = Vec::from_slice(alloc, name.as_slice())?;
         let own = name.copy()?;
-        self.names.push(own)?;
-        match self.places.insert(letters, place) {
-            Ok(_) => Ok(true),
-            Err(_) => {
-                drop(self.names.pop());
-                Err(AllocError)
-            }
+        self.names.reserve(1)?;
+        self.places.insert(letters, place)?;
+        match self.names.push(own) {
+            Ok(()) => Ok(true),
+            // There is room.
+            Err(_) => unreachable!(),
         }
     }
 }

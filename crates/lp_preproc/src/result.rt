@@ -1,5 +1,5 @@
 //! What a macro use puts in.
-ghost use Rattle.std.specs.Prelude.{◌≡◌, ◌++◌, ◌∷◌, [], ◌≤◌, ◌<◌, ◌^◌, ℕ, IfOk, OnOk, List, Option, Some, None, map, length};
+ghost use Rattle.std.specs.Prelude.{◌≡◌, ◌++◌, ◌∷◌, [], ◌≤◌, ◌<◌, ◌^◌, ℕ, IfOk, OnOk, List, Option, Some, None, map, length, slice_get};
 ghost use Rattle.std.specs.Option.{option_copied, option_map};
 ghost use Rattle.std.specs.Cmp.Lexicographic.{pointwise};
 ghost use Rattle.lp_preproc.specs.Macros.{among, same_name, with_name, with_names};
@@ -79,12 +79,19 @@ pub fn hidden_in(alloc: Global, word: &Word) -> Result<Names, AllocError>
     }
 }
 
+// The argument at a place.
+fn argument_in<'a>(args: &'a [Row<Word>], i: usize) -> Option<&'a Row<Word>>
+    ensures { option_copied result ≡ slice_get args.now i }
+{
+    if i < args.len() { Some(&args[i]) } else { None }
+}
+
 // The argument of a parameter.
 fn argument_of<'a>(name: &[char], params: &Params, args: &'a [Row<Word>]) -> Option<&'a Row<Word>>
     ensures { option_copied result ≡ argument_of name.now params.now args.now }
 {
     match params.place(name) {
-        Some(i) => args.get(i),
+        Some(i) => argument_in(args, i),
         None => None,
     }
 }
@@ -235,10 +242,11 @@ fn filled_count(
 {
     let mut count = 0;
     'kinds: for kind in kinds {
-        count += words_count(argument_at(kind, params, args));
-        if count > room {
+        let more = words_count(argument_at(kind, params, args));
+        if more > room - count {
             return None;
         }
+        count += more;
     }
     Some(count)
 }

@@ -1,59 +1,94 @@
 //! The value of a condition.
-ghost use Rattle.std.specs.Prelude.{◌≡◌, IfOk, map};
+ghost use Rattle.std.specs.Prelude.{◌≡◌, IfOk, List, map, true};
+ghost use Rattle.lp_parser_expr.specs.Theorem.{IsFault, IsRead};
+ghost use Rattle.lp_tree.specs.declared.token.Token.{Token as Tok};
+ghost use Rattle.lp_preproc.specs.declared.word.Word.{Word as AnyWord};
+ghost use Rattle.lp_ops.specs.Operands.{Number};
+ghost use Rattle.lp_ops.specs.Operators.{result_of, unary};
 ghost use Rattle.lp_tree.specs.Seen.{seen};
 ghost use Rattle.lp_tree.specs.TreeView.{tree_of};
-ghost use Rattle.lp_preproc.specs.Conditions.{IsIntegerOf, IsValue, as_operand, condition_value, is_condition as is_condition_tree, of_one, of_two, sight, value as value_of_tree};
+ghost use Rattle.lp_preproc.specs.Conditions.{IsValue, as_operand, condition_value, integer_given, integer_of, is_condition as is_condition_tree, of_one, of_two, sight, value as value_of_tree};
 
 use crate::word::{Word, copy_kind};
-use lp_cells::cells::Cells;
-use lp_ops::binary::binary;
-use lp_ops::fault::OpFault;
-use lp_ops::unary::unary;
+use lp_ops::effect::Effect;
+use lp_ops::int::{divided, int, remainder, shifted_left, shifted_right, truth, whole};
+use lp_parser_expr::law::one_tree_law;
 use lp_parser_expr::{ParseFault, expr};
 use lp_tree::expr::Expr;
 use lp_tree::operator::{BinOp, UnOp};
 use lp_tree::token::{Token, TokenKind};
-use lp_values::id::ObjId;
-use lp_values::value::{Living, Value};
+use lp_values::value::Value;
 use std::alloc::{AllocError, Global};
 
-/// A condition has no objects: whether one is live makes no difference.
-struct NoObjects;
-
-impl Living for NoObjects {
-    ghost use Rattle.std.specs.Prelude.{true};
-
-    ghost live = { λ _ _. true };
-
-    fn is_live(&self, _id: ObjId) -> bool {
-        true
-    }
-}
-
-// The integer that an operator gave.
-fn integer_given(answer: Result<Value, OpFault>) -> Result<Option<i64>, AllocError>
-    ensures { IfOk result (IsIntegerOf answer) }
+// The integer that a value is.
+fn integer_of(value: Value) -> Option<i64>
+    ensures { result ≡ integer_of value }
 {
-    match answer {
-        Ok(Value::Int(n)) => Ok(Some(n)),
-        Ok(_) => Ok(None),
-        Err(OpFault::NoMemory) => Err(AllocError),
-        Err(OpFault::Run(_)) => Ok(None),
+    match value {
+        Value::Int(n) => Some(n),
+        _ => None,
     }
 }
 
-// What an operator with one operand gives.
+// The integer that an operator gives.
+fn integer_given(effect: Effect) -> Option<i64>
+    ensures { result ≡ integer_given effect }
+{
+    match effect {
+        Effect::Gives(value) => integer_of(value),
+        _ => None,
+    }
+}
+
+// What an operator does with one integer.
+fn effect_of_one(alloc: Global, op: UnOp, n: i64) -> Result<Effect, AllocError>
+    ensures { IfOk result (λ e. e ≡ unary op (Number n)) }
+{
+    match op {
+        UnOp::Not => Ok(truth(n == 0)),
+        UnOp::Flip => Ok(int(!n)),
+        UnOp::Neg => whole(alloc, n.checked_neg()),
+    }
+}
+
+// What an operator does with two integers.
+fn effect_of_two(alloc: Global, op: BinOp, m: i64, n: i64) -> Result<Effect, AllocError>
+    ensures { IfOk result (λ e. e ≡ result_of (λ _. true) op (Number m) (Number n)) }
+{
+    match op {
+        BinOp::Add => whole(alloc, m.checked_add(n)),
+        BinOp::Sub => whole(alloc, m.checked_sub(n)),
+        BinOp::Mul => whole(alloc, m.checked_mul(n)),
+        BinOp::Div => divided(alloc, m, n),
+        BinOp::Rem => remainder(alloc, m, n),
+        BinOp::And => Ok(int(m & n)),
+        BinOp::Or => Ok(int(m | n)),
+        BinOp::Xor => Ok(int(m ^ n)),
+        BinOp::Shl => shifted_left(alloc, m, n),
+        BinOp::Shr => shifted_right(alloc, m, n),
+        BinOp::Lt => Ok(truth(m < n)),
+        BinOp::Le => Ok(truth(m <= n)),
+        BinOp::Gt => Ok(truth(n < m)),
+        BinOp::Ge => Ok(truth(n <= m)),
+        BinOp::Eq => Ok(truth(m == n)),
+        BinOp::Ne => Ok(truth(m != n)),
+    }
+}
+
+// The integer of an operator with one operand.
 fn of_one(alloc: Global, op: UnOp, n: Option<i64>) -> Result<Option<i64>, AllocError>
     ensures { IfOk result (λ r. r ≡ of_one op n) }
 {
-    let Some(n) = n else {
-        return Ok(None);
-    };
-    let mut cells = Cells::new(alloc);
-    integer_given(unary(alloc, op, &Value::Int(n), &mut cells, &NoObjects))
+    match n {
+        Some(n) => {
+            let effect = effect_of_one(alloc, op, n)?;
+            Ok(integer_given(effect))
+        }
+        None => Ok(None),
+    }
 }
 
-// What an operator with two operands gives.
+// The integer of an operator with two operands.
 fn of_two(
     alloc: Global,
     op: BinOp,
@@ -62,18 +97,13 @@ fn of_two(
 ) -> Result<Option<i64>, AllocError>
     ensures { IfOk result (λ r. r ≡ of_two op m n) }
 {
-    let (Some(m), Some(n)) = (m, n) else {
-        return Ok(None);
-    };
-    let mut cells = Cells::new(alloc);
-    integer_given(binary(
-        alloc,
-        op,
-        &Value::Int(m),
-        &Value::Int(n),
-        &mut cells,
-        &NoObjects,
-    ))
+    match (m, n) {
+        (Some(m), Some(n)) => {
+            let effect = effect_of_two(alloc, op, m, n)?;
+            Ok(integer_given(effect))
+        }
+        _ => Ok(None),
+    }
 }
 
 // Whether an expression is made of integers, parentheses and operators that take integers.
@@ -103,7 +133,12 @@ fn value(alloc: Global, e: &Expr) -> Result<Option<i64>, AllocError>
         Expr::Int { value, .. } => Ok(Some(*value)),
         Expr::Paren { inner, .. } => value(alloc, inner),
         Expr::Unary { op, of, .. } => of_one(alloc, *op, value(alloc, of)?),
-        Expr::Binary { op, left, right, .. } => {
+        Expr::Binary {
+            op,
+            left,
+            right,
+            ..
+        } => {
             let m = value(alloc, left)?;
             let n = value(alloc, right)?;
             of_two(alloc, *op, m, n)
@@ -172,20 +207,47 @@ fn operands(alloc: Global, words: &[Word]) -> Result<Vec<Token>, AllocError>
     Ok(tokens)
 }
 
+// The value of an expression of so many tokens, if it is all of them.
+fn whole_value(
+    alloc: Global,
+    tokens: &[Token],
+    e: &Expr,
+    count: usize,
+) -> Result<Option<i64>, AllocError>
+    ensures { (ws : List AnyWord) → map seen tokens.now ≡ map sight ws → IsRead 200 tokens.now count (tree_of e.now) → IfOk result (IsValue ws) }
+{
+    one_tree_law();
+    if count == tokens.len() {
+        return condition_value(alloc, e);
+    }
+    Ok(None)
+}
+
+// Tokens that are no expression have no value.
+fn no_value(fault: ParseFault) -> Result<Option<i64>, AllocError>
+    ensures { (ws : List AnyWord) (ts : List Tok) → map seen ts ≡ map sight ws → IsFault ts 0 1 fault → IfOk result (IsValue ws) }
+{
+    match fault {
+        ParseFault::NoMemory => Err(AllocError),
+        ParseFault::Unexpected { .. } => Ok(None),
+        ParseFault::TooNested { .. } => Ok(None),
+    }
+}
+
+// The value of the tokens of a condition.
+fn read_value(alloc: Global, tokens: &[Token]) -> Result<Option<i64>, AllocError>
+    ensures { (ws : List AnyWord) → map seen tokens.now ≡ map sight ws → IfOk result (IsValue ws) }
+{
+    match expr(alloc, tokens, 0, 1) {
+        Ok((e, count)) => whole_value(alloc, tokens, &e, count),
+        Err(fault) => no_value(fault),
+    }
+}
+
 /// The value of a condition, or none where its words are no condition, or an operator is an error.
 pub fn value_of(alloc: Global, words: &[Word]) -> Result<Option<i64>, AllocError>
     ensures { IfOk result (IsValue words.now) }
 {
     let tokens = operands(alloc, words)?;
-    match expr(alloc, tokens.as_slice(), 0, 1) {
-        Ok((e, count)) => {
-            if count == tokens.len() {
-                condition_value(alloc, &e)
-            } else {
-                Ok(None)
-            }
-        }
-        Err(ParseFault::NoMemory) => Err(AllocError),
-        Err(_) => Ok(None),
-    }
+    read_value(alloc, tokens.as_slice())
 }

@@ -1,6 +1,6 @@
-use Rattle.std.proofs.Common.{sym, ap, map, subst, Err}
+use Rattle.std.proofs.Common.{sym, subst, Err}
 use Rattle.lp_preproc.specs.State.{Goes}
-use Rattle.lp_preproc.specs.Expansion.{LeadsTo, Whole, came_out}
+use Rattle.lp_preproc.specs.Expansion.{LeadsTo, Whole}
 use Rattle.lp_preproc.specs.Steps.{Expanding, whole_of}
 use Rattle.lp_preproc.proofs.Leading.{expanding_failed}
 use Rattle.lp_preproc.proofs.compiled.expand_tokens.Goals as goal

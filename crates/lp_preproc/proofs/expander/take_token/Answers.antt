@@ -11,5 +11,5 @@ returns-then-is_bad c = λ c' i. rw (sym c.skips.ensures ∙ c.if-skips.false) (
 pub returns : goal.returns
 returns c = λ c' i. rw (sym c.skips.ensures ∙ c.if-skips.false) (rw (sym c.is_bad.ensures ∙ c.if-is_bad.false)
     (subst (λ fs. Turns c' (read c' (state_of c.args.expander.now.reader (macros_in c.args.expander.now.table) (beside fs c.args.expander.now.pragmas)) (word_of c.args.source c.args.next)) c.expand_word.result (state_of c.expand_word.new.reader (macros_in c.args.expander.now.table) (beside c.push-2.new.self c.args.expander.now.pragmas))) c.in_ok-push-2.ensures.ok
-    (subst (λ w. Turns c' (read c' (state_of c.args.expander.now.reader (macros_in c.args.expander.now.table) (beside c.push-2.new.self c.args.expander.now.pragmas)) w) c.expand_word.result (state_of c.expand_word.new.reader (macros_in c.args.expander.now.table) (beside c.push-2.new.self c.args.expander.now.pragmas))) c.in_ok-word.ensures
+    (subst (λ w. Turns c' (read c' (state_of c.args.expander.now.reader (macros_in c.args.expander.now.table) (beside c.push-2.new.self c.args.expander.now.pragmas)) w) c.expand_word.result (state_of c.expand_word.new.reader (macros_in c.args.expander.now.table) (beside c.push-2.new.self c.args.expander.now.pragmas))) c.word_of-word.ensures
     (c.expand_word.ensures c' i (beside c.push-2.new.self c.args.expander.now.pragmas) refl))))

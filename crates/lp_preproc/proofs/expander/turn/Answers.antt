@@ -15,4 +15,4 @@ returns-in-None c = λ c' i.
 pub returns-in-Some : goal.returns-in-Some
 returns-in-Some c = λ c' i.
     let k = beside c.args.expander.now.files c.args.expander.now.pragmas in
-    subst (λ r. Turns c' (next c' (state_of r (macros_in c.args.expander.now.table) k)) c.expand_word.result (state_of c.expand_word.new.reader (macros_in c.args.expander.now.table) k)) (sym c.in-Some.ensures) (c.expand_word.ensures c' i k refl)
+    subst (λ r. Turns c' (next c' (state_of r (macros_in c.args.expander.now.table) k)) c.expand_word.result (state_of c.expand_word.new.reader (macros_in c.args.expander.now.table) k)) (sym c.in-Some.ensures) (c.expand_word.ensures c' i.place k refl)

@@ -1,4 +1,4 @@
-use Rattle.std.proofs.Common.{[], refl, sym, ap, ◌∙◌, subst, arith, Err}
+use Rattle.std.proofs.Common.{[], refl, sym, subst, arith, Err}
 use Rattle.lp_preproc.specs.Tables.{macros_in}
 use Rattle.lp_preproc.specs.Expansion.{LeadsTo, next}
 use Rattle.lp_preproc.specs.Steps.{Does, Leads, Reaches, Turns, Finishes, in_list, state_of}
