@@ -49,6 +49,17 @@ impl Store {
         }
     }
 
+    /// The bytes of a file whose path is spelled by these bytes; there is none where they are no text.
+    /// Takes no memory.
+    pub fn read_bytes(&self, path: &[u8]) -> Option<&[u8]>
+        ensures { option_map (λ b. b.now) result ≡ file_at self.now path.now }
+    {
+        match std::str::from_utf8(path) {
+            Ok(path) => self.read(path),
+            Err(_) => None,
+        }
+    }
+
     /// Writes a file, whether it was there or not, and puts its path on the changed list.
     pub fn write(&mut self, path: &str, bytes: &[u8]) -> Result<(), AllocError>
         ensures files { OnOk result (IsWith self.old self.new path.now (Some bytes.now)) }

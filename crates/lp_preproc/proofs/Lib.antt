@@ -1,0 +1,9 @@
+pub mod Answering
+pub mod ConditionLemmas
+pub mod IncludeLemmas
+pub mod Leading
+pub mod Outcomes
+pub mod ParameterLemmas
+pub mod ResultLemmas
+pub mod StackLemmas
+pub mod TableLemmas

@@ -1,0 +1,16 @@
+use Rattle.std.proofs.Common.{sym, subst, ◌∙◌}
+use Rattle.lp_preproc.specs.Tables.{macros_in}
+use Rattle.lp_preproc.specs.Expansion.{from_files}
+use Rattle.lp_preproc.specs.Uses.{ended}
+use Rattle.lp_preproc.specs.Steps.{Turns, beside, state_of, whole_of}
+use Rattle.lp_preproc.proofs.Leading.{turn_finishes}
+use Rattle.lp_preproc.proofs.expander.from_files.Goals as goal
+
+pub returns-in-None : goal.returns-in-None
+returns-in-None c = λ c' i.
+    let e = c.args.expander.now in
+    let r = c.take_end.result in
+    let k = beside e.files e.pragmas in
+    subst (λ fs. Turns c' (from_files c' (whole_of e) fs) r (state_of c.take_end.new.reader (macros_in e.table) (beside c.pop.new.self e.pragmas))) (sym c.in-None.ensures.0)
+    (subst (λ gs. Turns c' (ended (whole_of e)) r (state_of c.take_end.new.reader (macros_in e.table) (beside gs e.pragmas))) (c.in-None.ensures.0 ∙ sym c.in-None.ensures.1)
+    (turn_finishes c' (ended (whole_of e)) r (state_of c.take_end.new.reader (macros_in e.table) k) (c.take_end.ensures (macros_in e.table) k)))

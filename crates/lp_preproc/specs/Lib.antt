@@ -1,0 +1,11 @@
+pub mod Conditions
+pub mod Directives
+pub mod Expansion
+pub mod Macros
+pub mod Names
+pub mod Places
+pub mod Stacks
+pub mod State
+pub mod Steps
+pub mod Tables
+pub mod Uses

@@ -1,0 +1,13 @@
+//! What the definition promises.
+ghost use Rattle.std.specs.Prelude.{◌≡◌};
+ghost use Rattle.lp_preproc.specs.Expansion.{LeadsTo, Outcome};
+ghost use Rattle.lp_preproc.specs.State.{Next, Setting};
+
+use lp_parser_expr::law::one_tree_law;
+
+/// Law: what is next leads to one outcome at most.
+pub fn law_one_outcome()
+    ensures { (c : Setting) (n : Next) (o p : Outcome) → LeadsTo c n o → LeadsTo c n p → o ≡ p }
+{
+    one_tree_law();
+}
