@@ -5,3 +5,5 @@
 
 #[cfg(test)]
 mod lines;
+#[cfg(test)]
+mod records;
