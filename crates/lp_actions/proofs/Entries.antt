@@ -35,13 +35,13 @@ Stand a b Greater = Below b a
 pub stand : (a b : Place) → Stand a b (place_cmp a b)
 stand a b =
     by_ranked (a.holder < b.holder) (a.holder ≡ b.holder) (b.holder < a.holder) (nat_cmp a.holder b.holder) (ranked a.holder b.holder _ refl)
-      (λ e h. subst (λ r. Stand a b (ordering_then r (nat_cmp a.number b.number))) (sym e) (inl h))
-      (λ e h. subst (λ r. Stand a b (ordering_then r (nat_cmp a.number b.number))) (sym e)
-        (by_ranked (a.number < b.number) (a.number ≡ b.number) (b.number < a.number) (nat_cmp a.number b.number) (ranked a.number b.number _ refl)
-          (λ f k. subst (Stand a b) (sym f) (inr (h, k)))
-          (λ f k. subst (Stand a b) (sym f) (h, k))
-          (λ f k. subst (Stand a b) (sym f) (inr (sym h, k)))))
-      (λ e h. subst (λ r. Stand a b (ordering_then r (nat_cmp a.number b.number))) (sym e) (inl h))
+    (λ e h. subst (λ r. Stand a b (ordering_then r (nat_cmp a.number b.number))) (sym e) (inl h))
+    (λ e h. subst (λ r. Stand a b (ordering_then r (nat_cmp a.number b.number))) (sym e)
+    (by_ranked (a.number < b.number) (a.number ≡ b.number) (b.number < a.number) (nat_cmp a.number b.number) (ranked a.number b.number _ refl)
+    (λ f k. subst (Stand a b) (sym f) (inr (h, k)))
+    (λ f k. subst (Stand a b) (sym f) (h, k))
+    (λ f k. subst (Stand a b) (sym f) (inr (sym h, k)))))
+    (λ e h. subst (λ r. Stand a b (ordering_then r (nat_cmp a.number b.number))) (sym e) (inl h))
 
 holder_le : (a b : Place) → Below a b → a.holder ≤ b.holder
 holder_le a b (inl h) = omega arith
@@ -90,10 +90,10 @@ module _ (holder : ObjId) where
   first_is (e ∷ es) s =
       let tail = first_is es (sorted_tail place_cmp e.0 (keys_of es) s) in
       by_ranked (holder.0 < e.0.holder) (holder.0 ≡ e.0.holder) (e.0.holder < holder.0) (nat_cmp holder.0 e.0.holder) (ranked holder.0 e.0.holder _ refl)
-        (λ r lt. rw (from_test holder.0 e.0.holder e.0.number, nat_le_yes holder.0 e.0.holder (omega arith), nat_eq_no e.0.holder holder.0 (λ x. omega arith))
-          (sym (ap head_place (none_past e.0 es (sorted_head place_cmp e.0 (keys_of es) s) lt))))
-        (λ r same. rw (from_test holder.0 e.0.holder e.0.number, nat_le_yes holder.0 e.0.holder (omega arith), nat_eq_yes e.0.holder holder.0 (sym same)) refl)
-        (λ r gt. rw (from_test holder.0 e.0.holder e.0.number, nat_le_no holder.0 e.0.holder gt, nat_eq_no e.0.holder holder.0 (λ x. omega arith)) tail)
+      (λ r lt. rw (from_test holder.0 e.0.holder e.0.number, nat_le_yes holder.0 e.0.holder (omega arith), nat_eq_no e.0.holder holder.0 (λ x. omega arith))
+      (sym (ap head_place (none_past e.0 es (sorted_head place_cmp e.0 (keys_of es) s) lt))))
+      (λ r same. rw (from_test holder.0 e.0.holder e.0.number, nat_le_yes holder.0 e.0.holder (omega arith), nat_eq_yes e.0.holder holder.0 (sym same)) refl)
+      (λ r gt. rw (from_test holder.0 e.0.holder e.0.number, nat_le_no holder.0 e.0.holder gt, nat_eq_no e.0.holder holder.0 (λ x. omega arith)) tail)
 
 -- ---- a new action
 
@@ -106,24 +106,24 @@ module _ (holder number : ℕ) (deed : Deed) where
   first_one : (fs : List (Place × Deed)) (q : ObjId) → filter (is_of (record { 0 = holder })) fs ≡ [] → cond (nat_eq holder q.0) ((record { holder = holder; number = number }, deed) ∷ filter (is_of q) fs) (filter (is_of q) fs) ≡ filter (is_of q) fs ++ here q
   first_one fs q none =
       by_ranked (holder < q.0) (holder ≡ q.0) (q.0 < holder) (nat_cmp holder q.0) (ranked holder q.0 _ refl)
-        (λ r lt. rw (nat_eq_no holder q.0 (λ x. omega arith)) (sym (append-nil (filter (is_of q) fs))))
-        (λ r same. rw (nat_eq_yes holder q.0 same) (
-            let nothing : filter (is_of q) fs ≡ [] = subst (λ h. filter (is_of (record { 0 = h })) fs ≡ []) same none in
-            rw nothing refl))
-        (λ r gt. rw (nat_eq_no holder q.0 (λ x. omega arith)) (sym (append-nil (filter (is_of q) fs))))
+      (λ r lt. rw (nat_eq_no holder q.0 (λ x. omega arith)) (sym (append-nil (filter (is_of q) fs))))
+      (λ r same. rw (nat_eq_yes holder q.0 same) (
+      let nothing : filter (is_of q) fs ≡ [] = subst (λ h. filter (is_of (record { 0 = h })) fs ≡ []) same none in
+      rw nothing refl))
+      (λ r gt. rw (nat_eq_no holder q.0 (λ x. omega arith)) (sym (append-nil (filter (is_of q) fs))))
 
   -- where it stands before an entry, that one's holder is above
   above_it : (p : Place) (d : Deed) (es : List (Place × Deed)) → Below (record { holder = holder; number = number }) p → AllByRecursion (λ e. e.0.number < number) (filter (is_of (record { 0 = holder })) ((p, d) ∷ es)) → holder < p.holder
   above_it p d es (inl lt) h = lt
   above_it p d es (inr both) h =
       let k : AllByRecursion (λ e. e.0.number < number) (cond true ((p, d) ∷ filter (is_of (record { 0 = holder })) es) (filter (is_of (record { 0 = holder })) es)) =
-            subst (λ (b : Bool). AllByRecursion (λ e. e.0.number < number) (cond b ((p, d) ∷ filter (is_of (record { 0 = holder })) es) (filter (is_of (record { 0 = holder })) es))) (nat_eq_yes p.holder holder (sym both.0)) h in
+      subst (λ (b : Bool). AllByRecursion (λ e. e.0.number < number) (cond b ((p, d) ∷ filter (is_of (record { 0 = holder })) es) (filter (is_of (record { 0 = holder })) es))) (nat_eq_yes p.holder holder (sym both.0)) h in
       absurd (omega (arith, k.0, both.1))
 
   not_same : (p : Place) (d : Deed) (es : List (Place × Deed)) → (holder ≡ p.holder) × (number ≡ p.number) → AllByRecursion (λ e. e.0.number < number) (filter (is_of (record { 0 = holder })) ((p, d) ∷ es)) → ⊥
   not_same p d es both h =
       let k : AllByRecursion (λ e. e.0.number < number) (cond true ((p, d) ∷ filter (is_of (record { 0 = holder })) es) (filter (is_of (record { 0 = holder })) es)) =
-            subst (λ (b : Bool). AllByRecursion (λ e. e.0.number < number) (cond b ((p, d) ∷ filter (is_of (record { 0 = holder })) es) (filter (is_of (record { 0 = holder })) es))) (nat_eq_yes p.holder holder (sym both.0)) h in
+      subst (λ (b : Bool). AllByRecursion (λ e. e.0.number < number) (cond b ((p, d) ∷ filter (is_of (record { 0 = holder })) es) (filter (is_of (record { 0 = holder })) es))) (nat_eq_yes p.holder holder (sym both.0)) h in
       omega (arith, k.0, both.1)
 
   rest_of : (b : Bool) (e : Place × Deed) (fs : List (Place × Deed)) → AllByRecursion (λ e. e.0.number < number) (cond b (e ∷ fs) fs) → AllByRecursion (λ e. e.0.number < number) fs
@@ -139,12 +139,12 @@ module _ (holder number : ℕ) (deed : Deed) where
   appended [] q s h = refl
   appended (e ∷ es) q s h =
       let more : filter (is_of q) (insert_entry place_cmp es (record { holder = holder; number = number }) deed) ≡ filter (is_of q) es ++ here q =
-            appended es q (sorted_tail place_cmp e.0 (keys_of es) s) (rest_of (nat_eq e.0.holder holder) e (filter (is_of (record { 0 = holder })) es) h) in
+      appended es q (sorted_tail place_cmp e.0 (keys_of es) s) (rest_of (nat_eq e.0.holder holder) e (filter (is_of (record { 0 = holder })) es) h) in
       elim (place_cmp (record { holder = holder; number = number }) e.0) as (λ r. place_cmp (record { holder = holder; number = number }) e.0 ≡ r → filter (is_of q) (match_ordering r ((record { holder = holder; number = number }, deed) ∷ e ∷ es) ((e.0, deed) ∷ es) (e ∷ insert_entry place_cmp es (record { holder = holder; number = number }) deed)) ≡ filter (is_of q) (e ∷ es) ++ here q) [
         | Less ↦ λ r.
             let lt : holder < e.0.holder = above_it e.0 e.1 es (subst (Stand (record { holder = holder; number = number }) e.0) r (stand _ e.0)) h in
             let none : filter (is_of (record { 0 = holder })) (e ∷ es) ≡ [] =
-                  rw (nat_eq_no e.0.holder holder (λ x. omega arith)) (none_past (record { 0 = holder }) e.0 es (sorted_head place_cmp e.0 (keys_of es) s) lt) in
+            rw (nat_eq_no e.0.holder holder (λ x. omega arith)) (none_past (record { 0 = holder }) e.0 es (sorted_head place_cmp e.0 (keys_of es) s) lt) in
             first_one (e ∷ es) q none
         | Equal ↦ λ r. absurd (not_same e.0 e.1 es (subst (Stand (record { holder = holder; number = number }) e.0) r (stand _ e.0)) h)
         | Greater ↦ λ r. behind_first (nat_eq e.0.holder q.0) e _ (filter (is_of q) es) (here q) more
@@ -172,9 +172,11 @@ first_there holder place (e ∷ es) h = step (nat_eq e.0.holder holder.0) refl h
   where
     itself : (p : Place) → is_eq (place_cmp p p) ≡ true
     itself p = grind (arith, nat_tests)
+
     some_first : (b : Bool) (x : Deed) (o : Option Deed) → is_some o ≡ true → is_some (cond b (Some x) o) ≡ true
     some_first true x o k = refl
     some_first false x o k = k
+
     step : (b : Bool) → nat_eq e.0.holder holder.0 ≡ b → head_place (cond b (e ∷ filter (is_of holder) es) (filter (is_of holder) es)) ≡ Some place → (first_place holder es ≡ Some place → (place.holder ≡ holder.0) × (is_some (lookup (is_at (place_cmp place)) es) ≡ true)) → (place.holder ≡ holder.0) × (is_some (lookup (is_at (place_cmp place)) (e ∷ es)) ≡ true)
     step true r k more =
         let same : e.0 ≡ place = cc in

@@ -57,8 +57,8 @@ falling_filter p n (s ∷ ss) h = step (p s) (falling_filter p s.number ss h.1)
 pub below_next : (next : ℕ) (holder : ObjId) (ss : List Sentence) (es : List (Place × Deed)) → held_by ss holder ≡ of_holder holder es → AreFallingBelow next ss → AllByRecursion (λ e. e.0.number < next) (filter (is_of holder) es)
 below_next next holder ss es each falling =
     all_map entry_sentence (λ s. s.number < next) (filter (is_of holder) es)
-      (all_reversed (λ s. s.number < next) (map entry_sentence (filter (is_of holder) es))
-        (subst (AllByRecursion (λ s. s.number < next)) each (all_filter (λ s. s.number < next) (λ s. is_object s.holder holder) ss (all_below next next ss (omega arith) falling))))
+    (all_reversed (λ s. s.number < next) (map entry_sentence (filter (is_of holder) es))
+    (subst (AllByRecursion (λ s. s.number < next)) each (all_filter (λ s. s.number < next) (λ s. is_object s.holder holder) ss (all_below next next ss (omega arith) falling))))
 
 -- ---- what is kept
 

@@ -106,8 +106,7 @@ impl Actions {
         ensures kept { (ss : List Action) → Lists self.old ss → Lists self.new (kept_by (R.reaches reach.now) ss) }
         ensures next { next_in self.new ≡ next_in self.old }
     {
-        self.deeds
-            .retain(|place, deed| reach.in_reach(ObjId(place.holder), deed.giver));
+        self.deeds.retain(|place, deed| reach.in_reach(ObjId(place.holder), deed.giver));
     }
 
     // The first action of an object.
