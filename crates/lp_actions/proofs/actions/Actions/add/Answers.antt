@@ -1,7 +1,6 @@
-use Rattle.std.proofs.Common.{◌≡◌, ◌+◌, ◌<◌, List, filter, ap, sym, ◌∙◌, arith}
-use Rattle.lp_values.specs.declared.id.ObjId.{ObjId}
-use Rattle.lp_actions.specs.Stored.{is_of, place_cmp}
-use Rattle.lp_actions.proofs.Entries.{appended, others_stay, first_there, none_from_first}
+use Rattle.std.proofs.Common.{filter, ap, ◌∙◌, arith}
+use Rattle.lp_actions.specs.Stored.{is_of}
+use Rattle.lp_actions.proofs.Entries.{appended}
 use Rattle.lp_actions.proofs.Held.{added_is, below_next}
 use Rattle.lp_actions.proofs.actions.Actions.add.Goals as goal
 

@@ -1,8 +1,6 @@
-use Rattle.std.proofs.Common.{◌≡◌, ◌<◌, Bool, true, false, nat_eq, List, filter, length, is_some, Some, None, ap, sym, subst, ◌∙◌, arith, if◌then◌else◌, ◌+◌}
-use Rattle.lp_values.specs.declared.id.ObjId.{ObjId}
-use Rattle.lp_actions.specs.Actions.{Sentence as Action}
+use Rattle.std.proofs.Common.{◌≡◌, Bool, true, false, nat_eq, filter, length, is_some, ap, sym, subst, ◌∙◌, arith, if◌then◌else◌, ◌+◌}
 use Rattle.lp_actions.specs.Held.{AreFallingBelow}
-use Rattle.lp_actions.specs.Stored.{is_of, first_place}
+use Rattle.lp_actions.specs.Stored.{is_of}
 use Rattle.lp_places.specs.Places.{is_object}
 use Rattle.lp_actions.proofs.Entries.{others_stay, first_there, none_from_first}
 use Rattle.lp_actions.proofs.Held.{dropped_is, falling_filter}

@@ -1,4 +1,4 @@
-use Rattle.std.proofs.Common.{◌≡◌, Bool, false, nat_eq, length}
+use Rattle.std.proofs.Common.{◌≡◌, false, nat_eq, length}
 use Rattle.lp_values.specs.declared.id.ObjId.{ObjId}
 use Rattle.std.specs.List.{filter}
 use Rattle.lp_actions.specs.Stored.{is_of}

@@ -1,7 +1,5 @@
-use Rattle.std.proofs.Common.{◌≡◌, ◌∷◌, List, Option, Some, None, sym, ap, ◌∙◌, cond, Bool, [], arith}
+use Rattle.std.proofs.Common.{◌≡◌, Some, None, sym, ap, ◌∙◌, cond, Bool, [], arith}
 use Rattle.lp_actions.proofs.Entries.{first_is, if_of, nat_eq_yes, nat_eq_no}
-use Rattle.lp_actions.specs.declared.sentence.Place.{Place}
-use Rattle.lp_actions.specs.Stored.{first_place}
 use Rattle.lp_actions.proofs.actions.Actions.first_of.Goals as goal
 
 pub returns-in-Some : goal.returns-in-Some

@@ -1,7 +1,7 @@
-use Rattle.std.proofs.Common.{◌≡◌, ◌++◌, ◌∷◌, [], List, map, filter, ap, sym, subst, ◌∙◌, arith}
+use Rattle.std.proofs.Common.{◌++◌, map, filter, ap, sym, ◌∙◌}
 use Rattle.std.specs.Prelude.{reverse}
 use Rattle.std.proofs.lemmas.List.{append-nil}
-use Rattle.lp_actions.specs.Actions.{Sentence as Action, matches}
+use Rattle.lp_actions.specs.Actions.{matches}
 use Rattle.lp_actions.specs.Stored.{sentence_of, sentence_from}
 use Rattle.lp_actions.proofs.ListLemmas.{map_reverse, found_more, found_no_more}
 use Rattle.lp_actions.proofs.Held.{matching_is}
