@@ -1,13 +1,10 @@
 -- What an object's making and its death do to the list of objects.
-use Rattle.std.proofs.Common.{◌≡◌, ℕ, zero, suc, ◌+◌, ◌≤◌, ◌<◌, Bool, true, false, not, ◌&&◌, ◌||◌, cond, List, [], ◌∷◌, ◌++◌, length, Option, Some, None, is_some, nat_eq, refl, sym, ap, subst, ◌∙◌, inl, inr, ◌⊎◌, arith}
+use Rattle.std.proofs.Common.{◌≡◌, ℕ, zero, suc, ◌+◌, true, false, cond, List, [], ◌∷◌, ◌++◌, length, Option, Some, None, nat_eq, refl, sym, ap, subst, ◌∙◌, inl, inr, arith}
 use Rattle.std.specs.Option.{option_map}
-use Rattle.std.specs.List.{slice_get}
-use Rattle.std.specs.Cmp.Lexicographic.{pointwise}
-use Rattle.std.proofs.lemmas.Bool.{cases_Bool, cases_eq, cond-true, cond-false, true≢false, and_parts, and_from, eq-eqb, eqb-true, eqb-false, ne_eqb}
+use Rattle.std.proofs.lemmas.Bool.{cases_Bool, cases_eq, cond-true, cond-false, true≢false, eq-eqb, ne_eqb}
 use Rattle.std.proofs.lemmas.Option.{none-some, same_Some}
 use Rattle.lp_values.specs.declared.id.ObjId.{ObjId}
-use Rattle.lp_values.specs.declared.id.ProgId.{ProgId}
-use Rattle.lp_objects.specs.Objects.{Named, HasDistinctNames, bears, dead, killed_from, live_count, lives, named_from, object_at, with_object}
+use Rattle.lp_objects.specs.Objects.{Named, bears, dead, killed_from, live_count, lives, named_from, object_at}
 
 -- the object that a name names: its place in the list, and that it is live and has the name
 pub record IsFound (name : List ℕ) (k : ℕ) (xs : List Named) (o : ObjId) : Type 0 where

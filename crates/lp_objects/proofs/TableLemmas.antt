@@ -1,27 +1,24 @@
 -- What the table of objects stands for after an object was made, after one died, and after the dead were forgotten.
-use Rattle.std.proofs.Common.{◌≡◌, ℕ, zero, suc, ◌+◌, ◌≤◌, ◌<◌, ◌==◌, Bool, true, false, not, ◌&&◌, ◌||◌, cond, List, [], ◌∷◌, ◌++◌, length, Option, Some, None, is_some, nat_eq, refl, sym, ap, subst, ◌∙◌, inl, inr, ◌⊎◌, arith, string_bytes, take, get_or}
+use Rattle.std.proofs.Common.{◌≡◌, ℕ, suc, ◌+◌, ◌≤◌, ◌<◌, ◌==◌, Bool, true, false, ◌||◌, cond, List, [], ◌∷◌, ◌++◌, length, Option, Some, None, is_some, nat_eq, refl, sym, ap, subst, ◌∙◌, inl, inr, ◌⊎◌, arith, string_bytes, take, get_or}
 use Rattle.std.proofs.Math.Seq.{take-suc}
 use Rattle.std.specs.Option.{option_map}
 use Rattle.std.specs.Ordering.{nat_cmp}
-use Rattle.std.specs.List.{slice_get, list_any}
 use Rattle.std.specs.Cmp.Lexicographic.{pointwise}
 use Rattle.std.proofs.lemmas.Grind.{common_steps}
 use Rattle.std.specs.BTreeMap.{is_at, get, get_by_text, btree_map_len}
 use Rattle.std.specs.Str.{bytes_eq, chars, IsUtf8}
 use Rattle.std.specs.Vec.{vec_len, vec_capacity}
 use Rattle.std.proofs.lemmas.Bool.{cases_Bool, cases_eq, cond-true, cond-false, true≢false, and_parts, and_from, or_left, or_right, or_cases, not-true, eq-eqb, eqb-true, eqb-false, ne_eqb, false_from_ne_true}
-use Rattle.std.proofs.lemmas.Option.{none-some, same_Some, slice_get_past, cond_some}
+use Rattle.std.proofs.lemmas.Option.{none-some, same_Some, slice_get_past}
 use Rattle.std.proofs.lemmas.List.Folds.{list_any-append}
 use Rattle.std.proofs.lemmas.Slice.Eq.{bytes_eq-Decides}
 use Rattle.std.proofs.lemmas.Str.{encodes-chars}
 use Rattle.lp_values.specs.declared.id.ObjId.{ObjId}
-use Rattle.lp_values.specs.declared.id.ProgId.{ProgId}
-use Rattle.lp_objects.specs.declared.fault.ObjectFault.{ObjectFault}
 use Rattle.lp_objects.specs.declared.fault.ObjectFault.TheVariants.{NameTaken, TooMany}
 use Rattle.lp_objects.specs.declared.objects.Entry.{Entry}
 use Rattle.lp_objects.specs.declared.objects.Objects.{Objects}
-use Rattle.lp_objects.specs.Objects.{Named, HasDistinctNames, bears, dead, killed, killed_from, live_count, lives, max_live, may_add, named_from, object_at, object_named, with_object}
-use Rattle.lp_objects.specs.Stands.{Stands, died_in, ended_entry, is_among, is_dead, is_known, known_at, named}
+use Rattle.lp_objects.specs.Objects.{Named, HasDistinctNames, bears, dead, killed, killed_from, live_count, lives, max_live, may_add, object_at, object_named, with_object}
+use Rattle.lp_objects.specs.Stands.{Stands, died_in, ended_entry, is_among, is_dead, known_at, named}
 use Rattle.lp_objects.proofs.ListLemmas.{found, unborne, or_else, named_from-more, at_new, at_others, live_count-more, at_killed, length-killed, live_count-killed}
 
 -- a look-up by a number asks whether it is that number
@@ -121,7 +118,6 @@ pub record HasMore (t t' : Objects) (bs : List ℕ) (e : Entry) : Type 0 where
 
 module _ (t t' : Objects) (objects : List Named) (bs : List ℕ) (e : Entry) (utf8 : IsUtf8 bs) (st : Stands t objects) (may : may_add objects (chars bs) ≡ None)
     (named_so : string_bytes e.name ≡ bs) (live : e.is_live ≡ true) (more : HasMore t t' bs e) where
-
   x : Named
   x = named e
 
@@ -136,18 +132,18 @@ module _ (t t' : Objects) (objects : List Named) (bs : List ℕ) (e : Entry) (ut
 
   listed : (q : List ℕ) → IsUtf8 q → get_by_text t'.serials q ≡ object_named (objects ++ named e ∷ []) (chars q)
   listed q uq = more.serials q ∙ elim (cases_Bool (bytes_eq bs q)) [
-      | inl y ↦
-          let is : bs ≡ q = (bytes_eq-Decides bs q).0 y in
-          let none : object_named objects (chars q) ≡ None = subst (λ r. object_named objects (chars r) ≡ None) is unnamed in
-          let its : bears (chars q) (named e) ≡ true = bears_name (chars q) (named e) live (name_is ∙ ap chars is) in
-          let at : t.next ≡ 0 + length objects = st.next ∙ (omega arith) in
-          cond-true _ _ _ y ∙ ap (λ (k : ℕ). Some (let o : ObjId = record { 0 = k } in o)) at
-          ∙ sym (named_from-more (chars q) 0 objects (named e) ∙ ap (λ o. or_else o (cond (bears (chars q) (named e)) (Some (record { 0 = 0 + length objects })) None)) none ∙ cond-true _ _ _ its)
-      | inr n ↦
-          let others : bears (chars q) (named e) ≡ false = false_from_ne_true _ (λ b. true≢false (sym ((bytes_eq-Decides bs q).1 (same_text bs q utf8 uq (sym name_is ∙ same_name _ _ (and_parts _ _ b).1))) ∙ n)) in
-          cond-false _ _ _ n ∙ st.listed q uq
-          ∙ sym (named_from-more (chars q) 0 objects (named e) ∙ ap (or_else (object_named objects (chars q))) (cond-false _ _ _ others) ∙ or_none (object_named objects (chars q)))
-    ]
+    | inl y ↦
+        let is : bs ≡ q = (bytes_eq-Decides bs q).0 y in
+        let none : object_named objects (chars q) ≡ None = subst (λ r. object_named objects (chars r) ≡ None) is unnamed in
+        let its : bears (chars q) (named e) ≡ true = bears_name (chars q) (named e) live (name_is ∙ ap chars is) in
+        let at : t.next ≡ 0 + length objects = st.next ∙ (omega arith) in
+        cond-true _ _ _ y ∙ ap (λ (k : ℕ). Some (let o : ObjId = record { 0 = k } in o)) at
+        ∙ sym (named_from-more (chars q) 0 objects (named e) ∙ ap (λ o. or_else o (cond (bears (chars q) (named e)) (Some (record { 0 = 0 + length objects })) None)) none ∙ cond-true _ _ _ its)
+    | inr n ↦
+        let others : bears (chars q) (named e) ≡ false = false_from_ne_true _ (λ b. true≢false (sym ((bytes_eq-Decides bs q).1 (same_text bs q utf8 uq (sym name_is ∙ same_name _ _ (and_parts _ _ b).1))) ∙ n)) in
+        cond-false _ _ _ n ∙ st.listed q uq
+        ∙ sym (named_from-more (chars q) 0 objects (named e) ∙ ap (or_else (object_named objects (chars q))) (cond-false _ _ _ others) ∙ or_none (object_named objects (chars q)))
+  ]
     where
       or_none : (o : Option ObjId) → or_else o None ≡ o
       or_none None = refl
@@ -155,16 +151,16 @@ module _ (t t' : Objects) (objects : List Named) (bs : List ℕ) (e : Entry) (ut
 
   known : (n : ℕ) → option_map named (get nat_cmp t'.entries n) ≡ known_at t' (objects ++ named e ∷ []) n
   known n = ap (option_map named) (more.entries n) ∙ elim (cases_eq n (length objects)) [
-      | inl is ↦
-          let there : object_at (objects ++ named e ∷ []) n ≡ Some (named e) = subst (λ k. object_at (objects ++ named e ∷ []) k ≡ Some (named e)) (sym is) (at_new objects (named e)) in
-          ap (option_map named) (cond-true _ _ _ (eq-eqb t.next n (st.next ∙ sym is)))
-          ∙ sym (cond-true _ _ _ (or_left _ _ (ap lives there ∙ live)) ∙ there)
-      | inr apart ↦
-          let there : object_at (objects ++ named e ∷ []) n ≡ object_at objects n = at_others objects (named e) n apart in
-          ap (option_map named) (cond-false _ _ _ (ne_eqb t.next n (λ k. apart (sym k ∙ st.next))))
-          ∙ st.known n
-          ∙ sym (rw (there, more.died) refl)
-    ]
+    | inl is ↦
+        let there : object_at (objects ++ named e ∷ []) n ≡ Some (named e) = subst (λ k. object_at (objects ++ named e ∷ []) k ≡ Some (named e)) (sym is) (at_new objects (named e)) in
+        ap (option_map named) (cond-true _ _ _ (eq-eqb t.next n (st.next ∙ sym is)))
+        ∙ sym (cond-true _ _ _ (or_left _ _ (ap lives there ∙ live)) ∙ there)
+    | inr apart ↦
+        let there : object_at (objects ++ named e ∷ []) n ≡ object_at objects n = at_others objects (named e) n apart in
+        ap (option_map named) (cond-false _ _ _ (ne_eqb t.next n (λ k. apart (sym k ∙ st.next))))
+        ∙ st.known n
+        ∙ sym (rw (there, more.died) refl)
+  ]
 
   ended : (n : ℕ) → is_among n (died_in t') ≡ true → is_dead (object_at (objects ++ named e ∷ []) n) ≡ true
   ended n among =
@@ -178,21 +174,21 @@ module _ (t t' : Objects) (objects : List Named) (bs : List ℕ) (e : Entry) (ut
 
   where_it_is : (n : ℕ) (y : Named) → object_at (objects ++ named e ∷ []) n ≡ Some y → ((n ≡ length objects) × (named e ≡ y)) ⊎ (object_at objects n ≡ Some y)
   where_it_is n y there = elim (cases_eq n (length objects)) [
-      | inl is ↦ inl (is, same_Some _ _ (sym (at_new objects (named e)) ∙ subst (λ k. object_at (objects ++ named e ∷ []) k ≡ Some y) is there))
-      | inr apart ↦ inr (sym (at_others objects (named e) n apart) ∙ there)
-    ]
+    | inl is ↦ inl (is, same_Some _ _ (sym (at_new objects (named e)) ∙ subst (λ k. object_at (objects ++ named e ∷ []) k ≡ Some y) is there))
+    | inr apart ↦ inr (sym (at_others objects (named e) n apart) ∙ there)
+  ]
 
   distinct : HasDistinctNames (objects ++ named e ∷ [])
   distinct n m y z there_y there_z live_y live_z same = elim (where_it_is n y there_y) [
-      | inl a ↦ elim (where_it_is m z there_z) [
-          | inl b ↦ a.0 ∙ sym b.0
-          | inr b ↦ absurd (unlike m z b live_z (sym same ∙ ap (λ (v : Named). v.name) (sym a.1)))
-        ]
-      | inr a ↦ elim (where_it_is m z there_z) [
-          | inl b ↦ absurd (unlike n y a live_y (same ∙ ap (λ (v : Named). v.name) (sym b.1)))
-          | inr b ↦ st.distinct n m y z a b live_y live_z same
-        ]
+    | inl a ↦ elim (where_it_is m z there_z) [
+      | inl b ↦ a.0 ∙ sym b.0
+      | inr b ↦ absurd (unlike m z b live_z (sym same ∙ ap (λ (v : Named). v.name) (sym a.1)))
     ]
+    | inr a ↦ elim (where_it_is m z there_z) [
+      | inl b ↦ absurd (unlike n y a live_y (same ∙ ap (λ (v : Named). v.name) (sym b.1)))
+      | inr b ↦ st.distinct n m y z a b live_y live_z same
+    ]
+  ]
 
   pub stands_more : Stands t' (objects ++ named e ∷ [])
   stands_more =
@@ -254,18 +250,17 @@ its_name t objects id e st is_there live = found_by_name objects id.0 (named e) 
 
 module _ (t t' : Objects) (objects : List Named) (id : ObjId) (e : Entry) (utf8 : IsUtf8 (string_bytes e.name)) (st : Stands t objects)
     (is_there : get nat_cmp t.entries id.0 ≡ Some e) (live : e.is_live ≡ true) (less : HasLess t t' (string_bytes e.name) id) where
-
   there : object_at objects id.0 ≡ Some (named e)
   there = entry_there t objects id.0 e st is_there
 
   -- a live object of the new list was live, and is another one
   was : (n : ℕ) (y : Named) → object_at (killed_from id.0 objects) n ≡ Some y → y.is_live ≡ true → (object_at objects n ≡ Some y) × (nat_eq id.0 n ≡ false)
   was n y is lives_so = elim (cases_Bool (nat_eq id.0 n)) [
-      | inl b ↦
-          let dead_one : Some (dead (named e)) ≡ Some y = (sym (ap (option_map dead) (subst (λ k. object_at objects k ≡ Some (named e)) (eqb-true _ _ b) there)) ∙ sym (cond-true _ _ _ b) ∙ sym (at_killed id.0 objects n) ∙ is) in
-          absurd (true≢false (sym lives_so ∙ ap (λ (v : Named). v.is_live) (sym (same_Some _ _ dead_one))))
-      | inr b ↦ (sym (cond-false _ _ _ b) ∙ sym (at_killed id.0 objects n) ∙ is, b)
-    ]
+    | inl b ↦
+        let dead_one : Some (dead (named e)) ≡ Some y = (sym (ap (option_map dead) (subst (λ k. object_at objects k ≡ Some (named e)) (eqb-true _ _ b) there)) ∙ sym (cond-true _ _ _ b) ∙ sym (at_killed id.0 objects n) ∙ is) in
+        absurd (true≢false (sym lives_so ∙ ap (λ (v : Named). v.is_live) (sym (same_Some _ _ dead_one))))
+    | inr b ↦ (sym (cond-false _ _ _ b) ∙ sym (at_killed id.0 objects n) ∙ is, b)
+  ]
 
   -- what is at another place stays
   others_stay : (n : ℕ) → nat_eq id.0 n ≡ false → object_at (killed_from id.0 objects) n ≡ object_at objects n
@@ -281,9 +276,10 @@ module _ (t t' : Objects) (objects : List Named) (id : ObjId) (e : Entry) (utf8 
       let parts = and_parts _ _ f.bearing in
       let before = was f.place f.object f.there parts.0 in
       let name_is : f.object.name ≡ q = same_name _ _ parts.1 in
-      let at : (f.place ≡ r.0) = (let s : r.0 ≡ 0 + f.place = f.serial in omega arith) in
-      (sym (ap (object_named objects) name_is) ∙ found_by_name objects f.place f.object st.distinct before.0 parts.0 ∙ ap (λ (k : ℕ). Some (let o : ObjId = record { 0 = k } in o)) at,
-       λ same. absurd (true≢false (sym (eq-eqb id.0 f.place (st.distinct id.0 f.place (named e) f.object there before.0 live parts.0 (sym same ∙ sym name_is))) ∙ before.1)))
+      let at : (f.place ≡ r.0) = (let s : r.0 ≡ 0 + f.place = f.serial in omega arith) in (
+        sym (ap (object_named objects) name_is) ∙ found_by_name objects f.place f.object st.distinct before.0 parts.0 ∙ ap (λ (k : ℕ). Some (let o : ObjId = record { 0 = k } in o)) at,
+        λ same. absurd (true≢false (sym (eq-eqb id.0 f.place (st.distinct id.0 f.place (named e) f.object there before.0 live parts.0 (sym same ∙ sym name_is))) ∙ before.1)),
+      )
 
   -- a name that is not that of the dead and is borne by nobody now was borne by nobody
   none_before : (q : List ℕ) → object_named (killed_from id.0 objects) q ≡ None → (q ≡ (named e).name → ⊥) → object_named objects q ≡ None
@@ -307,22 +303,22 @@ module _ (t t' : Objects) (objects : List Named) (id : ObjId) (e : Entry) (utf8 
             let f = found_before (chars q) r is in
             cond-false _ _ _ (false_from_ne_true _ (λ b. f.1 (ap chars (sym ((bytes_eq-Decides (string_bytes e.name) q).0 b))))) ∙ f.0
         | None ↦ λ is. elim (cases_Bool (bytes_eq (string_bytes e.name) q)) [
-            | inl b ↦ cond-true _ _ _ b
-            | inr b ↦ cond-false _ _ _ b ∙ none_before (chars q) is (λ same. true≢false (sym ((bytes_eq-Decides (string_bytes e.name) q).1 (same_text (string_bytes e.name) q utf8 uq (sym same))) ∙ b))
-          ]
+          | inl b ↦ cond-true _ _ _ b
+          | inr b ↦ cond-false _ _ _ b ∙ none_before (chars q) is (λ same. true≢false (sym ((bytes_eq-Decides (string_bytes e.name) q).1 (same_text (string_bytes e.name) q utf8 uq (sym same))) ∙ b))
+        ]
       ] refl
 
   known_less : (n : ℕ) → option_map named (get nat_cmp t'.entries n) ≡ known_at t' (killed_from id.0 objects) n
   known_less n = ap (option_map named) (less.entries n) ∙ elim (cases_Bool (nat_eq id.0 n)) [
-      | inl b ↦
-          let at : get nat_cmp t.entries n ≡ Some e = subst (λ k. get nat_cmp t.entries k ≡ Some e) (eqb-true _ _ b) is_there in
-          let among : is_among n (died_in t') ≡ true = rw less.died (among_more n (died_in t) id ∙ or_right _ _ b) in
-          ap (option_map named) (cond-true _ _ _ b ∙ ap (option_map ended_entry) at)
-          ∙ sym (cond-true _ _ _ (or_right _ _ among) ∙ itself_dies n b)
-      | inr b ↦
-          let among : is_among n (died_in t') ≡ is_among n (died_in t) = rw less.died (among_more n (died_in t) id ∙ ap (λ v. is_among n (died_in t) || v) b ∙ or_false (is_among n (died_in t))) in
-          ap (option_map named) (cond-false _ _ _ b) ∙ st.known n ∙ sym (rw (others_stay n b, among) refl)
-    ]
+    | inl b ↦
+        let at : get nat_cmp t.entries n ≡ Some e = subst (λ k. get nat_cmp t.entries k ≡ Some e) (eqb-true _ _ b) is_there in
+        let among : is_among n (died_in t') ≡ true = rw less.died (among_more n (died_in t) id ∙ or_right _ _ b) in
+        ap (option_map named) (cond-true _ _ _ b ∙ ap (option_map ended_entry) at)
+        ∙ sym (cond-true _ _ _ (or_right _ _ among) ∙ itself_dies n b)
+    | inr b ↦
+        let among : is_among n (died_in t') ≡ is_among n (died_in t) = rw less.died (among_more n (died_in t) id ∙ ap (λ v. is_among n (died_in t) || v) b ∙ or_false (is_among n (died_in t))) in
+        ap (option_map named) (cond-false _ _ _ b) ∙ st.known n ∙ sym (rw (others_stay n b, among) refl)
+  ]
     where
       or_false : (b : Bool) → (b || false) ≡ b
       or_false true = refl
@@ -330,11 +326,11 @@ module _ (t t' : Objects) (objects : List Named) (id : ObjId) (e : Entry) (utf8 
 
   ended_less : (n : ℕ) → is_among n (died_in t') ≡ true → is_dead (object_at (killed_from id.0 objects) n) ≡ true
   ended_less n among = elim (cases_Bool (nat_eq id.0 n)) [
-      | inl b ↦ ap is_dead (itself_dies n b)
-      | inr b ↦
-          let before : is_among n (died_in t) ≡ true = elim (or_cases _ _ (sym (among_more n (died_in t) id) ∙ (rw less.died at among))) [ inl y ↦ y | inr y ↦ absurd (true≢false (sym y ∙ b)) ] in
-          ap is_dead (others_stay n b) ∙ st.ended n before
-    ]
+    | inl b ↦ ap is_dead (itself_dies n b)
+    | inr b ↦
+        let before : is_among n (died_in t) ≡ true = elim (or_cases _ _ (sym (among_more n (died_in t) id) ∙ (rw less.died at among))) [ inl y ↦ y | inr y ↦ absurd (true≢false (sym y ∙ b)) ] in
+        ap is_dead (others_stay n b) ∙ st.ended n before
+  ]
 
   distinct_less : HasDistinctNames (killed_from id.0 objects)
   distinct_less n m y z there_y there_z live_y live_z same = st.distinct n m y z (was n y there_y live_y).0 (was m z there_z live_z).0 live_y live_z same
@@ -355,6 +351,7 @@ module _ (t t' : Objects) (objects : List Named) (id : ObjId) (e : Entry) (utf8 
     where
       one_less : (a b d f : ℕ) → a + 1 ≡ b → d + 1 ≡ f → f ≡ b → d ≡ a
       one_less a b d f e g h = omega arith
+
       below : (a b d : ℕ) → a + 1 ≡ b → b ≤ d → a ≤ d
       below a b d e le = omega arith
 
@@ -386,13 +383,15 @@ stands_forgotten t t' objects st f = record {
   where
     fewer : (a b d a' b' d' : ℕ) → a + b ≤ d → a' ≡ a → b' ≡ 0 → d' ≡ d → a' + b' ≤ d'
     fewer a b d a' b' d' le e f g = omega arith
+
     or_false : (b : Bool) → (b || false) ≡ b
     or_false true = refl
     or_false false = refl
+
     known_then : (n : ℕ) → option_map named (get nat_cmp t'.entries n) ≡ known_at t' objects n
     known_then n = ap (option_map named) (f.entries n) ∙ elim (cases_Bool (is_among n (died_in t))) [
-        | inl b ↦
-            let off : lives (object_at objects n) ≡ false = dead_not_live _ (st.ended n b) in
-            ap (option_map named) (cond-true _ _ _ b) ∙ sym (rw (f.died, off) refl)
-        | inr b ↦ ap (option_map named) (cond-false _ _ _ b) ∙ st.known n ∙ rw (f.died, b) refl
-      ]
+      | inl b ↦
+          let off : lives (object_at objects n) ≡ false = dead_not_live _ (st.ended n b) in
+          ap (option_map named) (cond-true _ _ _ b) ∙ sym (rw (f.died, off) refl)
+      | inr b ↦ ap (option_map named) (cond-false _ _ _ b) ∙ st.known n ∙ rw (f.died, b) refl
+    ]

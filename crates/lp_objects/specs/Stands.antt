@@ -1,5 +1,5 @@
 -- The table of objects stands for a list of all that were ever made.
-use Rattle.std.specs.Prelude.{◌≡◌, ℕ, ◌+◌, ◌≤◌, ◌==◌, List, length, Bool, true, false, not, ◌||◌, Option, Some, None, slice_get, nat_eq, if◌then◌else◌}
+use Rattle.std.specs.Prelude.{◌≡◌, ℕ, ◌+◌, ◌≤◌, List, length, Bool, true, false, not, ◌||◌, Option, Some, None, nat_eq, if◌then◌else◌}
 use Rattle.std.specs.Option.{option_map}
 use Rattle.std.specs.Ordering.{nat_cmp}
 use Rattle.std.specs.BTreeMap.{get, get_by_text, btree_map_len}
@@ -13,7 +13,7 @@ use Rattle.lp_objects.specs.declared.fault.ObjectFault.TheVariants.{NoMemory}
 use Rattle.lp_values.specs.declared.id.ProgId.{ProgId}
 use Rattle.lp_objects.specs.declared.objects.Entry.{Entry}
 use Rattle.lp_objects.specs.declared.objects.Objects.{Objects}
-use Rattle.lp_objects.specs.Objects.{Named, HasDistinctNames, is_live, lives, live_count, max_live, may_add, object_at, object_named, with_object}
+use Rattle.lp_objects.specs.Objects.{Named, HasDistinctNames, lives, live_count, max_live, may_add, object_at, object_named, with_object}
 
 -- the objects that died and are not forgotten, in the order of their deaths
 abbrev pub died_in : Objects → List ObjId

@@ -1,4 +1,4 @@
-use Rattle.std.proofs.Common.{◌≡◌, ℕ, List, None, cond, take}
+use Rattle.std.proofs.Common.{◌≡◌, ℕ, None, cond, take}
 use Rattle.std.specs.Ordering.{nat_cmp}
 use Rattle.std.specs.BTreeMap.{get}
 use Rattle.lp_objects.specs.Stands.{is_among}

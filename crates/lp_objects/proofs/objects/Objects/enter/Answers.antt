@@ -1,4 +1,4 @@
-use Rattle.std.proofs.Common.{◌≡◌, ◌+◌, ◌≤◌, List, None, Some, cond, is_some, nat_eq, ℕ, if◌then◌else◌, bytes_eq, true, ap, sym, subst, refl, ◌∙◌, arith, string_bytes}
+use Rattle.std.proofs.Common.{◌≡◌, ◌+◌, ◌≤◌, List, None, Some, cond, is_some, ℕ, if◌then◌else◌, bytes_eq, true, ap, sym, subst, refl, ◌∙◌, arith, string_bytes}
 use Rattle.std.specs.Ordering.{nat_cmp}
 use Rattle.std.specs.BTreeMap.{get, get_by_text, btree_map_len, is_at}
 use Rattle.std.specs.Map.{lookup}
@@ -42,13 +42,13 @@ returns-clause-refused c = λ objects st may.
     let many : c.len.result ≡ btree_map_len c.args.self.now.serials = c.len.ensures.len in
     let fits : vec_len c.reserve.new.self + (c.len.result + 1) ≤ vec_capacity c.reserve.new.self = c.in_ok-reserve.ensures.ok in
     let put : (q : List ℕ) → get_by_text c.insert.new.self q ≡ cond (bytes_eq c.args.name.now q) (Some (record { 0 = c.args.self.now.next })) (get_by_text c.args.self.now.serials q) =
-      λ q. subst (λ bs. get_by_text c.insert.new.self q ≡ cond (bytes_eq bs q) (Some (record { 0 = c.args.self.now.next })) (get_by_text c.args.self.now.serials q)) key_is (btree_map_updates_text (string_bytes c.in_ok-key.key) c.args.self.now.serials c.insert.new.self _ c.in_ok-insert.ensures.updates q) in
+    λ q. subst (λ bs. get_by_text c.insert.new.self q ≡ cond (bytes_eq bs q) (Some (record { 0 = c.args.self.now.next })) (get_by_text c.args.self.now.serials q)) key_is (btree_map_updates_text (string_bytes c.in_ok-key.key) c.args.self.now.serials c.insert.new.self _ c.in_ok-insert.ensures.updates q) in
     let was : c.remove.result ≡ Some (record { 0 = c.args.self.now.next }) = c.remove.ensures.value ∙ put c.args.name.now ∙ cond-true _ _ _ ((bytes_eq-Decides c.args.name.now c.args.name.now).1 refl) in
     let left : btree_map_len c.remove.new.self + 1 ≡ btree_map_len c.insert.new.self = ap (λ o. btree_map_len c.remove.new.self + (if is_some o then 1 else 0)) (sym was) ∙ c.remove.ensures.len in
     stands_as c.args.self.now _ objects (record {
       next = refl;
       serials = λ q. btree_map_updates_text c.args.name.now c.insert.new.self c.remove.new.self None c.remove.ensures.updates q ∙ ap (cond (bytes_eq c.args.name.now q) None) (put q)
-        ∙ undone (bytes_eq c.args.name.now q) _ (get_by_text c.args.self.now.serials q) (λ b. subst (λ r. get_by_text c.args.self.now.serials r ≡ None) ((bytes_eq-Decides c.args.name.now q).0 b) (st.listed c.args.name.now c.utf8.name ∙ unnamed));
+          ∙ undone (bytes_eq c.args.name.now q) _ (get_by_text c.args.self.now.serials q) (λ b. subst (λ r. get_by_text c.args.self.now.serials r ≡ None) ((bytes_eq-Decides c.args.name.now q).0 b) (st.listed c.args.name.now c.utf8.name ∙ unnamed));
       entries = λ n. ap (λ es. lookup (is_at (nat_cmp n)) es) c.in-Err.ensures.err;
       died = c.reserve.ensures.items;
       count = omega arith;

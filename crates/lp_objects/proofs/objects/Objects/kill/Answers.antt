@@ -1,6 +1,5 @@
-use Rattle.std.proofs.Common.{◌≡◌, ◌+◌, ◌≤◌, ◌<◌, ◌++◌, ◌∷◌, [], List, None, Some, cond, is_some, nat_eq, ℕ, if◌then◌else◌, bytes_eq, true, ap, sym, subst, refl, ◌∙◌, arith, string_bytes, is_ok}
-use Rattle.std.specs.Ordering.{nat_cmp}
-use Rattle.std.specs.BTreeMap.{get, get_by_text, btree_map_len, is_at}
+use Rattle.std.proofs.Common.{◌≡◌, ◌+◌, ◌≤◌, ◌++◌, ◌∷◌, [], List, None, Some, cond, is_some, if◌then◌else◌, bytes_eq, true, ap, sym, subst, refl, ◌∙◌, arith, string_bytes, is_ok}
+use Rattle.std.specs.BTreeMap.{get_by_text, btree_map_len}
 use Rattle.std.specs.Str.{IsUtf8, chars}
 use Rattle.std.specs.Vec.{vec_len, vec_capacity}
 use Rattle.std.proofs.lemmas.Map.Text.{btree_map_updates_text}
@@ -14,8 +13,8 @@ fewer : (c : goal.After-push) (objects : List Named) → Stands c.args.self.now 
 fewer c objects st =
     let name_is : c.as_str.result.now ≡ string_bytes c.in-Some.entry.now.name = c.as_str.ensures.value in
     let was : c.remove.result ≡ Some (record { 0 = c.args.id.0 }) =
-      c.remove.ensures.value ∙ st.listed c.as_str.result.now c.as_str.utf8
-      ∙ ap (λ bs. object_named objects (chars bs)) name_is ∙ its_name c.args.self.now objects c.args.id c.in-Some.entry.now st (sym c.in-Some.ensures.value) c.if-entry.true in
+    c.remove.ensures.value ∙ st.listed c.as_str.result.now c.as_str.utf8
+    ∙ ap (λ bs. object_named objects (chars bs)) name_is ∙ its_name c.args.self.now objects c.args.id c.in-Some.entry.now st (sym c.in-Some.ensures.value) c.if-entry.true in
     ap (λ o. btree_map_len c.remove.new.self + (if is_some o then 1 else 0)) (sym was) ∙ c.remove.ensures.len
 
 -- there is room for one more among the dead
