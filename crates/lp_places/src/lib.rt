@@ -2,5 +2,5 @@
 #![tactic(auto)]
 
 pub mod fault;
-pub mod links;
+mod links;
 pub mod places;
