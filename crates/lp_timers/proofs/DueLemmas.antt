@@ -3,7 +3,7 @@ use Rattle.std.proofs.Common.{◌≡◌, ℕ, ◌+◌, ◌<◌, ◌≤◌, Bool,
 use Rattle.std.specs.Prelude.{fold}
 use Rattle.std.specs.declared.cmp.Ordering.{Ordering}
 use Rattle.std.specs.declared.cmp.Ordering.TheVariants.{Less, Equal, Greater}
-use Rattle.std.specs.Ordering.{nat_cmp, is_eq, ordering_then}
+use Rattle.std.specs.Ordering.{nat_cmp, is_eq, is_le, ordering_then}
 use Rattle.std.specs.Cmp.{IsTotalOrder, tied_itself}
 use Rattle.std.specs.List.{filter, list_any, AllByRecursion}
 use Rattle.std.specs.List.Sorted.{IsStrictlySortedBy}
@@ -19,9 +19,10 @@ use Rattle.std.specs.Option.{option_map}
 use Rattle.std.specs.Cmp.Lexicographic.{pointwise}
 use Rattle.std.proofs.lemmas.List.Kept.{IsStrictlySortedBy-filter}
 use Rattle.lp_timers.specs.Spots.{spot_cmp, is_among, in_group, head_spot, first_spot}
-use Rattle.lp_timers.specs.Timers.{CallOut, placed_by_due, by_due, first_call_out, earliest}
+use Rattle.lp_timers.specs.Timers.{CallOut, placed_by_due, by_due, first_call_out, earliest, due_at}
+use Rattle.lp_timers.specs.Index.{is_due}
 use Rattle.lp_timers.specs.Waiting.{entry_call, call_from, spot_in, numbered, earliest_of}
-use Rattle.lp_timers.specs.Indexed.{kept_at, passes, at_object, at_function}
+use Rattle.lp_timers.specs.Indexed.{kept_at, passes, at_all, at_object, at_function}
 use Rattle.std.specs.Option.{IfSome}
 use Rattle.lp_timers.proofs.IndexLemmas.{same_spot}
 use Rattle.lp_timers.proofs.KeptLemmas.{found_numbered}
@@ -119,7 +120,7 @@ in_order_from g n acc [] s h r = s
 in_order_from g n acc (c ∷ cs) s h r =
     let higher : AllByRecursion (λ d. d.number < c.number) acc = all_higher n c.number acc r.0 h in
     in_order_from g (c.number + 1) (placed_by_due c acc) cs (placed_in_order g c acc higher s)
-      (all_numbers (λ d. d.number < c.number + 1) c acc (omega arith) (all_higher c.number (c.number + 1) acc (omega arith) higher)) r.1
+    (all_numbers (λ d. d.number < c.number + 1) c acc (omega arith) (all_higher c.number (c.number + 1) acc (omega arith) higher)) r.1
 
 none_in_order : (g : ℕ) → AreInOrder g []
 unfolding IsStrictlySortedBy
@@ -221,6 +222,7 @@ rising_from n (e ∷ es) h s = (h.0, rising_from (e.0 + 1) es (above e.0 (keys_o
   where
     less_is : (a b : ℕ) → nat_cmp a b ≡ Less → a + 1 ≤ b
     less_is a b h = grind (arith, nat_tests)
+
     above : (m : ℕ) (ks : List ℕ) → AllByRecursion (λ k. nat_cmp m k ≡ Less) ks → AllByRecursion (λ k. m + 1 ≤ k) ks
     above m [] h = tt
     above m (k ∷ ks) h = (less_is m k h.0, above m ks h.1)
@@ -245,13 +247,13 @@ rising_filter P n (c ∷ cs) h = step (P c) (rising_filter P (c.number + 1) cs h
 pub by_due_is : (g : ℕ) (P : CallOut → Bool) (ks : List Spot) (es : List (ℕ × Call)) → IsStrictlySortedBy nat_cmp (keys_of es) → IsStrictlySortedBy spot_cmp ks → ((s : Spot) → is_among ks s ≡ passes (test_at g P s) (kept_at es s.number)) → ks ≡ map (spot_in g) (by_due (filter P (map entry_call es)))
 by_due_is g P ks es rising sorted h =
     same_spots ks (map (spot_in g) (by_due (filter P (map entry_call es)))) sorted
-      (by_due_in_order g (filter P (map entry_call es)) (rising_filter P 0 (map entry_call es) (rising_from 0 es (from_zero (keys_of es)) rising)))
-      (λ s. h s
-        ∙ sym (at_number_is g P s es rising)
-        ∙ sym (any_map entry_call (λ c. P c && is_eq (spot_cmp s (spot_in g c))) es)
-        ∙ sym (any_filter (λ c. is_eq (spot_cmp s (spot_in g c))) P (map entry_call es))
-        ∙ sym (any_by_due (λ c. is_eq (spot_cmp s (spot_in g c))) (filter P (map entry_call es)))
-        ∙ sym (any_map (spot_in g) (λ x. is_eq (spot_cmp s x)) (by_due (filter P (map entry_call es)))))
+    (by_due_in_order g (filter P (map entry_call es)) (rising_filter P 0 (map entry_call es) (rising_from 0 es (from_zero (keys_of es)) rising)))
+    (λ s. h s
+    ∙ sym (at_number_is g P s es rising)
+    ∙ sym (any_map entry_call (λ c. P c && is_eq (spot_cmp s (spot_in g c))) es)
+    ∙ sym (any_filter (λ c. is_eq (spot_cmp s (spot_in g c))) P (map entry_call es))
+    ∙ sym (any_by_due (λ c. is_eq (spot_cmp s (spot_in g c))) (filter P (map entry_call es)))
+    ∙ sym (any_map (spot_in g) (λ x. is_eq (spot_cmp s x)) (by_due (filter P (map entry_call es)))))
 
 -- ---- one group of spots
 
@@ -294,14 +296,14 @@ head_of g (c ∷ cs) = refl
 pub first_of_object : (o : ObjId) (ks : List Spot) (es : List (ℕ × Call)) → IsStrictlySortedBy nat_cmp (keys_of es) → IsStrictlySortedBy spot_cmp ks → ((s : Spot) → is_among ks s ≡ passes (at_object s) (kept_at es s.number)) → first_spot o.0 ks ≡ option_map (spot_in o.0) (earliest_of (map entry_call es) o)
 first_of_object o ks es rising sorted h =
     ap head_spot (by_due_is o.0 (λ c. nat_eq c.object.0 o.0) (filter (in_group o.0) ks) es rising (IsStrictlySortedBy-filter spot_cmp (in_group o.0) ks sorted)
-      (λ s. among_group o.0 s ks ∙ ap (λ b. nat_eq s.group o.0 && b) (h s) ∙ only (nat_eq s.group o.0) (at_object s) (test_at o.0 (λ c. nat_eq c.object.0 o.0) s) (kept_at es s.number) (λ c. same_group o.0 c.ob.0 s.group c.due s.due)))
+    (λ s. among_group o.0 s ks ∙ ap (λ b. nat_eq s.group o.0 && b) (h s) ∙ only (nat_eq s.group o.0) (at_object s) (test_at o.0 (λ c. nat_eq c.object.0 o.0) s) (kept_at es s.number) (λ c. same_group o.0 c.ob.0 s.group c.due s.due)))
     ∙ head_of o.0 (by_due (filter (λ c. nat_eq c.object.0 o.0) (map entry_call es)))
 
 -- the same of a function of it
 pub first_of_function : (o : ObjId) (fun : List ℕ) (ks : List Spot) (es : List (ℕ × Call)) → IsStrictlySortedBy nat_cmp (keys_of es) → IsStrictlySortedBy spot_cmp ks → ((s : Spot) → is_among ks s ≡ passes (at_function fun s) (kept_at es s.number)) → first_spot o.0 ks ≡ option_map (spot_in o.0) (earliest (map entry_call es) o fun)
 first_of_function o fun ks es rising sorted h =
     ap head_spot (by_due_is o.0 (λ c. nat_eq c.object.0 o.0 && pointwise nat_eq c.function fun) (filter (in_group o.0) ks) es rising (IsStrictlySortedBy-filter spot_cmp (in_group o.0) ks sorted)
-      (λ s. among_group o.0 s ks ∙ ap (λ b. nat_eq s.group o.0 && b) (h s) ∙ only (nat_eq s.group o.0) (at_function fun s) (test_at o.0 (λ c. nat_eq c.object.0 o.0 && pointwise nat_eq c.function fun) s) (kept_at es s.number) (λ c. same_group_with (pointwise nat_eq c.fun fun) o.0 c.ob.0 s.group c.due s.due)))
+    (λ s. among_group o.0 s ks ∙ ap (λ b. nat_eq s.group o.0 && b) (h s) ∙ only (nat_eq s.group o.0) (at_function fun s) (test_at o.0 (λ c. nat_eq c.object.0 o.0 && pointwise nat_eq c.function fun) s) (kept_at es s.number) (λ c. same_group_with (pointwise nat_eq c.fun fun) o.0 c.ob.0 s.group c.due s.due)))
     ∙ head_of o.0 (by_due (filter (λ c. nat_eq c.object.0 o.0 && pointwise nat_eq c.function fun) (map entry_call es)))
 
 -- ---- the call-out with a number
@@ -334,10 +336,48 @@ all_found es (f ∷ fs) h = (sym (found_numbered es f.0) ∙ ap (option_map (cal
 pub first_is_numbered : (P : CallOut → Bool) (es : List (ℕ × Call)) → AllByRecursion (λ e. kept_at es e.0 ≡ Some e.1) es → (x : CallOut) → first_call_out (by_due (filter P (map entry_call es))) ≡ Some x → numbered (map entry_call es) x.number ≡ Some x
 first_is_numbered P es h x e =
     first_has (λ c. numbered (map entry_call es) c.number ≡ Some c) (by_due (filter P (map entry_call es))) x
-      (all_by_due (λ c. numbered (map entry_call es) c.number ≡ Some c) [] (filter P (map entry_call es)) tt
-        (all_filtered (λ c. numbered (map entry_call es) c.number ≡ Some c) P (map entry_call es) (all_as_mapped (λ c. numbered (map entry_call es) c.number ≡ Some c) es (all_found es es h))))
-      e
+    (all_by_due (λ c. numbered (map entry_call es) c.number ≡ Some c) [] (filter P (map entry_call es)) tt
+    (all_filtered (λ c. numbered (map entry_call es) c.number ≡ Some c) P (map entry_call es) (all_as_mapped (λ c. numbered (map entry_call es) c.number ≡ Some c) es (all_found es es h))))
+    e
 
 pub by_number : (g : ℕ) (cs : List CallOut) (o : Option CallOut) (r : Option Spot) → r ≡ option_map (spot_in g) o → ((x : CallOut) → o ≡ Some x → numbered cs x.number ≡ Some x) → IfSome r (λ s. numbered cs s.number ≡ o)
 by_number g cs None r e h = subst (λ q. IfSome q (λ s. numbered cs s.number ≡ None)) (sym e) tt
 by_number g cs (Some x) r e h = subst (λ q. IfSome q (λ s. numbered cs s.number ≡ Some x)) (sym e) (h x refl)
+
+-- ---- what is due
+
+due_of : (g d n t next c : ℕ) → n < next → ((is_le (ordering_then (nat_cmp 0 g) (ordering_then (nat_cmp 0 d) (nat_cmp 0 n))) && not (is_le (ordering_then (nat_cmp 0 g) (ordering_then (nat_cmp t d) (nat_cmp next n))))) && (nat_eq g 0 && nat_eq c d)) ≡ (nat_le c t && (nat_eq 0 g && nat_eq c d))
+due_of g d n t next c lt = grind (arith, nat_tests)
+
+kept_below : (es : List (ℕ × Call)) (next m : ℕ) (c : Call) → AllByRecursion (λ e. e.0 < next) es → kept_at es m ≡ Some c → m < next
+kept_below [] next m c h k = absurd (cc)
+kept_below (e ∷ es) next m c h k = step (is_eq (nat_cmp m e.0)) refl k (kept_below es next m c h.1)
+  where
+    step : (b : Bool) → is_eq (nat_cmp m e.0) ≡ b → cond b (Some e.1) (kept_at es m) ≡ Some c → (kept_at es m ≡ Some c → m < next) → m < next
+    step true r k more = let same : m ≡ e.0 = is_number m e.0 r in let lt : e.0 < next = h.0 in omega arith
+    step false r k more = more k
+
+due_test : (t next : ℕ) (s : Spot) (o : Option Call) → ((c : Call) → o ≡ Some c → s.number < next) → (is_due t next s && passes (at_all s) o) ≡ passes (test_at 0 (λ c. nat_le c.due t) s) o
+due_test t next s None h = and_false (is_due t next s)
+due_test t next s (Some c) h = due_of s.group s.due s.number t next c.due (h c refl)
+
+alike_spots : (p : Spot → Bool) (s x : Spot) → (p x && is_eq (spot_cmp s x)) ≡ (p s && is_eq (spot_cmp s x))
+alike_spots p s x = step (is_eq (spot_cmp s x)) refl
+  where
+    step : (b : Bool) → is_eq (spot_cmp s x) ≡ b → (p x && b) ≡ (p s && b)
+    step true r = ap (λ y. p y && true) (sym (same_spot s x r))
+    step false r = and_false (p x) ∙ sym (and_false (p s))
+
+among_filtered : (p : Spot → Bool) (s : Spot) (ks : List Spot) → is_among (filter p ks) s ≡ (p s && is_among ks s)
+among_filtered p s ks = any_filter (λ x. is_eq (spot_cmp s x)) p ks ∙ any_alike _ _ (alike_spots p s) ks ∙ any_both (p s) (λ x. is_eq (spot_cmp s x)) ks
+
+map_twice : (cs : List CallOut) → map (λ s. s.number) (map (spot_in 0) cs) ≡ map (λ c. c.number) cs
+map_twice [] = refl
+map_twice (c ∷ cs) = ap (λ ns. c.number ∷ ns) (map_twice cs)
+
+pub due_is : (t next : ℕ) (ks : List Spot) (es : List (ℕ × Call)) → IsStrictlySortedBy nat_cmp (keys_of es) → AllByRecursion (λ e. e.0 < next) es → IsStrictlySortedBy spot_cmp ks → ((s : Spot) → is_among ks s ≡ passes (at_all s) (kept_at es s.number))
+    → map (λ s. s.number) (filter (is_due t next) ks) ≡ map (λ c. c.number) (due_at t (map entry_call es))
+due_is t next ks es rising below sorted h =
+    ap (map (λ s. s.number)) (by_due_is 0 (λ c. nat_le c.due t) (filter (is_due t next) ks) es rising (IsStrictlySortedBy-filter spot_cmp (is_due t next) ks sorted)
+    (λ s. among_filtered (is_due t next) s ks ∙ ap (λ b. is_due t next s && b) (h s) ∙ due_test t next s (kept_at es s.number) (λ c k. kept_below es next s.number c below k)))
+    ∙ map_twice (by_due (filter (λ c. nat_le c.due t) (map entry_call es)))

@@ -59,7 +59,7 @@ module _ (group : ℕ) where
   first_is (e ∷ es) s =
       let tail = first_is es (sorted_tail spot_cmp e es s) in
       by_ranked (group < e.group) (group ≡ e.group) (e.group < group) (nat_cmp group e.group) (ranked group e.group _ refl)
-        (λ r lt. rw (from_test group e.group e.due e.number, nat_le_yes group e.group (omega arith), nat_eq_no e.group group (λ x. omega arith))
-          (sym (ap head_spot (none_past e es (sorted_head spot_cmp e es s) lt))))
-        (λ r same. rw (from_test group e.group e.due e.number, nat_le_yes group e.group (omega arith), nat_eq_yes e.group group (sym same)) refl)
-        (λ r gt. rw (from_test group e.group e.due e.number, nat_le_no group e.group gt, nat_eq_no e.group group (λ x. omega arith)) tail)
+      (λ r lt. rw (from_test group e.group e.due e.number, nat_le_yes group e.group (omega arith), nat_eq_no e.group group (λ x. omega arith))
+      (sym (ap head_spot (none_past e es (sorted_head spot_cmp e es s) lt))))
+      (λ r same. rw (from_test group e.group e.due e.number, nat_le_yes group e.group (omega arith), nat_eq_yes e.group group (sym same)) refl)
+      (λ r gt. rw (from_test group e.group e.due e.number, nat_le_no group e.group gt, nat_eq_no e.group group (λ x. omega arith)) tail)

@@ -2,6 +2,8 @@
 use Rattle.std.specs.Prelude.{◌≡◌, ℕ, List, Bool, true, false, cond, nat_eq, ◌&&◌}
 use Rattle.std.specs.Cmp.Lexicographic.{pointwise}
 use Rattle.std.specs.Ordering.{is_eq}
+use Rattle.std.specs.declared.ops.Bound.TheVariants.{Included, Excluded}
+use Rattle.std.specs.BTreeMap.Range.{range_contains}
 use Rattle.lp_timers.specs.declared.spot.Spot.{Spot}
 use Rattle.lp_timers.specs.declared.index.Index.{Index}
 use Rattle.lp_timers.specs.Spots.{spot_cmp, is_among}
@@ -49,3 +51,7 @@ pub record HasSameIn (old new : Index) : Type 0 where
 pub record IsNewIn (i : Index) (spot : Spot) : Type 0 where
   pub all : is_among (all_in i) (record { group = 0; due = spot.due; number = spot.number }) ≡ false
   pub objects : is_among (objects_in i) spot ≡ false
+
+-- whether a spot of the group of all is due at a moment: it stands before the next one of that moment
+abbrev pub is_due : ℕ → ℕ → Spot → Bool
+is_due t next s = range_contains spot_cmp (Included (record { group = 0; due = 0; number = 0 })) (Excluded (record { group = 0; due = t; number = next })) s

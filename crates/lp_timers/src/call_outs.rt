@@ -95,6 +95,14 @@ impl CallOuts {
         self.next
     }
 
+    /// The numbers of the call-outs that are due at a moment or before, by their moments and then in
+    /// order of making. Costs how many those are, and a logarithm of how many wait.
+    pub fn due(&self, t: u64) -> Result<Vec<u64>, AllocError>
+        ensures { IfOk result (λ v. v.items ≡ map (λ c. c.number) (due_at t self.now.call_outs)) }
+    {
+        self.index.due(self.alloc, t, self.next)
+    }
+
     /// Takes out the call-out with a number, if it waits. Takes no memory, and time by the logarithm of
     /// how many wait.
     pub fn take(&mut self, number: u64) -> Option<CallOut>
@@ -186,13 +194,7 @@ impl CallOuts {
     }
 
     // Puts the next call-out in.
-    fn place(
-        &mut self,
-        ob: ObjId,
-        fun: &Text,
-        at: u64,
-        args: Vec<Value>,
-    ) -> Result<u64, AllocError>
+    fn place(&mut self, ob: ObjId, fun: &Text, at: u64, args: Vec<Value>) -> Result<u64, AllocError>
         requires { self.old.next < 2 ^ 64 - 1 }
         ensures ok { IfOk result (λ n. (n ≡ self.old.next) × (self.new ≡ record { next = self.old.next + 1; call_outs = self.old.call_outs ++ record { number = self.old.next; object = ob; function = fun.now; due = at; arguments = args.items } ∷ [] })) }
         ensures err { OnErr result (self.new ≡ self.old) }

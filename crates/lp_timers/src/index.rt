@@ -1,9 +1,9 @@
 //! Call-outs in order: all of them, those of each object, and those of each function of it.
-ghost use Rattle.std.specs.Prelude.{◌≡◌, List, ℕ, OnOk, OnErr, false};
+ghost use Rattle.std.specs.Prelude.{◌≡◌, List, ℕ, IfOk, OnOk, OnErr, false, filter, map};
 ghost use Rattle.std.specs.List.Sorted.{IsStrictlySortedBy};
 ghost use Rattle.lp_timers.specs.Spots.{spot_cmp, first_spot as first_in, is_among};
 ghost use Rattle.lp_timers.specs.declared.spot.Spot.{Spot};
-ghost use Rattle.lp_timers.specs.Index.{HasAlsoIn, HasNotIn, HasSameIn, IsNewIn, all_in, objects_in, function_in};
+ghost use Rattle.lp_timers.specs.Index.{HasAlsoIn, HasNotIn, HasSameIn, IsNewIn, all_in, objects_in, function_in, is_due};
 
 use crate::functions::Functions;
 use crate::spot::{Spot, first_spot};
@@ -76,6 +76,28 @@ impl Index {
         self.all.remove(&among_all(spot));
         self.objects.remove(&spot);
         self.functions.remove(fun, spot);
+    }
+
+    /// The numbers of the call-outs that are due at a moment, by their moments, among those whose
+    /// numbers are below the next one.
+    pub(crate) fn due(&self, alloc: Global, t: u64, next: u64) -> Result<Vec<u64>, AllocError>
+        ensures numbers { IfOk result (λ v. v.items ≡ map (λ s. s.number) (filter (is_due t next) (all_in self.now))) }
+        ensures ordered { IsStrictlySortedBy spot_cmp (all_in self.now) }
+    {
+        let first = Spot {
+            group: 0,
+            due: 0,
+            number: 0,
+        };
+        let end = Spot {
+            group: 0,
+            due: t,
+            number: next,
+        };
+        self.all
+            .range(first..end)
+            .map(|spot| spot.number)
+            .collect(alloc)
     }
 
     /// The first call-out of an object.

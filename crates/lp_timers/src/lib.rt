@@ -4,6 +4,6 @@
 pub mod call_out;
 pub mod call_outs;
 pub mod fault;
-pub(crate) mod index;
 pub(crate) mod functions;
+pub(crate) mod index;
 pub(crate) mod spot;

@@ -43,7 +43,7 @@ invariant_of-self-in-Ok c =
       objects = λ s. put_in (at_object s) _ _ _ call _ (kept_at es s.number) (c.self.invariant.objects s) (put.objects s) (hits_object o d n s) (at_number es n s.number None none)
           ∙ ap (passes (at_object s)) (sym (c.in-Ok.ensures.updates.0 s.number));
       functions = λ f s. put_in (at_function f s) _ _ _ call _ (kept_at es s.number) (c.self.invariant.functions f s) (put.functions f s)
-            (ap (λ (g : List ℕ). pointwise nat_eq g f && is_eq (spot_cmp (record { group = o; due = d; number = n }) s)) (sym c.in_ok-copy.ensures) ∙ hits_function (pointwise nat_eq c.in_ok-copy.field-0 f) o d n s) (at_number es n s.number None none)
+          (ap (λ (g : List ℕ). pointwise nat_eq g f && is_eq (spot_cmp (record { group = o; due = d; number = n }) s)) (sym c.in_ok-copy.ensures) ∙ hits_function (pointwise nat_eq c.in_ok-copy.field-0 f) o d n s) (at_number es n s.number None none)
           ∙ ap (passes (at_function f s)) (sym (c.in-Ok.ensures.updates.0 s.number));
       below = subst (AllByRecursion (λ e. e.0 < n + 1)) (sym (c.in-Ok.ensures.entries ∙ put_last es n call c.self.invariant.below)) (all_last es n (n + 1) call c.self.invariant.below (omega arith));
       rising = c.insert.ensures.ordered;
@@ -54,9 +54,12 @@ returns-in-Ok-clause-ok c =
     let n = c.self.inside.next in
     let es = c.self.inside.calls.entries in
     let call : Call = record { ob = c.args.ob; fun = c.in_ok-copy.field-0; due = c.args.at; args = c.args.args } in
-    rw (← c.self.view_is) (refl, ap (λ l. record { next = n + 1; call_outs = l })
-      (ap (map entry_call) (c.in-Ok.ensures.entries ∙ put_last es n call c.self.invariant.below) ∙ map_last es n call
-        ∙ ap (λ (f : List ℕ). map entry_call es ++ record { number = n; object = c.args.ob; function = f; due = c.args.at; arguments = c.args.args.items } ∷ []) c.in_ok-copy.ensures))
+    rw (← c.self.view_is) (
+      refl,
+      ap (λ l. record { next = n + 1; call_outs = l })
+          (ap (map entry_call) (c.in-Ok.ensures.entries ∙ put_last es n call c.self.invariant.below) ∙ map_last es n call
+          ∙ ap (λ (f : List ℕ). map entry_call es ++ record { number = n; object = c.args.ob; function = f; due = c.args.at; arguments = c.args.args.items } ∷ []) c.in_ok-copy.ensures),
+    )
 
 pub invariant_of-self-in-Err : goal.invariant_of-self-in-Err
 invariant_of-self-in-Err c =

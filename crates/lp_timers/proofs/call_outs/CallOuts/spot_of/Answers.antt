@@ -20,7 +20,7 @@ pub returns-clause-number : goal.returns-clause-number
 returns-clause-number c =
     let cs = map entry_call c.self.inside.calls.entries in
     subst (λ (w : Waiting). IfSome c.first_of_function.result (λ s. numbered w.call_outs s.number ≡ earliest w.call_outs c.args.ob c.args.fun.now)) c.self.view_is
-      (by_number c.args.ob.0 cs (earliest cs c.args.ob c.args.fun.now) c.first_of_function.result
-        (c.first_of_function.ensures.first ∙ first_of_function c.args.ob c.args.fun.now (function_in c.self.inside.index c.args.fun.now) c.self.inside.calls.entries c.self.invariant.rising c.first_of_function.ensures.ordered (c.self.invariant.functions c.args.fun.now))
-        (first_is_numbered (λ x. nat_eq x.object.0 c.args.ob.0 && pointwise nat_eq x.function c.args.fun.now) c.self.inside.calls.entries
-          (recursion_from_All _ c.self.inside.calls.entries (All-found nat_cmp_total c.self.inside.calls c.self.invariant.rising))))
+    (by_number c.args.ob.0 cs (earliest cs c.args.ob c.args.fun.now) c.first_of_function.result
+    (c.first_of_function.ensures.first ∙ first_of_function c.args.ob c.args.fun.now (function_in c.self.inside.index c.args.fun.now) c.self.inside.calls.entries c.self.invariant.rising c.first_of_function.ensures.ordered (c.self.invariant.functions c.args.fun.now))
+    (first_is_numbered (λ x. nat_eq x.object.0 c.args.ob.0 && pointwise nat_eq x.function c.args.fun.now) c.self.inside.calls.entries
+    (recursion_from_All _ c.self.inside.calls.entries (All-found nat_cmp_total c.self.inside.calls c.self.invariant.rising))))

@@ -18,7 +18,7 @@ pub returns-clause-number : goal.returns-clause-number
 returns-clause-number c =
     let cs = map entry_call c.self.inside.calls.entries in
     subst (λ (w : Waiting). IfSome c.first_of.result (λ s. numbered w.call_outs s.number ≡ earliest_of w.call_outs c.args.ob)) c.self.view_is
-      (by_number c.args.ob.0 cs (earliest_of cs c.args.ob) c.first_of.result
-        (c.first_of.ensures.first ∙ first_of_object c.args.ob (objects_in c.self.inside.index) c.self.inside.calls.entries c.self.invariant.rising c.first_of.ensures.ordered c.self.invariant.objects)
-        (first_is_numbered (λ x. nat_eq x.object.0 c.args.ob.0) c.self.inside.calls.entries
-          (recursion_from_All _ c.self.inside.calls.entries (All-found nat_cmp_total c.self.inside.calls c.self.invariant.rising))))
+    (by_number c.args.ob.0 cs (earliest_of cs c.args.ob) c.first_of.result
+    (c.first_of.ensures.first ∙ first_of_object c.args.ob (objects_in c.self.inside.index) c.self.inside.calls.entries c.self.invariant.rising c.first_of.ensures.ordered c.self.invariant.objects)
+    (first_is_numbered (λ x. nat_eq x.object.0 c.args.ob.0) c.self.inside.calls.entries
+    (recursion_from_All _ c.self.inside.calls.entries (All-found nat_cmp_total c.self.inside.calls c.self.invariant.rising))))

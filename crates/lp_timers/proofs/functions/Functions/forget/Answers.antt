@@ -11,4 +11,4 @@ pub returns : goal.returns
 returns c = λ none g s.
     ap (λ o. is_among (keys_or_none o) s) (c.remove.ensures.updates.0 g)
     ∙ at_none (pointwise nat_eq c.args.fun.now g) s (get (pointwise nat_eq) c.args.self.now.spots g)
-      (λ e. subst (λ h. keys_or_none (get (pointwise nat_eq) c.args.self.now.spots h) ≡ []) ((bytes_eq-Decides c.args.fun.now g).0 e) none)
+    (λ e. subst (λ h. keys_or_none (get (pointwise nat_eq) c.args.self.now.spots h) ≡ []) ((bytes_eq-Decides c.args.fun.now g).0 e) none)
