@@ -1,7 +1,6 @@
 -- The call-outs of a function after an edit of the map of functions.
-use Rattle.std.proofs.Common.{◌≡◌, ℕ, Bool, true, false, cond, ◌&&◌, List, [], Option, Some, None, refl, sym, ap, subst, ◌∙◌}
+use Rattle.std.proofs.Common.{◌≡◌, Bool, true, false, cond, ◌&&◌, [], Option, Some, None, refl, sym, ap, ◌∙◌}
 use Rattle.std.specs.BTreeSet.{BTreeSet}
-use Rattle.std.specs.Ordering.{is_eq}
 use Rattle.std.specs.List.Sorted.{IsStrictlySortedBy}
 use Rattle.lp_timers.specs.declared.spot.Spot.{Spot}
 use Rattle.lp_timers.specs.Spots.{spot_cmp, is_among}

@@ -1,10 +1,9 @@
 -- Call-outs by the names of their functions.
-use Rattle.std.specs.Prelude.{◌≡◌, ℕ, List, [], Bool, true, false, cond, nat_eq, ◌&&◌, Option, Some, None}
+use Rattle.std.specs.Prelude.{◌≡◌, ℕ, List, [], true, false, cond, nat_eq, ◌&&◌, Option, Some, None}
 use Rattle.std.specs.Cmp.Lexicographic.{pointwise}
 use Rattle.std.specs.Ordering.{is_eq}
 use Rattle.std.specs.BTreeSet.{BTreeSet}
 use Rattle.std.specs.HashMap.{get}
-use Rattle.std.specs.List.Sorted.{IsStrictlySortedBy}
 use Rattle.lp_timers.specs.declared.spot.Spot.{Spot}
 use Rattle.lp_timers.specs.declared.functions.Functions.{Functions}
 use Rattle.lp_timers.specs.Spots.{spot_cmp, is_among}

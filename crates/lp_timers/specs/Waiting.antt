@@ -1,6 +1,5 @@
 -- The call-outs that wait, and which one is meant.
 use Rattle.std.specs.Prelude.{ℕ, List, filter, nat_eq, Option, Some, None}
-use Rattle.std.specs.List.{list_any}
 use Rattle.lp_values.specs.declared.id.ObjId.{ObjId}
 use Rattle.lp_timers.specs.declared.call_out.Call.{Call}
 use Rattle.lp_timers.specs.declared.call_out.CallOut as given

@@ -1,4 +1,4 @@
-use Rattle.std.proofs.Common.{ℕ, ◌<◌, ap, sym, subst, ◌∙◌}
+use Rattle.std.proofs.Common.{◌<◌, ap, sym, subst, ◌∙◌}
 use Rattle.std.specs.List.{AllByRecursion}
 use Rattle.lp_timers.specs.Indexed.{at_all, at_object, at_function, kept_at, passes}
 use Rattle.lp_timers.proofs.call_outs.CallOuts.new.Goals as goal

@@ -1,11 +1,10 @@
-use Rattle.std.proofs.Common.{◌≡◌, ℕ, ◌+◌, ◌<◌, ◌∷◌, ◌++◌, [], List, Bool, true, false, None, Some, map, nat_eq, ◌&&◌, refl, ap, sym, subst, ◌∙◌, arith}
+use Rattle.std.proofs.Common.{ℕ, ◌+◌, ◌<◌, ◌∷◌, ◌++◌, [], List, None, map, nat_eq, ◌&&◌, refl, ap, sym, subst, ◌∙◌, arith}
 use Rattle.std.specs.Cmp.Lexicographic.{pointwise}
 use Rattle.std.specs.Ordering.{is_eq}
 use Rattle.std.specs.List.{AllByRecursion}
-use Rattle.lp_timers.specs.declared.spot.Spot.{Spot}
 use Rattle.lp_timers.specs.declared.call_out.Call.{Call}
-use Rattle.lp_timers.specs.Spots.{spot_cmp, is_among}
-use Rattle.lp_timers.specs.Index.{IsNewIn, all_in, objects_in, function_in}
+use Rattle.lp_timers.specs.Spots.{spot_cmp}
+use Rattle.lp_timers.specs.Index.{IsNewIn}
 use Rattle.lp_timers.specs.Indexed.{at_all, at_object, at_function, kept_at, passes}
 use Rattle.lp_timers.specs.Waiting.{entry_call}
 use Rattle.lp_timers.proofs.KeptLemmas.{absent, all_last, at_number, hits_all, hits_function, hits_object, map_last, none_kept, put_back, put_in, put_last}

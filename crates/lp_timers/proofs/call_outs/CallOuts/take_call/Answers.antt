@@ -1,11 +1,9 @@
-use Rattle.std.proofs.Common.{◌≡◌, ℕ, ◌<◌, List, Bool, None, Some, map, nat_eq, ap, sym, subst, ◌∙◌}
+use Rattle.std.proofs.Common.{◌≡◌, ◌<◌, Some, map, nat_eq, ap, sym, subst, ◌∙◌}
 use Rattle.std.specs.Cmp.Lexicographic.{pointwise}
 use Rattle.std.specs.List.{AllByRecursion}
 use Rattle.std.specs.Option.{option_map}
 use Rattle.lp_timers.specs.Indexed.{at_all, at_object, at_function, kept_at, passes}
-use Rattle.lp_timers.specs.Timers.{CallOut}
 use Rattle.lp_timers.specs.Waiting.{call_from, entry_call, numbered}
-use Rattle.lp_timers.proofs.DueLemmas.{same_spots, by_due_in_order, any_by_due}
 use Rattle.lp_timers.proofs.KeptLemmas.{all_removed, at_number, found_numbered, hits_all, hits_function, hits_object, taken_out, took_out}
 use Rattle.lp_timers.proofs.call_outs.CallOuts.take_call.Goals as goal
 

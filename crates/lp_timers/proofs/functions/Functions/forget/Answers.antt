@@ -1,4 +1,4 @@
-use Rattle.std.proofs.Common.{rules, ◌≡◌, ℕ, List, [], Bool, true, false, ap, sym, subst, ◌∙◌, nat_eq}
+use Rattle.std.proofs.Common.{◌≡◌, [], ap, subst, ◌∙◌, nat_eq}
 use Rattle.std.specs.Cmp.Lexicographic.{pointwise}
 use Rattle.std.specs.HashMap.{get}
 use Rattle.std.proofs.lemmas.Slice.Eq.{bytes_eq-Decides}

@@ -1,4 +1,4 @@
-use Rattle.std.proofs.Common.{◌≡◌, false, ap, sym, subst, ◌∙◌, refl}
+use Rattle.std.proofs.Common.{◌≡◌, false, ap, sym, subst, refl}
 use Rattle.lp_timers.specs.Spots.{is_among}
 use Rattle.lp_timers.proofs.IndexLemmas.{undone}
 use Rattle.lp_timers.proofs.index.Index.add.Goals as goal
