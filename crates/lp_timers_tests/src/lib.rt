@@ -6,4 +6,6 @@
 #[cfg(test)]
 mod actions;
 #[cfg(test)]
+mod call_outs;
+#[cfg(test)]
 mod policy;
