@@ -1,0 +1,14 @@
+//! The encoding of programs in bytes.
+#![tactic(auto)]
+
+mod coded;
+mod enums;
+mod fault;
+mod instrs;
+mod lists;
+mod numbers;
+mod reader;
+mod rows;
+mod texts;
+
+pub use fault::DecodeFault;
