@@ -1,5 +1,5 @@
 -- The bytes of instructions.
-use Rattle.std.specs.Prelude.{ℕ, ◌+◌, ◌*◌, Bool, true, false, List, [], ◌∷◌, ⊤}
+use Rattle.std.specs.Prelude.{ℕ, ◌+◌, ◌*◌, List, [], ◌∷◌, ⊤}
 use Rattle.std.specs.Int.{w8, w32}
 use Rattle.lp_tree.specs.declared.expr.Edge.{Edge}
 use Rattle.lp_tree.specs.declared.expr.Edge.TheVariants.{Front, Back}
@@ -76,9 +76,13 @@ end_number ends.Start = 0
 end_number ends.Back = 1
 end_number ends.Open = 2
 
--- a kind of range: three times the number of its start, and the number of its end
+-- three times the number of the start, and the number of the end
+abbrev pub range_number : EndKind × EndKind → ℕ
+range_number r = 3 * end_number r.0 + end_number r.1
+
+-- a kind of range, by its number
 abbrev pub range : Form (EndKind × EndKind)
-range = listed w32 (λ r. 3 * end_number r.0 + end_number r.1) ((ends.Start, ends.Start) ∷ (ends.Start, ends.Back) ∷ (ends.Start, ends.Open) ∷ (ends.Back, ends.Start) ∷ (ends.Back, ends.Back) ∷ (ends.Back, ends.Open) ∷ (ends.Open, ends.Start) ∷ (ends.Open, ends.Back) ∷ (ends.Open, ends.Open) ∷ [])
+range = listed w32 range_number ((ends.Start, ends.Start) ∷ (ends.Start, ends.Back) ∷ (ends.Start, ends.Open) ∷ (ends.Back, ends.Start) ∷ (ends.Back, ends.Back) ∷ (ends.Back, ends.Open) ∷ (ends.Open, ends.Start) ∷ (ends.Open, ends.Back) ∷ (ends.Open, ends.Open) ∷ [])
 
 -- an efun, by its number
 abbrev pub efun : Form Efun

@@ -1,5 +1,5 @@
 -- The bytes of programs.
-use Rattle.std.specs.Prelude.{◌≡◌, ℕ, Bool, true, false, List, [], ◌∷◌}
+use Rattle.std.specs.Prelude.{◌≡◌, ℕ, Bool, true, false, List, [], ◌∷◌, ◌++◌, Option, Some, Result, Ok, Err, ⊤}
 use Rattle.std.specs.Int.{w8, w16, w32, w64}
 use Rattle.lp_tree.specs.declared.keyword.Base.{Base}
 use Rattle.lp_tree.specs.declared.keyword.Base.TheVariants as bases
@@ -14,6 +14,8 @@ use Rattle.lp_code.specs.declared.program.SwitchRow.{SwitchRow}
 use Rattle.lp_code.specs.declared.tables.Slot.{Slot}
 use Rattle.lp_code.specs.declared.tables.Tables.{Tables}
 use Rattle.lp_code.specs.declared.tables.VarRow.{VarRow}
+use Rattle.lp_encoding.specs.declared.fault.DecodeFault.{DecodeFault}
+use Rattle.lp_encoding.specs.declared.fault.DecodeFault.TheVariants.{NoMemory, NoRecord}
 use Rattle.lp_encoding.specs.Forms.{Form, number, pair, made, listed, list, text, code_points}
 use Rattle.lp_encoding.specs.Instructions.{instr, label}
 
@@ -99,3 +101,19 @@ program =
 pub record IsEncoding (p : RawProgram) (bytes : List ℕ) : Type 0 where
   pub fits : program.Fits p
   pub spelled : bytes ≡ program.spelled p
+
+-- Programs with encodings that begin the same bytes are one program, and so are their encodings and the bytes behind them.
+abbrev pub IsPrefixFree : Type 0
+IsPrefixFree = (p q : RawProgram) (a b r s : List ℕ) → IsEncoding p a → IsEncoding q b → a ++ r ≡ b ++ s → (p ≡ q) × (a ≡ b) × (r ≡ s)
+
+-- all of the bytes are read, and these are the parts of the program that they spell
+abbrev pub GivesWhole : Result RawProgram DecodeFault → Option (RawProgram × List ℕ) → Type 0
+GivesWhole (Ok p) read = read ≡ Some (p, [])
+GivesWhole (Err NoMemory) read = ⊤
+GivesWhole (Err NoRecord) read = (p : RawProgram) → read ≡ Some (p, []) → ⊥
+
+-- this program was read, or memory ran out
+abbrev pub IsDecoded : RawProgram → Result RawProgram DecodeFault → Type 0
+IsDecoded p (Ok q) = q ≡ p
+IsDecoded p (Err NoMemory) = ⊤
+IsDecoded p (Err NoRecord) = ⊥

@@ -247,7 +247,7 @@ impl Coded for Case {
     ghost form = { label };
 
     fn put(&self, alloc: Global, out: &mut Vec<u8>) -> Result<(), AllocError> {
-        match *self {
+        match self {
             Case::Ints(from, last, to) => {
                 0_u8.put(alloc, out)?;
                 from.put(alloc, out)?;
@@ -256,7 +256,7 @@ impl Coded for Case {
             }
             Case::Text(text, to) => {
                 1_u8.put(alloc, out)?;
-                put_two(alloc, text, to, out)
+                put_two(alloc, *text, *to, out)
             }
         }
     }

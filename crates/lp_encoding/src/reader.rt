@@ -4,6 +4,7 @@ ghost use Rattle.std.specs.Prelude.{◌≡◌, ◌<◌, ◌≤◌, IfSome, IfNon
 use std::marker::Model;
 
 /// The bytes that are not read yet.
+#[derive(Drop)]
 pub struct Reader<'a> {
     rest: &'a [u8],
 }
