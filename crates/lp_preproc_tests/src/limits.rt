@@ -74,12 +74,7 @@ fn depths(rt: HostRuntime) -> Result<(), Fail> {
     times(&mut arguments, "I(", 64)?;
     arguments.push_str("1")?;
     times(&mut arguments, ")", 64)?;
-    gives_in(
-        &rt,
-        alloc,
-        &one(alloc, arguments.as_str())?,
-        &[(2, "1")],
-    )?;
+    gives_in(&rt, alloc, &one(alloc, arguments.as_str())?, &[(2, "1")])?;
     arguments.push_str("\n")?;
     times(&mut arguments, "I(", 65)?;
     arguments.push_str("1")?;
