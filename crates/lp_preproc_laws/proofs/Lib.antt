@@ -1,0 +1,4 @@
+pub mod Decision
+pub mod Ends
+pub mod Less
+pub mod Lines
