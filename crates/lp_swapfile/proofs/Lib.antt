@@ -1,3 +1,6 @@
 pub mod TreeLemmas
 pub mod FitLemmas
 pub mod RunLemmas
+pub mod FreeLemmas
+pub mod RoomLemmas
+pub mod TakenLemmas

@@ -1,6 +1,6 @@
 -- The tree that the holes are kept in.
-use Rattle.std.specs.Prelude.{ℕ, ◌≡◌, max, nat_lt, ◌==◌, if◌then◌else◌, List, [], ◌∷◌, ◌++◌, ⊤}
-use Rattle.lp_swapfile.specs.Room.{end_of}
+use Rattle.std.specs.Prelude.{ℕ, ◌≡◌, ◌≤◌, max, nat_lt, ◌==◌, if◌then◌else◌, List, [], ◌∷◌, ◌++◌, ⊤}
+use Rattle.lp_swapfile.specs.Room.{end_of, AreRuns, EndBy}
 use Rattle.lp_swapfile.specs.declared.extent.Extent.{Extent}
 use Rattle.lp_swapfile.specs.declared.tree.Tree.{Tree, Leaf, Fork'}
 use Rattle.lp_swapfile.specs.declared.tree.Branch.{Branch}
@@ -46,3 +46,10 @@ pub record IsOpened (all : List Extent) (o : Opened) : Type 0 where
   pub holes : all ≡ holes_of o.left ++ o.hole ∷ holes_of o.right
   pub left : KnowsLongest o.left
   pub right : KnowsLongest o.right
+
+-- what holds of the tree of a file's holes: it knows its longest, they are longest free runs, and lie before an end of at most 2 ^ 40
+pub record IsSound (t : Tree) (end : ℕ) : Type 0 where
+  pub knows : KnowsLongest t
+  pub runs : AreRuns (holes_of t)
+  pub inside : EndBy end (holes_of t)
+  pub limit : end ≤ 1099511627776

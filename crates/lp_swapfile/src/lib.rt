@@ -2,6 +2,8 @@
 #![tactic(auto)]
 
 pub mod extent;
+pub mod extents;
 mod tree;
 
 pub use extent::Extent;
+pub use extents::{ExtentFault, Extents};

@@ -1,7 +1,7 @@
 //! The holes of a file in order, in a tree that finds the first long enough, and those round a
 //! place, in time by its height.
-ghost use Rattle.std.specs.Prelude.{◌≡◌, ◌≤◌, ◌+◌, Some, [], ◌∷◌, ◌++◌, is_some, IsSome, MatchOption};
-ghost use Rattle.lp_swapfile.specs.Room.{first_fit, without_fit, without_front, AreRuns, EndBy};
+ghost use Rattle.std.specs.Prelude.{◌≡◌, ◌<◌, ◌≤◌, ◌+◌, Some, [], ◌∷◌, ◌++◌, is_some, IsSome, MatchOption};
+ghost use Rattle.lp_swapfile.specs.Room.{end_of, first_fit, with_free, without_fit, without_front, AreRuns, EndBy, IsClear};
 ghost use Rattle.lp_swapfile.specs.Tree.{before, from, holes_of, longest, run_end, run_start, KnowsLongest, IsOpened};
 
 use crate::extent::Extent;
@@ -247,6 +247,42 @@ impl Tree {
                 }
                 b.right.run_end(place)
             }
+        }
+    }
+
+    /// The holes after an extent was given back, joined with those that it touches. The box is for
+    /// the free run that forms.
+    pub(crate) fn free(self, spare: Box<Branch>, e: Extent, rank: u64) -> Tree
+        requires knows { KnowsLongest self }
+        requires runs { AreRuns (holes_of self) }
+        requires in_range { EndBy 1099511627776 (holes_of self) }
+        requires some { 0 < e.len }
+        requires inside { end_of e ≤ 1099511627776 }
+        requires clear { IsClear e (holes_of self) }
+        ensures holes { holes_of result ≡ with_free e (holes_of self) }
+        ensures knows { KnowsLongest result }
+    {
+        let start = self.run_start(e.place);
+        let end = self.run_end(e.place + e.len);
+        let (below, rest) = self.split(start);
+        let (_, above) = rest.split(end);
+        let hole = Extent {
+            place: start,
+            len: end - start,
+        };
+        Tree::join(Tree::join(below, Tree::single(spare, hole, rank)), above)
+    }
+}
+
+impl Branch {
+    /// A branch of its own, for its box.
+    pub(crate) fn empty() -> Branch {
+        Branch {
+            left: Tree::Leaf,
+            hole: Extent { place: 0, len: 0 },
+            most: 0,
+            rank: 0,
+            right: Tree::Leaf,
         }
     }
 }
