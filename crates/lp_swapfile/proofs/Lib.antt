@@ -4,3 +4,5 @@ pub mod RunLemmas
 pub mod FreeLemmas
 pub mod RoomLemmas
 pub mod TakenLemmas
+pub mod LieLemmas
+pub mod HoldLemmas
