@@ -74,6 +74,7 @@ impl Extents {
         ensures place { IfOk result (λ p. p ≡ place_for len self.old) }
         ensures after { OnOk result (self.new ≡ after_take len self.old) }
         ensures parted { IfOk result (λ p. (es : List Extent) → AreTaken es self.old → AreTaken (record { place = p; len = len } ∷ es) self.new) }
+        ensures taken { IfOk result (λ p. IsTaken (record { place = p; len = len }) self.new) }
         ensures full { is_full_answer result ≡ is_full len self.old }
         ensures same { OnErr result (self.new ≡ self.old) }
     {
