@@ -1,8 +1,8 @@
 -- What goes out to a swap file, and what comes back.
-use Rattle.std.specs.Prelude.{◌≡◌, ◌≢◌, ℕ, List, length, Bool, true, false, Option, None, Some, Result, Ok, Err, ⊤}
+use Rattle.std.specs.Prelude.{◌≡◌, ◌≢◌, ℕ, List, ◌∷◌, length, Bool, true, false, Option, None, Some, Result, Ok, Err, ⊤}
 use Rattle.std.specs.declared.alloc.AllocError.{AllocError}
 use Rattle.sha2.specs.Sha256.{sha256}
-use Rattle.lp_swapfile.specs.Room.{Room, after_give_back, after_take, place_for}
+use Rattle.lp_swapfile.specs.Room.{Room, after_give_back, after_take, place_for, AreTaken, IsTaken}
 use Rattle.lp_swapfile.specs.Device.{Bytes, Holds, HoldsWhereTold, IsTold, Last, Gave, FailedAt}
 use Rattle.lp_swapfile.specs.declared.extent.Extent.{Extent}
 use Rattle.lp_swapper.specs.declared.ticket.Ticket.{Ticket}
@@ -38,6 +38,13 @@ IsRoomAfterOut bytes old new (Ok (Out t)) = new ≡ after_take (length bytes) ol
 IsRoomAfterOut bytes old new (Ok KeptFault) = new ≡ after_give_back (record { place = place_for (length bytes) old; len = length bytes }) (after_take (length bytes) old)
 IsRoomAfterOut bytes old new (Ok KeptFull) = new ≡ old
 IsRoomAfterOut bytes old new (Err e) = new ≡ old
+
+-- The extents that are taken once bytes went out: one more, which can be given back. Where they were kept the same are taken as before.
+abbrev pub AreTicketsAfter : Room → Room → Result OutAnswer AllocError → Type 0
+AreTicketsAfter old new (Ok (Out t)) = IsTaken (extent_of t) new × ((es : List Extent) → AreTaken es old → AreTaken (extent_of t ∷ es) new)
+AreTicketsAfter old new (Ok KeptFault) = (es : List Extent) → AreTaken es old → AreTaken es new
+AreTicketsAfter old new (Ok KeptFull) = (es : List Extent) → AreTaken es old → AreTaken es new
+AreTicketsAfter old new (Err e) = (es : List Extent) → AreTaken es old → AreTaken es new
 
 -- where bytes went out, their ticket is theirs, and they stand at its place where the device tells
 abbrev pub IsOut : List ℕ → Room → Option Bytes → Result OutAnswer AllocError → Type 0
