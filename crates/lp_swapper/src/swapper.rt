@@ -1,5 +1,6 @@
 //! Bytes out to a swap file, and back.
 ghost use Rattle.std.specs.Prelude.{◌≡◌, ℕ, ◌≤◌, ◌^◌, [], ◌∷◌, ◌++◌, List, length, OnOk, OnErr};
+ghost use Rattle.std.specs.Bool.{OnTrue, OnFalse};
 ghost use Rattle.std.specs.Result.{is_err};
 ghost use Rattle.lp_swapfile.specs.Counts.{Counts};
 ghost use Rattle.lp_swapfile.specs.Device.{last_of, AreSameOutside, IsHonestRead, IsTold, IsTrueRead};
@@ -160,6 +161,15 @@ impl Swapper {
         ensures parted { (ds es : List Extent) → AreTaken (ds ++ extent_of t.now ∷ es) self.old → AreTaken (ds ++ es) self.new }
     {
         self.room.give_back(t.place, t.len);
+    }
+
+    /// Whether the extent of a ticket can be given back: it lies before the end and in no hole, and
+    /// something is out.
+    pub fn is_out(&self, t: &Ticket) -> bool
+        ensures yes { OnTrue result (IsTaken (extent_of t.now) self.now) }
+        ensures no { OnFalse result (IsTaken (extent_of t.now) self.now → ⊥) }
+    {
+        self.room.is_taken(t.place, t.len)
     }
 
     /// A law, which does nothing: the holes are longest free runs before the end, which is at most
