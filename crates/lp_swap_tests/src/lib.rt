@@ -1,13 +1,11 @@
-// A library with one function.
+//! What no clause says of the swap file and the swapper.
+//!
+//! The tests stand here and not beside the code, so that no library is proved twice.
 #![tactic(auto)]
 
-ghost use Rattle.std.specs.Prelude.{◌≡◌};
-ghost use Rattle.lp_swap_tests.specs.Echo.{echo_of};
-
-// The `ensures` clause is the contract: what `echo` returns is `echo_of` of its argument, a definition
-// in `specs/Echo.antt`, which a caller's clause can cite too.
-pub fn echo(x: usize) -> usize
-    ensures { result ≡ echo_of x }
-{
-    x
-}
+#[cfg(test)]
+mod devices;
+#[cfg(test)]
+mod extents;
+#[cfg(test)]
+mod records;
