@@ -120,7 +120,15 @@ fn the_end_is_at_two_to_the_fortieth(rt: HostRuntime) -> Result<(), Fail> {
     assert_eq!(rt; room.take(1), Ok(1099511627775));
     assert_eq!(rt; room.take(1), Err(ExtentFault::Full));
     assert_eq!(rt; room.take(0), Ok(1099511627776));
-    assert!(rt; give_back(&mut room, Extent { place: 0, len: 1099511627775 }));
+    assert!(rt;
+        give_back(
+            &mut room,
+            Extent {
+                place: 0,
+                len: 1099511627775
+            }
+        )
+    );
     assert_eq!(rt; room.take(1099511627776), Err(ExtentFault::Full));
     assert_eq!(rt; room.take(1099511627775), Ok(0));
     room.law();
@@ -150,7 +158,10 @@ fn a_million_extents_in_random_order(rt: HostRuntime) -> Result<(), Fail> {
     for _ in 0..1000000u64 {
         seed = next(seed);
         let len = (seed >> 40) % 1000;
-        held.push(Extent { place: room.take(len)?, len })?;
+        held.push(Extent {
+            place: room.take(len)?,
+            len,
+        })?;
     }
     for _ in 0..1000000u64 {
         seed = next(seed);
@@ -158,7 +169,10 @@ fn a_million_extents_in_random_order(rt: HostRuntime) -> Result<(), Fail> {
             assert!(rt; give_back(&mut room, e));
         }
         let len = (seed >> 40) % 1000;
-        held.push(Extent { place: room.take(len)?, len })?;
+        held.push(Extent {
+            place: room.take(len)?,
+            len,
+        })?;
     }
     let mut most = 0u64;
     while let Some(e) = choose(&mut held, seed >> 20) {

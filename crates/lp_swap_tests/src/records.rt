@@ -7,14 +7,14 @@ fn numbers(alloc: Global, xs: &[u64]) -> Result<Vec<u64>, Fail> {
     Ok(Vec::from_slice(alloc, xs)?)
 }
 
-fn file(alloc: Global, reads: &[u64], writes: &[u64], lies: &[(u64, u64)]) -> Result<MemSwap, Fail> {
+fn file(
+    alloc: Global,
+    reads: &[u64],
+    writes: &[u64],
+    lies: &[(u64, u64)],
+) -> Result<MemSwap, Fail> {
     let lies = Vec::from_slice(alloc, lies)?;
-    Ok(MemSwap::new(
-        alloc,
-        numbers(alloc, reads)?,
-        numbers(alloc, writes)?,
-        lies,
-    ))
+    Ok(MemSwap::new(alloc, numbers(alloc, reads)?, numbers(alloc, writes)?, lies))
 }
 
 // So many bytes, of all kinds.
@@ -44,8 +44,48 @@ fn comes_back(swapper: &mut Swapper, swap: &mut MemSwap, t: &Ticket, bytes: &[u8
     }
 }
 
-// Records go out, are looked at and come back in another order; the room of the first is taken
-// again.
+// Puts bytes out, and asks where they went.
+fn goes_out(
+    swapper: &mut Swapper,
+    swap: &mut MemSwap,
+    bytes: &[u8],
+) -> Result<Option<Ticket>, Fail> {
+    Ok(ticket(swapper.out(swap, bytes)?))
+}
+
+// Whether a look finds these bytes.
+fn looks_like(swapper: &Swapper, swap: &mut MemSwap, t: &Ticket, bytes: &[u8]) -> bool {
+    match swapper.look(swap, t) {
+        Ok(found) => found.as_slice() == bytes,
+        Err(_) => false,
+    }
+}
+
+// Whether the ticket is for so many bytes at a place.
+fn is_at(t: &Ticket, place: u64, len: u64) -> bool {
+    t.place == place && t.len == len
+}
+
+// Two records go out, and come back in the same order; the room of the first is taken again.
+fn goes_round(
+    swapper: &mut Swapper,
+    swap: &mut MemSwap,
+    small: &[u8],
+    large: &[u8],
+) -> Result<bool, Fail> {
+    let Some(first) = goes_out(swapper, swap, small)? else {
+        return Ok(false);
+    };
+    let Some(second) = goes_out(swapper, swap, large)? else {
+        return Ok(false);
+    };
+    let out = is_at(&first, 0, 1024) && is_at(&second, 1024, 1048576);
+    let seen = looks_like(swapper, swap, &second, large);
+    let back = comes_back(swapper, swap, &first, small)
+        && comes_back(swapper, swap, &second, large);
+    Ok(out && seen && back && !swapper.is_out(&first))
+}
+
 #[test]
 fn records_go_out_and_come_back(rt: HostRuntime) -> Result<(), Fail> {
     let alloc = rt.alloc();
@@ -53,27 +93,27 @@ fn records_go_out_and_come_back(rt: HostRuntime) -> Result<(), Fail> {
     let mut swapper = Swapper::new(alloc);
     let small = record(alloc, 1024)?;
     let large = record(alloc, 1048576)?;
-    let Some(first) = ticket(swapper.out(&mut swap, &small)?) else {
-        panic!(rt; "kept");
-    };
-    let Some(second) = ticket(swapper.out(&mut swap, &large)?) else {
-        panic!(rt; "kept");
-    };
-    assert_eq!(rt; (first.place, first.len), (0, 1024));
-    assert_eq!(rt; (second.place, second.len), (1024, 1048576));
-    assert_eq!(rt; swapper.look(&mut swap, &second)?.as_slice(), large.as_slice());
-    assert!(rt; comes_back(&mut swapper, &mut swap, &first, &small));
-    assert!(rt; !swapper.is_out(&first));
-    let Some(third) = ticket(swapper.out(&mut swap, &small[..24])?) else {
-        panic!(rt; "kept");
-    };
-    assert_eq!(rt; (third.place, third.len), (0, 24));
-    assert!(rt; comes_back(&mut swapper, &mut swap, &second, &large));
-    if swapper.is_out(&third) {
-        swapper.drop_ticket(&third);
-    }
-    assert!(rt; !swapper.is_out(&third));
+    assert!(rt; goes_round(&mut swapper, &mut swap, &small, &large)?);
     swapper.law();
+    Ok(())
+}
+
+// The room of what is dropped is taken again.
+#[test]
+fn a_ticket_is_dropped(rt: HostRuntime) -> Result<(), Fail> {
+    let mut swap = file(rt.alloc(), &[], &[], &[])?;
+    let mut swapper = Swapper::new(rt.alloc());
+    let Some(t) = goes_out(&mut swapper, &mut swap, b"abc")? else {
+        panic!(rt; "kept");
+    };
+    if swapper.is_out(&t) {
+        swapper.drop_ticket(&t);
+    }
+    assert!(rt; !swapper.is_out(&t));
+    let Some(again) = goes_out(&mut swapper, &mut swap, b"de")? else {
+        panic!(rt; "kept");
+    };
+    assert!(rt; is_at(&again, 0, 2));
     Ok(())
 }
 
