@@ -91,7 +91,7 @@ impl Swapper {
             Err(ExtentFault::NoMemory) => return Err(AllocError),
         };
         if swap.write_at(place, bytes).is_err() {
-            self.room.give_back(place, len);
+            undo(&mut self.room, place, len);
             return Ok(OutAnswer::KeptFault);
         }
         Ok(OutAnswer::Out(Ticket {
@@ -182,6 +182,15 @@ impl Swapper {
     {
         self.room.law();
     }
+}
+
+// Gives back what was taken last.
+fn undo(room: &mut Extents, place: u64, len: u64)
+    requires { IsTaken (record { place = place; len = len }) room.old }
+    ensures after { room.new ≡ after_give_back (record { place = place; len = len }) room.old }
+    ensures parted { (es : List Extent) → AreTaken (record { place = place; len = len } ∷ es) room.old → AreTaken es room.new }
+{
+    room.give_back(place, len);
 }
 
 // Fills all of a vector from a place on.
