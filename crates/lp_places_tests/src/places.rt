@@ -37,15 +37,27 @@ fn inventories(rt: HostRuntime) -> Result<(), Fail> {
 #[test]
 fn would_contain_itself(rt: HostRuntime) -> Result<(), Fail> {
     let mut places = moved(rt.alloc(), &[(2, 1), (3, 2)])?;
-    assert_eq!(rt; places.put(ObjId(1), ObjId(1)), Err(PlaceFault::WouldContainItself));
-    assert_eq!(rt; places.put(ObjId(1), ObjId(2)), Err(PlaceFault::WouldContainItself));
-    assert_eq!(rt; places.put(ObjId(1), ObjId(3)), Err(PlaceFault::WouldContainItself));
+    assert_eq!(rt;
+        places.put(ObjId(1), ObjId(1)),
+        Err(PlaceFault::WouldContainItself)
+    );
+    assert_eq!(rt;
+        places.put(ObjId(1), ObjId(2)),
+        Err(PlaceFault::WouldContainItself)
+    );
+    assert_eq!(rt;
+        places.put(ObjId(1), ObjId(3)),
+        Err(PlaceFault::WouldContainItself)
+    );
     assert!(rt; holds(&places, 1, &[ObjId(2)]) && holds(&places, 3, &[]));
     // Out of its way, it can take in what it was in.
     places.put(ObjId(3), ObjId(4))?;
     places.put(ObjId(1), ObjId(3))?;
     assert_eq!(rt; places.environment(ObjId(1)), Some(ObjId(3)));
-    assert_eq!(rt; places.put(ObjId(4), ObjId(2)), Err(PlaceFault::WouldContainItself));
+    assert_eq!(rt;
+        places.put(ObjId(4), ObjId(2)),
+        Err(PlaceFault::WouldContainItself)
+    );
     Ok(())
 }
 
@@ -68,7 +80,10 @@ fn a_deep_chain(rt: HostRuntime) -> Result<(), Fail> {
     for i in 0..100000u64 {
         places.put(ObjId(i), ObjId(i + 1))?;
     }
-    assert_eq!(rt; places.put(ObjId(100000), ObjId(0)), Err(PlaceFault::WouldContainItself));
+    assert_eq!(rt;
+        places.put(ObjId(100000), ObjId(0)),
+        Err(PlaceFault::WouldContainItself)
+    );
     places.put(ObjId(100000), ObjId(100001))?;
     Ok(())
 }

@@ -47,12 +47,24 @@ fn ten_shadows(rt: HostRuntime) -> Result<(), Fail> {
 fn refusals(rt: HostRuntime) -> Result<(), Fail> {
     let mut places = shadowed(rt.alloc(), 1)?;
     assert_eq!(rt; places.may_shadow(ObjId(1), ObjId(1)), Err(ShadowNo::Same));
-    assert_eq!(rt; places.may_shadow(ObjId(1), ObjId(2)), Err(ShadowNo::AlreadyShadowing));
+    assert_eq!(rt;
+        places.may_shadow(ObjId(1), ObjId(2)),
+        Err(ShadowNo::AlreadyShadowing)
+    );
     places.put(ObjId(0), ObjId(5))?;
-    assert_eq!(rt; places.may_shadow(ObjId(0), ObjId(1)), Err(ShadowNo::IsShadowed));
+    assert_eq!(rt;
+        places.may_shadow(ObjId(0), ObjId(1)),
+        Err(ShadowNo::IsShadowed)
+    );
     places.put(ObjId(3), ObjId(5))?;
-    assert_eq!(rt; places.may_shadow(ObjId(3), ObjId(1)), Err(ShadowNo::HasEnvironment));
-    assert_eq!(rt; places.may_shadow(ObjId(4), ObjId(1)), Err(ShadowNo::VictimShadows));
+    assert_eq!(rt;
+        places.may_shadow(ObjId(3), ObjId(1)),
+        Err(ShadowNo::HasEnvironment)
+    );
+    assert_eq!(rt;
+        places.may_shadow(ObjId(4), ObjId(1)),
+        Err(ShadowNo::VictimShadows)
+    );
     assert_eq!(rt; places.may_shadow(ObjId(4), ObjId(0)), Ok(()));
     Ok(())
 }
