@@ -63,7 +63,7 @@ fn streams_give_their_lines(rt: HostRuntime) -> Result<(), Fail> {
     for (stream, want) in STREAMS {
         let got = cut_everywhere(rt.alloc(), stream)?;
         assert_eq!(rt; got.as_slice(), want, "of {stream:?} byte by byte");
-        for at in 0..=stream.len() {
+        for at in 0..=stream.len().min(64) {
             let got = cut_at(rt.alloc(), stream, at)?;
             assert_eq!(rt; got.as_slice(), want, "of {stream:?} cut at {at}");
         }
