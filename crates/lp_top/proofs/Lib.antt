@@ -4,3 +4,4 @@ pub mod Filing
 pub mod Going
 pub mod Beginning
 pub mod Completeness
+pub mod Checking
