@@ -1,0 +1,4 @@
+use Rattle.lp_encoding_tests.proofs.slots.found.Goals as goal
+
+pub find-requires : goal.find-requires
+find-requires g c = c.raw.ensures.sound.tables.few
