@@ -10,21 +10,30 @@ use std::marker::Brand;
 use std::sync::ledger::{Blank, Ledger};
 use std::test::Fail;
 
-/// The slot of a name, with the names counted that are compared.
-fn found<L: Ledger>(blank: Blank, program: &Program, name: &str) -> Option<u16>
+/// The slots of two names, with the names counted that are compared.
+fn found<L: Ledger>(
+    blank: Blank,
+    program: &Program,
+    first: &str,
+    second: &str,
+) -> (Option<u16>, Option<u16>)
     requires name { blank.name ≡ L.name }
     requires parts { blank.parts ≡ L.parts }
     requires some { 0 < L.parts }
 {
     let mut steps: Steps<L> = Steps::open(blank);
-    program.raw().tables.find(name, &mut steps)
+    let tables = &program.raw().tables;
+    let one = tables.find(first, &mut steps);
+    let other = tables.find(second, &mut steps);
+    (one, other)
 }
 
 #[test]
 fn by_name(rt: HostRuntime) -> Result<(), Fail> {
     let alloc = rt.alloc();
     let sound = verify(alloc, program(alloc, &[Instr::ReturnZero], 0)?)?;
-    assert_eq!(rt; found::<Brand>(Blank::new(1), &sound, "f"), Some(0));
-    assert_eq!(rt; found::<Brand>(Blank::new(1), &sound, "g"), None);
+    let (one, other) = found::<Brand>(Blank::new(1), &sound, "f", "g");
+    assert_eq!(rt; one, Some(0));
+    assert_eq!(rt; other, None);
     Ok(())
 }
