@@ -64,10 +64,12 @@ fn order(alloc: Global, number: u64) -> Result<Vec<Extent>, AllocError> {
     }
     let mut out = Vec::new(alloc);
     let mut rest = number;
-    while let Some(last) = left.len().checked_sub(1) {
-        let i = ((rest % 5) as usize).min(last);
-        rest /= 5;
-        out.push(left.remove(i))?;
+    for _ in 0..5u8 {
+        if let Some(last) = left.len().checked_sub(1) {
+            let i = ((rest % 5) as usize).min(last);
+            rest /= 5;
+            out.push(left.remove(i))?;
+        }
     }
     Ok(out)
 }
@@ -175,11 +177,14 @@ fn a_million_extents_in_random_order(rt: HostRuntime) -> Result<(), Fail> {
         })?;
     }
     let mut most = 0u64;
-    while let Some(e) = choose(&mut held, seed >> 20) {
+    for _ in 0..1000000u64 {
         seed = next(seed);
-        most = most.max(e.place.saturating_add(e.len));
-        assert!(rt; give_back(&mut room, e));
+        if let Some(e) = choose(&mut held, seed >> 20) {
+            most = most.max(e.place.saturating_add(e.len));
+            assert!(rt; give_back(&mut room, e));
+        }
     }
+    assert!(rt; held.is_empty());
     assert_eq!(rt; room.take(most), Ok(0));
     Ok(())
 }
