@@ -1,1 +1,2 @@
 pub mod SaveText
+pub mod States

@@ -1,0 +1,70 @@
+//! Cells in the order in which they came.
+ghost use Rattle.std.specs.Prelude.{◌≡◌, [], ◌++◌, ◌∷◌, OnOk, OnErr, IfOk, filter, if◌then◌else◌};
+ghost use Rattle.lp_save.specs.SaveText.{is_among, share_number};
+
+use indexmap::IndexSet;
+use lp_values::id::CellId;
+use std::alloc::{AllocError, Global};
+use std::marker::Model;
+
+/// Cells in the order in which they came, each once, found by hashing.
+#[derive(Drop)]
+pub(crate) struct CellSet {
+    cells: IndexSet<CellId>,
+}
+
+impl Model for CellSet {
+    ghost use Rattle.std.specs.Prelude.{List};
+    ghost use Rattle.lp_values.specs.declared.id.CellId.{CellId as C};
+
+    ghost Value = { List C };
+
+    ghost view = { λ s. s.cells.keys };
+}
+
+impl CellSet {
+    /// No cells. Takes no memory.
+    pub(crate) fn new(alloc: Global) -> CellSet
+        ensures { result ≡ [] }
+    {
+        CellSet {
+            cells: IndexSet::new(alloc),
+        }
+    }
+
+    /// Whether a cell came.
+    pub(crate) fn contains(&self, c: CellId) -> bool
+        ensures { result ≡ is_among c self.now }
+    {
+        self.cells.contains(&c)
+    }
+
+    /// The place of a cell, from 0, if it came.
+    pub(crate) fn place(&self, c: CellId) -> Option<usize>
+        ensures { result ≡ share_number self.now c }
+    {
+        self.cells.get_index_of(&c)
+    }
+
+    /// A cell comes, for the first time or again.
+    pub(crate) fn add(&mut self, c: CellId) -> Result<(), AllocError>
+        ensures ok { OnOk result (self.new ≡ (if is_among c self.old then self.old else self.old ++ c ∷ [])) }
+        ensures err { OnErr result (self.new ≡ self.old) }
+    {
+        self.cells.insert(c)?;
+        Ok(())
+    }
+
+    /// Those of the cells that came to others as well.
+    pub(crate) fn in_both(&self, alloc: Global, others: &CellSet) -> Result<CellSet, AllocError>
+        ensures { IfOk result (λ both. both ≡ filter (λ c. is_among c others.now) self.now) }
+    {
+        let mut both = CellSet::new(alloc);
+        for i in 0..self.cells.len() {
+            if let Some(c) = self.cells.get_index(i) && others.contains(*c) {
+                both.add(*c)?;
+            }
+        }
+        Ok(both)
+    }
+}
