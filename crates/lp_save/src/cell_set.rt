@@ -1,5 +1,5 @@
 //! Cells in the order in which they came.
-ghost use Rattle.std.specs.Prelude.{◌≡◌, [], ◌++◌, ◌∷◌, OnOk, OnErr, IfOk, filter, if◌then◌else◌};
+ghost use Rattle.std.specs.Prelude.{◌≡◌, [], ◌++◌, ◌∷◌, OnOk, OnErr, filter, if◌then◌else◌};
 ghost use Rattle.lp_save.specs.SaveText.{is_among, share_number};
 
 use indexmap::IndexSet;
@@ -55,16 +55,10 @@ impl CellSet {
         Ok(())
     }
 
-    /// Those of the cells that came to others as well.
-    pub(crate) fn in_both(&self, alloc: Global, others: &CellSet) -> Result<CellSet, AllocError>
-        ensures { IfOk result (λ both. both ≡ filter (λ c. is_among c others.now) self.now) }
+    /// Keeps the cells that came to others as well. Takes no memory.
+    pub(crate) fn keep_in(&mut self, others: &CellSet)
+        ensures { self.new ≡ filter (λ c. is_among c others.now) self.old }
     {
-        let mut both = CellSet::new(alloc);
-        for i in 0..self.cells.len() {
-            if let Some(c) = self.cells.get_index(i) && others.contains(*c) {
-                both.add(*c)?;
-            }
-        }
-        Ok(both)
+        self.cells.retain(|c| others.contains(*c));
     }
 }

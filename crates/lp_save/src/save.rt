@@ -102,6 +102,7 @@ pub fn save_text<L: Living>(
     if walker.is_deep {
         return Err(SaveFault::TooNested);
     }
-    let shared = walker.met.in_both(alloc, &walker.again)?;
-    Ok(text_of(alloc, vars, &shared, cells, live)?)
+    let Walker { mut met, again, .. } = walker;
+    met.keep_in(&again);
+    Ok(text_of(alloc, vars, &met, cells, live)?)
 }

@@ -1,0 +1,101 @@
+-- Cells that are met, and values that are gone over.
+use Rattle.std.proofs.Common.{◌≡◌, ℕ, zero, suc, ◌+◌, ◌-◌, ◌<◌, ◌≤◌, Bool, true, false, ◌||◌, eqb, List, [], ◌∷◌, ◌++◌, length, get_or, take, drop, Option, Some, None, refl, sym, ap, subst, ◌∙◌, arith, inl, inr}
+use Rattle.std.specs.Prelude.{if◌then◌else◌}
+use Rattle.std.specs.List.{fold, list_any}
+use Rattle.std.proofs.lemmas.Bool.{cases_Bool, eqb-true, true≢false}
+use Rattle.std.proofs.lemmas.List.{take_all, take_more}
+use Rattle.std.proofs.lemmas.List.Folds.{list_any-append}
+use Rattle.std.proofs.lemmas.Grind.{fold-append}
+use Rattle.lp_values.specs.declared.id.CellId.{CellId}
+use Rattle.lp_values.specs.declared.id.ObjId.{ObjId}
+use Rattle.lp_values.specs.declared.value.Value.{Value}
+use Rattle.lp_values.specs.declared.value.Value.TheVariants.{Int, Str, Arr, Map, Obj}
+use Rattle.lp_cells.specs.Cells.{Store}
+use Rattle.lp_save.specs.declared.walk.Walker.{Walker}
+use Rattle.lp_save.specs.SaveText.{Walk, is_among, cell_in, inner, met_first, met_again, met_deep, walked}
+use Rattle.lp_save.specs.States.{Stands, GoesOver, met_at, is_entered}
+
+or_false : (b : Bool) → (b || false) ≡ b
+or_false true = refl
+or_false false = refl
+
+or_turned : (a b : Bool) → (a || b) ≡ (b || a)
+or_turned true true = refl
+or_turned true false = refl
+or_turned false true = refl
+or_turned false false = refl
+
+-- a cell more
+among_more : (d c : CellId) (cs : List CellId) → is_among d (cs ++ c ∷ []) ≡ is_among d (c ∷ cs)
+among_more d c cs = list_any-append (λ e. eqb e.0 d.0) cs (c ∷ []) ∙ ap (λ b. is_among d cs || b) (or_false (eqb c.0 d.0)) ∙ or_turned (is_among d cs) (eqb c.0 d.0)
+
+-- a cell that is there is one of them as well
+among_same : (d c : CellId) (cs : List CellId) → is_among c cs ≡ true → is_among d cs ≡ is_among d (c ∷ cs)
+among_same d c cs h =
+    elim (cases_Bool (eqb c.0 d.0)) [
+      | inl y ↦ rw y (subst (λ n. list_any (λ e. eqb e.0 n) cs ≡ true) (eqb-true c.0 d.0 y) h)
+      | inr n ↦ rw n refl
+    ]
+
+-- a cell that comes to a set is one of the list with it
+pub among_added : (d c : CellId) (set list : List CellId) → ((e : CellId) → is_among e set ≡ is_among e list) → is_among d (if is_among c set then set else set ++ c ∷ []) ≡ is_among d (c ∷ list)
+among_added d c set list same =
+    elim (cases_Bool (is_among c set)) [
+      | inl y ↦ rw y (among_same d c set y ∙ ap (λ b. eqb c.0 d.0 || b) (same d))
+      | inr n ↦ rw n (among_more d c set ∙ ap (λ b. eqb c.0 d.0 || b) (same d))
+    ]
+
+-- ---- a cell is met
+
+pub again_stands : (k new : Walker) (c : CellId) (n : ℕ) → is_among c k.met ≡ true → new.met ≡ k.met → new.is_deep ≡ k.is_deep → new.again ≡ (if is_among c k.again then k.again else k.again ++ c ∷ [])
+    → (w : Walk) → Stands k w → Stands new (met_at n c w) × (false ≡ is_entered n c w)
+again_stands k new c zero there met deep again w s =
+    let among : is_among c w.met ≡ true = rw (← s.met) there in
+    (rw among (record { met = met ∙ s.met; again = λ d. ap (is_among d) again ∙ among_added d c k.again w.again s.again; is_deep = deep ∙ s.is_deep }), refl)
+again_stands k new c (suc n) there met deep again w s =
+    let among : is_among c w.met ≡ true = rw (← s.met) there in
+    (rw among (record { met = met ∙ s.met; again = λ d. ap (is_among d) again ∙ among_added d c k.again w.again s.again; is_deep = deep ∙ s.is_deep }), rw among refl)
+
+pub deep_stands : (k new : Walker) (c : CellId) → is_among c k.met ≡ false → new.met ≡ k.met → new.again ≡ k.again → new.is_deep ≡ true
+    → (w : Walk) → Stands k w → Stands new (met_at 0 c w) × (false ≡ is_entered 0 c w)
+deep_stands k new c there met again deep w s =
+    let among : is_among c w.met ≡ false = rw (← s.met) there in
+    (rw among (record { met = met ∙ s.met; again = λ d. ap (is_among d) again ∙ s.again d; is_deep = deep }), refl)
+
+pub first_stands : (k new : Walker) (c : CellId) (n : ℕ) → 0 < n → is_among c k.met ≡ false → new.met ≡ k.met ++ c ∷ [] → new.again ≡ k.again → new.is_deep ≡ k.is_deep
+    → (w : Walk) → Stands k w → Stands new (met_at n c w) × (true ≡ is_entered n c w)
+first_stands k new c zero lt there met again deep w s = absurd (omega arith)
+first_stands k new c (suc n) lt there met again deep w s =
+    let among : is_among c w.met ≡ false = rw (← s.met) there in
+    (rw among (record { met = met ∙ ap (λ cs. cs ++ c ∷ []) s.met; again = λ d. ap (is_among d) again ∙ s.again d; is_deep = deep ∙ s.is_deep }), rw among refl)
+
+-- ---- a value with a cell
+
+-- one that is not entered
+pub not_entered : (live : ObjId → Bool) (cells : Store) (v : Value) (c : CellId) (n : ℕ) (w : Walk) → cell_in v ≡ Some c → false ≡ is_entered n c w → walked live cells n w v ≡ met_at n c w
+not_entered live cells v c zero w in no = rw in refl
+not_entered live cells v c (suc n) w in no =
+    elim (cases_Bool (is_among c w.met)) [
+      | inl y ↦ rw (in, y) refl
+      | inr other ↦ absurd (true≢false (sym (rw other at no)))
+    ]
+
+-- one that is
+pub entered : (live : ObjId → Bool) (cells : Store) (v : Value) (c : CellId) (n : ℕ) (w : Walk) → cell_in v ≡ Some c → true ≡ is_entered n c w → walked live cells n w v ≡ fold (walked live cells (n - 1)) (met_at n c w) (inner live cells v)
+entered live cells v c zero w in yes = absurd (true≢false yes)
+entered live cells v c (suc n) w in yes =
+    elim (cases_Bool (is_among c w.met)) [
+      | inl y ↦ absurd (true≢false (rw y at yes))
+      | inr other ↦ let less : suc n - 1 ≡ n = omega arith in rw (in, other, less) refl
+    ]
+
+-- ---- lists
+
+pub over_more : (f : Walk → Value → Walk) (old now new : Walker) (xs : List Value) (i : ℕ) (x : Value) → i < length xs → x ≡ get_or xs i x
+    → GoesOver old now (λ w. fold f w (take i xs)) → GoesOver now new (λ w. f w x) → GoesOver old new (λ w. fold f w (take (i + 1) xs))
+over_more f old now new xs i x lt is before step = λ w s.
+    let all : take (i + 1) xs ≡ take i xs ++ x ∷ [] = take_more xs i x lt ∙ ap (λ y. take i xs ++ y ∷ []) (sym is) in
+    subst (λ y. Stands new (fold f w y)) (sym all) (subst (Stands new) (sym (fold-append f w (take i xs) (x ∷ []))) (step (fold f w (take i xs)) (before w s)))
+
+pub over_all : (f : Walk → Value → Walk) (old now : Walker) (xs : List Value) (i : ℕ) → length xs ≤ i → GoesOver old now (λ w. fold f w (take i xs)) → GoesOver old now (λ w. fold f w xs)
+over_all f old now xs i le before = λ w s. subst (λ y. Stands now (fold f w y)) (take_all i xs le) (before w s)
