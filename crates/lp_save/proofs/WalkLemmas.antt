@@ -1,7 +1,7 @@
 -- Cells that are met, and values that are gone over.
-use Rattle.std.proofs.Common.{◌≡◌, ℕ, zero, suc, ◌+◌, ◌-◌, ◌<◌, ◌≤◌, Bool, true, false, ◌||◌, eqb, List, [], ◌∷◌, ◌++◌, length, get_or, take, drop, Option, Some, None, refl, sym, ap, subst, ◌∙◌, arith, inl, inr}
+use Rattle.std.proofs.Common.{◌≡◌, ℕ, zero, suc, ◌+◌, ◌-◌, ◌<◌, ◌≤◌, Bool, true, false, ◌||◌, eqb, List, [], ◌∷◌, ◌++◌, length, get_or, take, drop, append-nil, unwrap_or, Option, Some, None, refl, sym, ap, subst, ◌∙◌, arith, inl, inr}
 use Rattle.std.specs.Prelude.{if◌then◌else◌}
-use Rattle.std.specs.List.{fold, list_any}
+use Rattle.std.specs.List.{flat_map, fold, list_any}
 use Rattle.std.proofs.lemmas.Bool.{cases_Bool, eqb-true, true≢false}
 use Rattle.std.proofs.lemmas.List.{take_all, take_more}
 use Rattle.std.proofs.lemmas.List.Folds.{list_any-append}
@@ -10,10 +10,15 @@ use Rattle.lp_values.specs.declared.id.CellId.{CellId}
 use Rattle.lp_values.specs.declared.id.ObjId.{ObjId}
 use Rattle.lp_values.specs.declared.value.Value.{Value}
 use Rattle.lp_values.specs.declared.value.Value.TheVariants.{Int, Str, Arr, Map, Obj}
-use Rattle.lp_cells.specs.Cells.{Store}
+use Rattle.lp_cells.specs.Cells.{Store, items_at, pairs_at}
+use Rattle.lp_cells.specs.Mapping.{pair_there, pairs_there}
+use Rattle.std.specs.Prelude.{slice_get}
+use Rattle.std.specs.Option.{option_to_list}
+use Rattle.std.proofs.lemmas.List.Elements.{filter-append}
+use Rattle.std.proofs.lemmas.Grind.{flat_map-append}
 use Rattle.lp_save.specs.declared.walk.Walker.{Walker}
 use Rattle.lp_save.specs.SaveText.{Walk, is_among, cell_in, inner, met_first, met_again, met_deep, walked}
-use Rattle.lp_save.specs.States.{Stands, GoesOver, met_at, is_entered}
+use Rattle.lp_save.specs.States.{Stands, GoesOver, both, met_at, is_entered}
 
 or_false : (b : Bool) → (b || false) ≡ b
 or_false true = refl
@@ -73,20 +78,20 @@ first_stands k new c (suc n) lt there met again deep w s =
 
 -- one that is not entered
 pub not_entered : (live : ObjId → Bool) (cells : Store) (v : Value) (c : CellId) (n : ℕ) (w : Walk) → cell_in v ≡ Some c → false ≡ is_entered n c w → walked live cells n w v ≡ met_at n c w
-not_entered live cells v c zero w in no = rw in refl
-not_entered live cells v c (suc n) w in no =
+not_entered live cells v c zero w is skips = rw is refl
+not_entered live cells v c (suc n) w is skips =
     elim (cases_Bool (is_among c w.met)) [
-      | inl y ↦ rw (in, y) refl
-      | inr other ↦ absurd (true≢false (sym (rw other at no)))
+      | inl y ↦ rw (is, y) refl
+      | inr other ↦ absurd (true≢false (sym (rw other at skips)))
     ]
 
 -- one that is
 pub entered : (live : ObjId → Bool) (cells : Store) (v : Value) (c : CellId) (n : ℕ) (w : Walk) → cell_in v ≡ Some c → true ≡ is_entered n c w → walked live cells n w v ≡ fold (walked live cells (n - 1)) (met_at n c w) (inner live cells v)
-entered live cells v c zero w in yes = absurd (true≢false yes)
-entered live cells v c (suc n) w in yes =
+entered live cells v c zero w is enters = absurd (true≢false enters)
+entered live cells v c (suc n) w is enters =
     elim (cases_Bool (is_among c w.met)) [
-      | inl y ↦ absurd (true≢false (rw y at yes))
-      | inr other ↦ let less : suc n - 1 ≡ n = omega arith in rw (in, other, less) refl
+      | inl y ↦ absurd (true≢false (rw y at enters))
+      | inr other ↦ let less : suc n - 1 ≡ n = omega arith in rw (is, other, less) refl
     ]
 
 -- ---- lists
@@ -99,3 +104,53 @@ over_more f old now new xs i x lt is before step = λ w s.
 
 pub over_all : (f : Walk → Value → Walk) (old now : Walker) (xs : List Value) (i : ℕ) → length xs ≤ i → GoesOver old now (λ w. fold f w (take i xs)) → GoesOver old now (λ w. fold f w xs)
 over_all f old now xs i le before = λ w s. subst (λ y. Stands now (fold f w y)) (take_all i xs le) (before w s)
+
+-- ---- arrays and mappings
+
+pub skipped_array : (live : ObjId → Bool) (cells : Store) (v : Value) (c : CellId) (n : ℕ) (w : Walk) (new : Walker) → v ≡ Arr c → false ≡ is_entered n c w → Stands new (met_at n c w) → Stands new (walked live cells n w v)
+skipped_array live cells v c n w new is skips s = subst (Stands new) (sym (not_entered live cells v c n w (ap cell_in is) skips)) s
+
+pub skipped_mapping : (live : ObjId → Bool) (cells : Store) (v : Value) (c : CellId) (n : ℕ) (w : Walk) (new : Walker) → v ≡ Map c → false ≡ is_entered n c w → Stands new (met_at n c w) → Stands new (walked live cells n w v)
+skipped_mapping live cells v c n w new is skips s = subst (Stands new) (sym (not_entered live cells v c n w (ap cell_in is) skips)) s
+
+pub entered_array : (live : ObjId → Bool) (cells : Store) (v : Value) (c : CellId) (n : ℕ) (w : Walk) (new : Walker) (xs : List Value) → v ≡ Arr c → items_at cells c ≡ Some xs → true ≡ is_entered n c w
+    → Stands new (fold (walked live cells (n - 1)) (met_at n c w) xs) → Stands new (walked live cells n w v)
+entered_array live cells v c n w new xs is items enters s =
+    let held : inner live cells v ≡ xs = ap (inner live cells) is ∙ ap (λ o. unwrap_or o []) items in
+    subst (Stands new) (sym (entered live cells v c n w (ap cell_in is) enters ∙ ap (fold (walked live cells (n - 1)) (met_at n c w)) held)) s
+
+pub entered_mapping : (live : ObjId → Bool) (cells : Store) (v : Value) (c : CellId) (n : ℕ) (w : Walk) (new : Walker) (ps : List (Value × Value)) → v ≡ Map c → pairs_at cells c ≡ Some ps → true ≡ is_entered n c w
+    → Stands new (fold (walked live cells (n - 1)) (met_at n c w) (flat_map both (pairs_there live ps))) → Stands new (walked live cells n w v)
+entered_mapping live cells v c n w new ps is pairs enters s =
+    let held : inner live cells v ≡ flat_map both (pairs_there live ps) = ap (inner live cells) is ∙ ap (λ o. flat_map both (pairs_there live (unwrap_or o []))) pairs in
+    subst (Stands new) (sym (entered live cells v c n w (ap cell_in is) enters ∙ ap (fold (walked live cells (n - 1)) (met_at n c w)) held)) s
+
+-- ---- pairs
+
+take_get : (ps : List (Value × Value)) (i : ℕ) → take (suc i) ps ≡ take i ps ++ option_to_list (slice_get ps i)
+take_get [] zero = refl
+take_get [] (suc i) = refl
+take_get (p ∷ ps) zero = refl
+take_get (p ∷ ps) (suc i) = ap (λ y. p ∷ y) (take_get ps i)
+
+pub there_more : (live : ObjId → Bool) (ps : List (Value × Value)) (i : ℕ) → pairs_there live (take (i + 1) ps) ≡ pairs_there live (take i ps) ++ pair_there live ps i
+there_more live ps i = let next : i + 1 ≡ suc i = omega arith in ap (λ k. pairs_there live (take k ps)) next ∙ ap (pairs_there live) (take_get ps i) ∙ filter-append _ (take i ps) (option_to_list (slice_get ps i))
+
+pub over_pair : (live : ObjId → Bool) (f : Walk → Value → Walk) (old now mid new : Walker) (ps : List (Value × Value)) (i : ℕ) (p : Value × Value) → p ∷ [] ≡ pair_there live ps i
+    → GoesOver old now (λ w. fold f w (flat_map both (pairs_there live (take i ps)))) → GoesOver now mid (λ w. f w p.0) → GoesOver mid new (λ w. f w p.1)
+    → GoesOver old new (λ w. fold f w (flat_map both (pairs_there live (take (i + 1) ps))))
+over_pair live f old now mid new ps i p is before key value = λ w s.
+    let all : flat_map both (pairs_there live (take (i + 1) ps)) ≡ flat_map both (pairs_there live (take i ps)) ++ p.0 ∷ p.1 ∷ [] =
+      ap (flat_map both) (there_more live ps i ∙ ap (λ y. pairs_there live (take i ps) ++ y) (sym is)) ∙ flat_map-append both (pairs_there live (take i ps)) (p ∷ []) in
+    subst (λ y. Stands new (fold f w y)) (sym all)
+    (subst (Stands new) (sym (fold-append f w (flat_map both (pairs_there live (take i ps))) (p.0 ∷ p.1 ∷ []))) (value _ (key _ (before w s))))
+
+pub over_no_pair : (live : ObjId → Bool) (f : Walk → Value → Walk) (old now : Walker) (ps : List (Value × Value)) (i : ℕ) → [] ≡ pair_there live ps i
+    → GoesOver old now (λ w. fold f w (flat_map both (pairs_there live (take i ps)))) → GoesOver old now (λ w. fold f w (flat_map both (pairs_there live (take (i + 1) ps))))
+over_no_pair live f old now ps i is before = λ w s.
+    let all : pairs_there live (take (i + 1) ps) ≡ pairs_there live (take i ps) = there_more live ps i ∙ ap (λ y. pairs_there live (take i ps) ++ y) (sym is) ∙ append-nil (pairs_there live (take i ps)) in
+    subst (λ y. Stands now (fold f w (flat_map both y))) (sym all) (before w s)
+
+pub over_all_pairs : (live : ObjId → Bool) (f : Walk → Value → Walk) (old now : Walker) (ps : List (Value × Value)) (i : ℕ) → length ps ≤ i
+    → GoesOver old now (λ w. fold f w (flat_map both (pairs_there live (take i ps)))) → GoesOver old now (λ w. fold f w (flat_map both (pairs_there live ps)))
+over_all_pairs live f old now ps i le before = λ w s. subst (λ y. Stands now (fold f w (flat_map both (pairs_there live y)))) (take_all i ps le) (before w s)

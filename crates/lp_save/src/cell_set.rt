@@ -1,5 +1,5 @@
 //! Cells in the order in which they came.
-ghost use Rattle.std.specs.Prelude.{◌≡◌, [], ◌++◌, ◌∷◌, OnOk, OnErr, filter, if◌then◌else◌};
+ghost use Rattle.std.specs.Prelude.{◌≡◌, ◌<◌, ◌^◌, IfSome, [], ◌++◌, ◌∷◌, OnOk, OnErr, filter, if◌then◌else◌};
 ghost use Rattle.lp_save.specs.SaveText.{is_among, share_number};
 
 use indexmap::IndexSet;
@@ -41,8 +41,11 @@ impl CellSet {
 
     /// The place of a cell, from 0, if it came.
     pub(crate) fn place(&self, c: CellId) -> Option<usize>
-        ensures { result ≡ share_number self.now c }
+        ensures value { result ≡ share_number self.now c }
+        ensures small { IfSome result (λ i. i < 2 ^ 63) }
     {
+        // The set's length comes with how large it is at most.
+        let _count = self.cells.len();
         self.cells.get_index_of(&c)
     }
 

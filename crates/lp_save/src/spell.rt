@@ -1,5 +1,5 @@
 //! Spelling values.
-ghost use Rattle.std.specs.Prelude.{◌≡◌, All, OnOk, [], ◌∷◌, ◌++◌, codes, flat_map, fold};
+ghost use Rattle.std.specs.Prelude.{◌≡◌, ◌<◌, ◌^◌, All, OnOk, [], ◌∷◌, ◌++◌, codes, flat_map, fold};
 ghost use Rattle.std.specs.Fmt.{signed_decimal};
 ghost use Rattle.lp_cells.specs.Cells.{IsClosed, IsPairThere, IsThere};
 ghost use Rattle.lp_cells.specs.Mapping.{pairs_there};
@@ -38,14 +38,17 @@ pub(crate) fn begin_text(alloc: Global) -> Speller
 
 /// Adds code points.
 pub(crate) fn add(speller: &mut Speller, text: &[char]) -> Result<(), AllocError>
-    ensures { OnOk result (Spells speller.old speller.new (added text.now)) }
+    ensures text { OnOk result (speller.new.text.items ≡ speller.old.text.items ++ text.now) }
+    ensures done { OnOk result (speller.new.done ≡ speller.old.done) }
 {
     speller.text.extend_from_slice(text)
 }
 
 /// Adds the number of a shared cell.
 fn add_number(speller: &mut Speller, place: usize) -> Result<(), AllocError>
-    ensures { OnOk result (Spells speller.old speller.new (added (numbered place))) }
+    requires { place < 2 ^ 63 }
+    ensures text { OnOk result (speller.new.text.items ≡ speller.old.text.items ++ (numbered place)) }
+    ensures done { OnOk result (speller.new.done ≡ speller.old.done) }
 {
     let digits = spelling(speller.alloc, place as u64 + 1)?;
     speller.text.push('<')?;
@@ -70,7 +73,8 @@ fn begin_cell(speller: &mut Speller, shared: &CellSet, c: CellId) -> Result<(), 
 
 /// Adds the number alone of a cell that was spelled before.
 fn add_again(speller: &mut Speller, shared: &CellSet, c: CellId) -> Result<(), AllocError>
-    ensures { OnOk result (Spells speller.old speller.new (added (again_text (share_number shared.now c)))) }
+    ensures text { OnOk result (speller.new.text.items ≡ speller.old.text.items ++ (again_text (share_number shared.now c))) }
+    ensures done { OnOk result (speller.new.done ≡ speller.old.done) }
 {
     match shared.place(c) {
         None => Ok(()),
@@ -80,7 +84,8 @@ fn add_again(speller: &mut Speller, shared: &CellSet, c: CellId) -> Result<(), A
 
 /// Adds a code point of a text.
 fn add_point(speller: &mut Speller, c: char) -> Result<(), AllocError>
-    ensures { OnOk result (Spells speller.old speller.new (added (saved_point c))) }
+    ensures text { OnOk result (speller.new.text.items ≡ speller.old.text.items ++ (saved_point c)) }
+    ensures done { OnOk result (speller.new.done ≡ speller.old.done) }
 {
     match c {
         '\\' => add(speller, &['\\', '\\']),
@@ -94,7 +99,8 @@ fn add_point(speller: &mut Speller, c: char) -> Result<(), AllocError>
 
 /// Adds a text between quotes.
 fn add_quoted(speller: &mut Speller, text: &[char]) -> Result<(), AllocError>
-    ensures { OnOk result (Spells speller.old speller.new (added (34 ∷ flat_map saved_point text.now ++ 34 ∷ []))) }
+    ensures text { OnOk result (speller.new.text.items ≡ speller.old.text.items ++ (34 ∷ flat_map saved_point text.now ++ 34 ∷ [])) }
+    ensures done { OnOk result (speller.new.done ≡ speller.old.done) }
 {
     add(speller, &['"'])?;
     for c in text {
@@ -105,7 +111,8 @@ fn add_quoted(speller: &mut Speller, text: &[char]) -> Result<(), AllocError>
 
 /// Adds an integer.
 fn add_int(speller: &mut Speller, n: i64) -> Result<(), AllocError>
-    ensures { OnOk result (Spells speller.old speller.new (added (signed_decimal n))) }
+    ensures text { OnOk result (speller.new.text.items ≡ speller.old.text.items ++ (signed_decimal n)) }
+    ensures done { OnOk result (speller.new.done ≡ speller.old.done) }
 {
     let digits = signed_spelling(speller.alloc, n)?;
     add(speller, digits.as_slice())

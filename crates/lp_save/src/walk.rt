@@ -1,5 +1,5 @@
 //! Going over values in the order in which they are spelled.
-ghost use Rattle.std.specs.Prelude.{◌≡◌, All, OnOk, [], ◌∷◌, false, fold, flat_map};
+ghost use Rattle.std.specs.Prelude.{◌≡◌, ◌≤◌, All, IfOk, OnOk, [], false, true, fold, flat_map};
 ghost use Rattle.std.specs.Map.Iter.{deref_pair};
 ghost use Rattle.std.specs.Option.{option_map, option_to_list};
 ghost use Rattle.lp_cells.specs.Cells.{IsClosed, IsPairThere, IsThere};
@@ -82,7 +82,8 @@ pub(crate) fn walk<L: Living>(
 
 /// Meets a cell, and tells whether what it holds is to be gone over.
 fn enter(walker: &mut Walker, c: CellId, levels: u64) -> Result<bool, AllocError>
-    ensures { Enters result walker.old walker.new c levels }
+    ensures met { Enters result walker.old walker.new c levels }
+    ensures level { IfOk result (λ b. b ≡ true → 1 ≤ levels) }
 {
     if walker.met.contains(c) {
         walker.again.add(c)?;
