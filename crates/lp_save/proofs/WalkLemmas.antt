@@ -10,7 +10,7 @@ use Rattle.lp_values.specs.declared.id.CellId.{CellId}
 use Rattle.lp_values.specs.declared.id.ObjId.{ObjId}
 use Rattle.lp_values.specs.declared.value.Value.{Value}
 use Rattle.lp_values.specs.declared.value.Value.TheVariants.{Int, Str, Arr, Map, Obj}
-use Rattle.lp_cells.specs.Cells.{Store, items_at, pairs_at}
+use Rattle.lp_cells.specs.Cells.{Store, items_at, items_of, pairs_at, stored_pairs}
 use Rattle.lp_cells.specs.Mapping.{pair_there, pairs_there}
 use Rattle.std.specs.Prelude.{slice_get}
 use Rattle.std.specs.Option.{option_to_list}
@@ -76,23 +76,49 @@ first_stands k new c (suc n) lt there met again deep w s =
 
 -- ---- a value with a cell
 
--- one that is not entered
-pub not_entered : (live : ObjId → Bool) (cells : Store) (v : Value) (c : CellId) (n : ℕ) (w : Walk) → cell_in v ≡ Some c → false ≡ is_entered n c w → walked live cells n w v ≡ met_at n c w
-not_entered live cells v c zero w is skips = rw is refl
-not_entered live cells v c (suc n) w is skips =
+-- array
+not_entered_array : (live : ObjId → Bool) (cells : Store) (c : CellId) (n : ℕ) (w : Walk) → false ≡ is_entered n c w → walked live cells n w (Arr c) ≡ met_at n c w
+not_entered_array live cells c zero w skips = refl
+not_entered_array live cells c (suc n) w skips =
     elim (cases_Bool (is_among c w.met)) [
-      | inl y ↦ rw (is, y) refl
+      | inl y ↦ rw y refl
       | inr other ↦ absurd (true≢false (sym (rw other at skips)))
     ]
 
--- one that is
-pub entered : (live : ObjId → Bool) (cells : Store) (v : Value) (c : CellId) (n : ℕ) (w : Walk) → cell_in v ≡ Some c → true ≡ is_entered n c w → walked live cells n w v ≡ fold (walked live cells (n - 1)) (met_at n c w) (inner live cells v)
-entered live cells v c zero w is enters = absurd (true≢false enters)
-entered live cells v c (suc n) w is enters =
+entered_array_one : (live : ObjId → Bool) (cells : Store) (c : CellId) (n : ℕ) (w : Walk) → true ≡ is_entered (suc n) c w → walked live cells (suc n) w (Arr c) ≡ fold (walked live cells n) (met_at (suc n) c w) (items_of cells c)
+entered_array_one live cells c n w enters =
     elim (cases_Bool (is_among c w.met)) [
       | inl y ↦ absurd (true≢false (rw y at enters))
-      | inr other ↦ let less : suc n - 1 ≡ n = omega arith in rw (is, other, less) refl
+      | inr other ↦ rw other refl
     ]
+
+entered_in_array : (live : ObjId → Bool) (cells : Store) (c : CellId) (n : ℕ) (w : Walk) → true ≡ is_entered n c w → walked live cells n w (Arr c) ≡ fold (walked live cells (n - 1)) (met_at n c w) (items_of cells c)
+entered_in_array live cells c zero w enters = absurd (true≢false enters)
+entered_in_array live cells c (suc n) w enters =
+    let less : n ≡ suc n - 1 = omega arith in
+    entered_array_one live cells c n w enters ∙ ap (λ k. fold (walked live cells k) (met_at (suc n) c w) (items_of cells c)) less
+
+-- mapping
+not_entered_mapping : (live : ObjId → Bool) (cells : Store) (c : CellId) (n : ℕ) (w : Walk) → false ≡ is_entered n c w → walked live cells n w (Map c) ≡ met_at n c w
+not_entered_mapping live cells c zero w skips = refl
+not_entered_mapping live cells c (suc n) w skips =
+    elim (cases_Bool (is_among c w.met)) [
+      | inl y ↦ rw y refl
+      | inr other ↦ absurd (true≢false (sym (rw other at skips)))
+    ]
+
+entered_mapping_one : (live : ObjId → Bool) (cells : Store) (c : CellId) (n : ℕ) (w : Walk) → true ≡ is_entered (suc n) c w → walked live cells (suc n) w (Map c) ≡ fold (walked live cells n) (met_at (suc n) c w) (flat_map both (pairs_there live (stored_pairs cells c)))
+entered_mapping_one live cells c n w enters =
+    elim (cases_Bool (is_among c w.met)) [
+      | inl y ↦ absurd (true≢false (rw y at enters))
+      | inr other ↦ rw other refl
+    ]
+
+entered_in_mapping : (live : ObjId → Bool) (cells : Store) (c : CellId) (n : ℕ) (w : Walk) → true ≡ is_entered n c w → walked live cells n w (Map c) ≡ fold (walked live cells (n - 1)) (met_at n c w) (flat_map both (pairs_there live (stored_pairs cells c)))
+entered_in_mapping live cells c zero w enters = absurd (true≢false enters)
+entered_in_mapping live cells c (suc n) w enters =
+    let less : n ≡ suc n - 1 = omega arith in
+    entered_mapping_one live cells c n w enters ∙ ap (λ k. fold (walked live cells k) (met_at (suc n) c w) (flat_map both (pairs_there live (stored_pairs cells c)))) less
 
 -- ---- lists
 
@@ -108,22 +134,22 @@ over_all f old now xs i le before = λ w s. subst (λ y. Stands now (fold f w y)
 -- ---- arrays and mappings
 
 pub skipped_array : (live : ObjId → Bool) (cells : Store) (v : Value) (c : CellId) (n : ℕ) (w : Walk) (new : Walker) → v ≡ Arr c → false ≡ is_entered n c w → Stands new (met_at n c w) → Stands new (walked live cells n w v)
-skipped_array live cells v c n w new is skips s = subst (Stands new) (sym (not_entered live cells v c n w (ap cell_in is) skips)) s
+skipped_array live cells v c n w new is skips s = subst (Stands new) (sym (ap (walked live cells n w) is ∙ not_entered_array live cells c n w skips)) s
 
 pub skipped_mapping : (live : ObjId → Bool) (cells : Store) (v : Value) (c : CellId) (n : ℕ) (w : Walk) (new : Walker) → v ≡ Map c → false ≡ is_entered n c w → Stands new (met_at n c w) → Stands new (walked live cells n w v)
-skipped_mapping live cells v c n w new is skips s = subst (Stands new) (sym (not_entered live cells v c n w (ap cell_in is) skips)) s
+skipped_mapping live cells v c n w new is skips s = subst (Stands new) (sym (ap (walked live cells n w) is ∙ not_entered_mapping live cells c n w skips)) s
 
 pub entered_array : (live : ObjId → Bool) (cells : Store) (v : Value) (c : CellId) (n : ℕ) (w : Walk) (new : Walker) (xs : List Value) → v ≡ Arr c → items_at cells c ≡ Some xs → true ≡ is_entered n c w
     → Stands new (fold (walked live cells (n - 1)) (met_at n c w) xs) → Stands new (walked live cells n w v)
 entered_array live cells v c n w new xs is items enters s =
-    let held : inner live cells v ≡ xs = ap (inner live cells) is ∙ ap (λ o. unwrap_or o []) items in
-    subst (Stands new) (sym (entered live cells v c n w (ap cell_in is) enters ∙ ap (fold (walked live cells (n - 1)) (met_at n c w)) held)) s
+    let held : items_of cells c ≡ xs = ap (λ o. unwrap_or o []) items in
+    subst (Stands new) (sym (ap (walked live cells n w) is ∙ entered_in_array live cells c n w enters ∙ ap (fold (walked live cells (n - 1)) (met_at n c w)) held)) s
 
 pub entered_mapping : (live : ObjId → Bool) (cells : Store) (v : Value) (c : CellId) (n : ℕ) (w : Walk) (new : Walker) (ps : List (Value × Value)) → v ≡ Map c → pairs_at cells c ≡ Some ps → true ≡ is_entered n c w
     → Stands new (fold (walked live cells (n - 1)) (met_at n c w) (flat_map both (pairs_there live ps))) → Stands new (walked live cells n w v)
 entered_mapping live cells v c n w new ps is pairs enters s =
-    let held : inner live cells v ≡ flat_map both (pairs_there live ps) = ap (inner live cells) is ∙ ap (λ o. flat_map both (pairs_there live (unwrap_or o []))) pairs in
-    subst (Stands new) (sym (entered live cells v c n w (ap cell_in is) enters ∙ ap (fold (walked live cells (n - 1)) (met_at n c w)) held)) s
+    let held : flat_map both (pairs_there live (stored_pairs cells c)) ≡ flat_map both (pairs_there live ps) = ap (λ o. flat_map both (pairs_there live (unwrap_or o []))) pairs in
+    subst (Stands new) (sym (ap (walked live cells n w) is ∙ entered_in_mapping live cells c n w enters ∙ ap (fold (walked live cells (n - 1)) (met_at n c w)) held)) s
 
 -- ---- pairs
 
