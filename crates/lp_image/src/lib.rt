@@ -10,6 +10,7 @@ mod reading;
 pub mod record;
 
 pub use fault::ImageFault;
+pub use order::is_ordered;
 pub use packing::pack;
 pub use reading::unpack;
 pub use record::{Packed, PackedCell, Record};
