@@ -1,5 +1,5 @@
 -- A condition has a value or none.
-use Rattle.std.proofs.Common.{◌≡◌, ℕ, ℤ, ◌≤◌, ◌<◌, Bool, true, false, List, [], Option, None, Some, refl, sym, ap, ◌∙◌, subst, arith, inl, inr}
+use Rattle.std.proofs.Common.{◌≡◌, ℤ, Bool, true, false, List, [], Option, None, Some, refl, sym, ap, ◌∙◌, arith, inl, inr}
 use Rattle.std.specs.Prelude.{map, nat_lt, ◌⊎◌}
 use Rattle.lp_tree.specs.Trees.{Tree, height}
 use Rattle.lp_tree.specs.Expressions.{Spells}

@@ -1,17 +1,13 @@
 -- Each expansion comes to an end.
-use Rattle.std.proofs.Common.{◌≡◌, ℕ, zero, suc, ℤ, ◌+◌, ◌≤◌, ◌<◌, Bool, true, false, List, [], ◌∷◌, Option, None, Some, refl, sym, ap, ◌∙◌, subst, arith, inl, inr}
-use Rattle.std.specs.Prelude.{nat_lt, if◌then◌else◌, length, ◌⊎◌}
-use Rattle.lp_tree.specs.declared.fault.FaultKind.{FaultKind}
+use Rattle.std.proofs.Common.{ℕ, zero, suc, ℤ, ◌≤◌, ◌<◌, Bool, true, false, List, [], ◌∷◌, Option, None, Some, refl, arith, inl, inr}
+use Rattle.std.specs.Prelude.{nat_lt, if◌then◌else◌, length}
 use Rattle.lp_tree.specs.declared.fault.FaultKind.TheVariants as faults
 use Rattle.lp_tree.specs.declared.token.Token.{Token}
-use Rattle.lp_tree.specs.declared.token.LexKind.{LexKind}
 use Rattle.lp_lexer.specs.Laws.{HasAnswer as HasTokens}
-use Rattle.lp_lexer.specs.Lexis.{IsLexed, IsFault}
 use Rattle.lp_lexer.specs.Source.{most_bytes}
 use Rattle.lp_preproc.specs.declared.word.Word.{Word}
-use Rattle.lp_preproc.specs.Conditions.{HasValue}
-use Rattle.lp_preproc.specs.State.{Setting, State, begin, Next, Goes, Ends, Fails, Asks, Reads, Tests, line_or}
-use Rattle.lp_preproc.specs.Expansion.{Outcome, Whole, Faulty, LeadsTo, ends, fails, goes, asks, asks_fault, reads, reads_fault, tests, tests_fault, next, line_at, compiled, came_out_of, opening, opening_found}
+use Rattle.lp_preproc.specs.State.{Setting, State, begin, Next, Goes, Fails, Asks, Reads, Tests, line_or}
+use Rattle.lp_preproc.specs.Expansion.{Outcome, Whole, Faulty, LeadsTo, ends, fails, goes, asks, asks_fault, reads, reads_fault, tests, tests_fault, line_at, compiled, came_out_of, opening, opening_found}
 use Rattle.lp_preproc_laws.specs.Answers.{HasAnswer}
 use Rattle.lp_preproc_laws.proofs.Decision.{HasDecision}
 use Rattle.lp_preproc_laws.proofs.Less as less

@@ -1,12 +1,8 @@
 -- Each step of an expansion goes on with less.
-use Rattle.std.proofs.Common.{◌≡◌, ℕ, ℤ, pos, ◌+◌, ◌-◌, ◌*◌, ◌≤◌, ◌<◌, max, Bool, true, false, List, [], ◌∷◌, ◌++◌, length, Option, None, Some, refl, sym, ap, ◌∙◌, subst, arith}
-use Rattle.std.specs.Prelude.{nat_lt, nat_le, ◌==◌, ◌&&◌, ◌||◌, not, if◌then◌else◌, map, reverse}
-use Rattle.std.specs.Ordering.{int_eq}
+use Rattle.std.proofs.Common.{◌≡◌, ℕ, ℤ, ◌+◌, ◌-◌, ◌*◌, ◌≤◌, ◌<◌, Bool, true, false, List, [], ◌∷◌, ◌++◌, length, Option, None, Some, refl, arith}
+use Rattle.std.specs.Prelude.{nat_lt, nat_le, ◌==◌, if◌then◌else◌, reverse}
 use Rattle.lp_tree.specs.declared.fault.FaultKind.{FaultKind}
-use Rattle.lp_tree.specs.declared.fault.FaultKind.TheVariants as faults
 use Rattle.lp_tree.specs.declared.token.Token.{Token}
-use Rattle.lp_tree.specs.declared.token.TokenKind.{TokenKind}
-use Rattle.lp_lexer.specs.Source.{most_bytes}
 use Rattle.lp_preproc.specs.declared.macros.Macro.{Macro}
 use Rattle.lp_preproc.specs.declared.word.Word.{Word}
 use Rattle.lp_preproc.specs.declared.state.Use.{Use}
@@ -18,7 +14,8 @@ use Rattle.lp_preproc.specs.declared.state.Part.TheVariants.{Opens, Closes, Part
 use Rattle.lp_preproc.specs.declared.state.Purpose.{Purpose}
 use Rattle.lp_preproc.specs.declared.state.Purpose.TheVariants as purposes
 use Rattle.lp_preproc.specs.Macros.{Table, macro_of, among}
-use Rattle.lp_preproc.specs.State.{Setting, Open, State, apart, Next, Goes, Ends, Fails, Asks, Reads, Tests}
+use Rattle.lp_preproc.specs.declared.source.Open.{Open}
+use Rattle.lp_preproc.specs.State.{Setting, State, Next, Goes, Ends, Fails, Asks, Reads, Tests}
 use Rattle.lp_preproc.specs.Uses
 
 -- ---- What is less

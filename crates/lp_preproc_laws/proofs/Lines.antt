@@ -1,8 +1,7 @@
 -- Each line and each token of a file leaves less.
-use Rattle.std.proofs.Common.{◌≡◌, ℕ, ℤ, pos, ◌+◌, ◌-◌, ◌*◌, ◌≤◌, ◌<◌, Bool, true, false, List, [], ◌∷◌, ◌++◌, length, Option, None, Some, refl, sym, ap, ◌∙◌, subst, arith}
-use Rattle.std.specs.Prelude.{nat_lt, ◌==◌, ◌&&◌, ◌||◌, not, if◌then◌else◌, map, reverse}
+use Rattle.std.proofs.Common.{◌≡◌, ℕ, pos, ◌+◌, ◌≤◌, Bool, true, false, List, [], ◌∷◌, length, Option, None, Some, refl, arith}
+use Rattle.std.specs.Prelude.{nat_lt, ◌&&◌, ◌||◌, not, if◌then◌else◌}
 use Rattle.std.specs.Ordering.{int_eq}
-use Rattle.lp_tree.specs.declared.fault.FaultKind.{FaultKind}
 use Rattle.lp_tree.specs.declared.token.Token.{Token}
 use Rattle.lp_lexer.specs.Source.{most_bytes}
 use Rattle.lp_preproc.specs.declared.macros.Macro.{Macro}
@@ -12,13 +11,13 @@ use Rattle.lp_preproc.specs.declared.directive.Directive.TheVariants as says
 use Rattle.lp_preproc.specs.declared.state.Group.{Group}
 use Rattle.lp_preproc.specs.declared.state.Stage.{Stage}
 use Rattle.lp_preproc.specs.declared.state.Stage.TheVariants.{Waiting, Live, Done}
-use Rattle.lp_preproc.specs.declared.state.Purpose.TheVariants as purposes
 use Rattle.lp_preproc.specs.Macros
-use Rattle.lp_preproc.specs.State.{Setting, Open, State, apart, Next, Goes, line_or, skips}
-use Rattle.lp_preproc.specs.Uses.{is_open, is_close, name_of, most_put_in, folder}
+use Rattle.lp_preproc.specs.declared.source.Open.{Open}
+use Rattle.lp_preproc.specs.State.{Setting, State, Next, Goes, line_or, skips}
+use Rattle.lp_preproc.specs.Uses.{name_of, most_put_in, folder}
 use Rattle.lp_preproc.specs.Directives
 use Rattle.lp_preproc.specs.Expansion
-use Rattle.lp_preproc_laws.proofs.Less.{level_of, level, room, left_in, held, light, Less, deeper, fuller, lighter, Fine, goes, ends, fails, asks, reads, tests, Below, on, either, either_by, level_most, read, ended}
+use Rattle.lp_preproc_laws.proofs.Less.{level, left_in, light, deeper, fuller, Fine, goes, fails, asks, reads, tests, on, either, either_by, level_most, read, ended}
 
 -- a state of a file: it may go to any level
 abbrev File : State → ℕ → State → Type 0
