@@ -39,7 +39,7 @@ one_outcome uniq {c} {p = p} (reads {bytes} {k = k} {ts = ts} l h) (reads {ts = 
 one_outcome uniq (reads {bytes} {ts = ts} l h) (reads_fault at kind f) = absurd (no_fault bytes ts at kind l f)
 one_outcome uniq (reads_fault at kind f) (reads {bytes} {ts = ts} l h) = absurd (no_fault bytes ts at kind l f)
 one_outcome uniq (reads_fault {bytes} {line} at kind f) (reads_fault place what g) =
-    ap (λ x. Faulty Lex (line_or line (line_at bytes x))) (same_place bytes at place kind what f g)
+    ap (λ x. Faulty Lex (line_or line (line_at bytes x))) (same_place bytes place at what kind g f)
 one_outcome uniq {c} {p = p} (tests {ws} {k = k} {z = y} v h) (tests {z = z} w g) =
     one_outcome uniq h (subst (λ x. LeadsTo c (k x) p) (sym (same_value uniq ws y z v w)) g)
 one_outcome uniq (tests {z = z} v h) (tests_fault n) = absurd (n z v)
