@@ -2,3 +2,4 @@
 #![tactic(auto)]
 
 pub mod answered;
+pub mod signs;
