@@ -1,6 +1,15 @@
 -- How the program ends statements and expressions.
 use Rattle.std.proofs.Common.{◌≡◌, refl, ap, sym, ◌∙◌, subst, Bool, true, false, not}
-use Rattle.std.specs.Prelude.{Option, Some, None, if◌then◌else◌}
+use Rattle.std.specs.Prelude.{ℕ, Box, Option, Some, None, if◌then◌else◌}
+use Rattle.std.specs.declared.alloc.Global.{Global}
+use Rattle.lp_tree.specs.declared.expr.Expr.{Expr}
+use Rattle.lp_tree.specs.declared.stmt.Stmt.{Stmt}
+use Rattle.lp_tree.specs.declared.stmt.Stmt.TheVariants as variants
+use Rattle.lp_tree.specs.declared.stmt.Stmt.TheVariants.{rolls-If}
+use Rattle.lp_tree.specs.declared.stmt.Stmt.TheOpen as layer
+use Rattle.lp_tree.specs.declared.stmt.Stmt.TheFolds.{fold-roll-Stmt}
+use Rattle.lp_tree.specs.StatementView.{stmt_of, layer_stmt}
+use Rattle.lp_tree.specs.TreeView.{tree_of}
 use Rattle.lp_tree.specs.declared.token.Mark.{Mark}
 use Rattle.lp_tree.specs.declared.token.Mark.TheVariants.{Semicolon, CloseParen}
 use Rattle.lp_tree.specs.Trees.{Tree}
@@ -57,3 +66,9 @@ paren-is (Value line) s = refl
 paren-is (First line) s = refl
 paren-is (Test line i) s = refl
 paren-is (Step line i t) s = refl
+
+pub if_only : (line : ℕ) (e : Expr) (y : Box Stmt Global) → stmt_of (variants.If line e y None) ≡ If line (tree_of e) (stmt_of y.value) NoElse
+if_only line e y = ap stmt_of (sym (rolls-If line e y None)) ∙ fold-roll-Stmt StmtTree layer_stmt (layer.If line e y None)
+
+pub if_else : (line : ℕ) (e : Expr) (y n : Box Stmt Global) → stmt_of (variants.If line e y (Some n)) ≡ If line (tree_of e) (stmt_of y.value) (Else (stmt_of n.value))
+if_else line e y n = ap stmt_of (sym (rolls-If line e y (Some n))) ∙ fold-roll-Stmt StmtTree layer_stmt (layer.If line e y (Some n))

@@ -1,5 +1,5 @@
 -- The stack as the program keeps it.
-use Rattle.std.proofs.Common.{◌≡◌, ℕ, length, take, get_or, suc, ◌+◌, ◌-◌, List, [], ◌∷◌, ◌++◌, refl, ◌<◌, ap, ◌∙◌, sym, subst, arith, Bool, true, false, cond}
+use Rattle.std.proofs.Common.{◌≡◌, ℕ, map, length, take, get_or, suc, ◌+◌, ◌-◌, List, [], ◌∷◌, ◌++◌, refl, ◌<◌, ap, ◌∙◌, sym, subst, arith, Bool, true, false, cond}
 use Rattle.std.specs.Prelude.{Option, Some, None}
 use Rattle.std.specs.Option.{option_to_list}
 use Rattle.std.proofs.lemmas.List.{take_more}
@@ -28,7 +28,7 @@ around-in (ForBody line i t p) s = refl
 around-in (EachBody line f g e) s = refl
 
 -- what stands round a statement in all of these
-round : Around → List Open → Around
+abbrev round : Around → List Open → Around
 round a [] = a
 round a (o ∷ os) = round (around_in (frame_of o.frame) a) os
 
@@ -84,3 +84,12 @@ pushed_right false ds old new o f e w a r = subst (λ l. AllRight in_function l)
 
 pub pushed_view : (s : Stack) (old new : List Open) (o : Open) (f : CodeFrame) → new ≡ old ++ o ∷ [] → o.frame ≡ f → above s new ≡ Inside (frame_of f) (above s old)
 pushed_view s old new o f e w = ap (above s) e ∙ above-push s old o ∙ ap (λ g. Inside (frame_of g) (above s old)) w
+
+pub map-push : {A B : Type 0} (f : A → B) (xs : List A) (x : A) → map f (xs ++ x ∷ []) ≡ map f xs ++ f x ∷ []
+map-push f [] x = refl
+map-push f (y ∷ ys) x = ap (λ ts. f y ∷ ts) (map-push f ys x)
+
+-- where only the function's block is open, that stays so
+pub add_view : (ds es : List StmtTree) (os : List Open) → above (InFunction ds) os ≡ InFunction ds → above (InFunction es) os ≡ InFunction es
+add_view ds es [] e = refl
+add_view ds es (o ∷ os) e = absurd (omega (arith, ap depth e, depth-above (Inside (frame_of o.frame) (InFunction ds)) os))

@@ -35,6 +35,7 @@ pub fn switch_of(switching: Switching) -> Stmt
 }
 
 // `if (test) yes`, where no `else` follows.
+#[tactic(auto, using(crate::proofs::Ends::if_only))]
 fn end_yes(
     alloc: Global,
     line: u32,
@@ -57,6 +58,7 @@ fn end_yes(
 }
 
 // `if (test) yes else no`
+#[tactic(auto, using(crate::proofs::Ends::if_else))]
 fn end_no(
     alloc: Global,
     line: u32,
