@@ -5,4 +5,4 @@ pub mod Viable
 pub mod Main
 pub mod Replies
 pub mod Readings
-pub mod Bodies
+pub mod Steps

@@ -5,7 +5,10 @@ use std::test::Fail;
 /// Sources, and what they spell.
 const UNITS: [(&str, &str); 24] = [
     ("", ""),
-    ("inherit \"/a\";\n inherit\n\"b\";", "inherit@1 /a; inherit@2 b; "),
+    (
+        "inherit \"/a\";\n inherit\n\"b\";",
+        "inherit@1 /a; inherit@2 b; ",
+    ),
     // A prototype stands before an `inherit` and behind it.
     (
         "int f();\ninherit \"a\";\nf(b);\nint c;",
@@ -29,7 +32,7 @@ const UNITS: [(&str, &str); 24] = [
     // Parameters with types and without.
     (
         "f(a,\nint b, string *c, mapping **d) {}",
-        "fun@1 f(@1 a,@2 Int b,@2 String* c,@2 Mapping** d,) {@1 } ",
+        "fun@1 f(@1 a,@2 Int b,@2 String* c,@2 Mapping** d,) {@2 } ",
     ),
     ("void f()\n{\n;\n}", "fun@1 Void f() {@2 ;@3 } "),
     (
@@ -133,22 +136,43 @@ const FAULTS: [(&str, &str); 44] = [
     ("f() { }\n}", "unexpected token in line 2"),
     // A label stands in a `switch` alone.
     ("f() {\ncase 1: ; }", "unexpected token in line 2"),
-    ("f() { switch (a) { {\ndefault: ; } } }", "unexpected token in line 2"),
-    ("f() { switch (a) { if (b)\ncase 1: ; } }", "unexpected token in line 2"),
+    (
+        "f() { switch (a) { {\ndefault: ; } } }",
+        "unexpected token in line 2",
+    ),
+    (
+        "f() { switch (a) { if (b)\ncase 1: ; } }",
+        "unexpected token in line 2",
+    ),
     // A range has two integers.
-    ("f() { switch (a) { case \"a\"\n.. \"b\": ; } }", "unexpected token in line 2"),
-    ("f() { switch (a) { case 1 ..\n\"b\": ; } }", "unexpected token in line 2"),
-    ("f() { switch (a) { case -\n\"b\": ; } }", "unexpected token in line 2"),
+    (
+        "f() { switch (a) { case \"a\"\n.. \"b\": ; } }",
+        "unexpected token in line 2",
+    ),
+    (
+        "f() { switch (a) { case 1 ..\n\"b\": ; } }",
+        "unexpected token in line 2",
+    ),
+    (
+        "f() { switch (a) { case -\n\"b\": ; } }",
+        "unexpected token in line 2",
+    ),
     // What is left has to be there.
     ("f() {\nbreak; }", "unexpected token in line 2"),
     ("f() {\ncontinue; }", "unexpected token in line 2"),
-    ("f() { switch (a) { default:\ncontinue; } }", "unexpected token in line 2"),
+    (
+        "f() { switch (a) { default:\ncontinue; } }",
+        "unexpected token in line 2",
+    ),
     ("f() { while (a) ;\nbreak; }", "unexpected token in line 2"),
     ("f() { if (a) ; ;\nelse ; }", "unexpected token in line 2"),
     ("f() { if (a)\nelse ; }", "unexpected token in line 2"),
     ("f() { if (a)\n}", "unexpected token in line 2"),
     ("f() { if (a)\nint\nb\n}", "unexpected token in line 4"),
-    ("f() { foreach (a, b\n, c : d) ; }", "unexpected token in line 2"),
+    (
+        "f() { foreach (a, b\n, c : d) ; }",
+        "unexpected token in line 2",
+    ),
     ("f() { do ;\n; }", "unexpected token in line 2"),
     ("f() { return\nwhile", "unexpected token in line 2"),
 ];

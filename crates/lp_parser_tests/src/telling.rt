@@ -123,8 +123,14 @@ fn tell_init(init: &Init, out: &mut String) -> Result<(), Fail> {
 
 fn tell_label(label: &Label, out: &mut String) -> Result<(), Fail> {
     match label {
-        Label::Case { line, value: Constant::Int(value) } => write!(out, "case@{line} {value}: ")?,
-        Label::Case { line, value: Constant::Text(text) } => {
+        Label::Case {
+            line,
+            value: Constant::Int(value),
+        } => write!(out, "case@{line} {value}: ")?,
+        Label::Case {
+            line,
+            value: Constant::Text(text),
+        } => {
             write!(out, "case@{line} \"")?;
             tell_name(text, out)?;
             out.push_str("\": ")?;
@@ -336,6 +342,19 @@ pub fn told(alloc: Global, tokens: &[Token]) -> Result<String, Fail>
             }
         }
         Err(fault) => write!(out, "{fault}")?,
+    }
+    Ok(out)
+}
+
+/// The fault of a source, or nothing where it is a unit.
+pub fn fault_of(rt: &impl Abort, alloc: Global, source: &str) -> Result<String, Fail> {
+    let bytes = source.as_bytes();
+    assert!(rt; bytes.len() <= 16777216);
+    let tokens = lex(alloc, bytes)?;
+    law_unsigned();
+    let mut out = String::new(alloc);
+    if let Err(fault) = parse(alloc, tokens.as_slice()) {
+        write!(out, "{fault}")?;
     }
     Ok(out)
 }
