@@ -80,7 +80,11 @@ pub fn need_param(
     };
     match sort {
         Sort::Mark(Mark::CloseParen) => Ok(Some(Focus::HaveParams(header))),
-        other => next_param(header, line, other),
+        Sort::Name(name) => named(header, line, None, name),
+        Sort::Reserved(Keyword::Base(base)) => {
+            Ok(Some(Focus::ParamStars(header, line, TypeName { base, stars: 0 })))
+        }
+        _ => Ok(None),
     }
 }
 
