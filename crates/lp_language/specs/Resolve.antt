@@ -8,7 +8,8 @@ use Rattle.lp_tree.specs.Statements.{DeclaratorTree, StmtTrees}
 use Rattle.lp_values.specs.declared.id.ObjId.{ObjId}
 use Rattle.lp_values.specs.declared.id.ProgId.{ProgId}
 use Rattle.lp_instr.specs.EfunList.{is_name}
-use Rattle.lp_language.specs.World.{World, Version, is_object, object_at, version_at}
+use Rattle.lp_language.specs.World.{World, Version, object_at, version_at}
+use Rattle.lp_places.specs.Places.{is_object, shadows_of}
 use Rattle.lp_language.specs.Course.{Scene}
 
 -- the first that is there
@@ -312,12 +313,9 @@ abbrev pub callable_found : Bool → Option Found → Option Found
 callable_found is_self None = None
 callable_found is_self (Some f) = if is_callable is_self f.function.modifiers then Some f else None
 
--- The shadows of an object, from the outermost inwards, and then the object itself.
-abbrev pub shadows_of : World → ObjId → List ObjId
-shadows_of w o = map (λ s. s.shadow) (filter (λ s. is_object s.victim o) w.shadows)
-
+-- the shadows of an object, from the outermost inwards, and then the object itself
 abbrev pub chain_of : World → ObjId → List ObjId
-chain_of w o = shadows_of w o ++ o ∷ []
+chain_of w o = shadows_of w.shadows o ++ o ∷ []
 
 -- what comes behind an object in a list
 abbrev pub behind : ObjId → List ObjId → List ObjId
@@ -326,7 +324,7 @@ behind c (x ∷ xs) = if is_object x c then xs else behind c xs
 
 -- The search of a call_other begins just inside the caller where the caller shadows the target.
 abbrev pub searched : World → ObjId → ObjId → List ObjId
-searched w caller o = if list_any (is_object caller) (shadows_of w o) then behind caller (chain_of w o) else chain_of w o
+searched w caller o = if list_any (is_object caller) (shadows_of w.shadows o) then behind caller (chain_of w o) else chain_of w o
 
 -- an object and the function that a call reaches there
 pub record Target : Type 0 where

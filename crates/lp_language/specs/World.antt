@@ -10,6 +10,9 @@ use Rattle.lp_values.specs.declared.value.Value.TheVariants.{Int, Obj}
 use Rattle.lp_values.specs.Read.{as_read}
 use Rattle.lp_cells.specs.Cells.{Store, IsThere}
 use Rattle.lp_instr.specs.EfunList.{is_name}
+use Rattle.lp_places.specs.Places.{Lying, Shadowing}
+use Rattle.lp_actions.specs.Actions.{Sentence}
+use Rattle.lp_timers.specs.Timers.{CallOut, Beat, Watching}
 
 -- A file: its path and its bytes. A path stands once in the list of files.
 pub record File : Type 0 where
@@ -35,49 +38,6 @@ pub record Object : Type 0 where
   pub is_living : Bool
   pub variables : List Value
   pub latest : ℕ
-
--- an object lies in another
-pub record Lying : Type 0 where
-  pub item : ObjId
-  pub place : ObjId
-
--- an object shadows another
-pub record Shadowing : Type 0 where
-  pub shadow : ObjId
-  pub victim : ObjId
-
--- An action: who may do it, whose function it is, that function and the verb, and whether a front of what is typed
--- is enough.
-pub record Sentence : Type 0 where
-  pub number : ℕ
-  pub holder : ObjId
-  pub giver : ObjId
-  pub function : List ℕ
-  pub verb : List ℕ
-  pub is_front : Bool
-
--- a call that waits for a moment
-pub record CallOut : Type 0 where
-  pub number : ℕ
-  pub object : ObjId
-  pub function : List ℕ
-  pub due : ℕ
-  pub arguments : List Value
-
--- a heart beat, with its next moment
-pub record Beat : Type 0 where
-  pub object : ObjId
-  pub next : ℕ
-
-pub data WatchKind : Type 0 where
-  Reset : WatchKind
-  CleanUp : WatchKind
-
--- a `reset` or a `clean_up` that is to come
-pub record Watching : Type 0 where
-  pub object : ObjId
-  pub kind : WatchKind
-  pub next : ℕ
 
 -- an open connection and the object that has it
 pub record Connection : Type 0 where
@@ -120,10 +80,6 @@ pub record World : Type 0 where
   pub next_clone : ℕ
   pub next_sentence : ℕ
   pub next_call_out : ℕ
-
--- whether two serials are one
-abbrev pub is_object : ObjId → ObjId → Bool
-is_object a b = nat_eq a.0 b.0
 
 -- an object or a version that is not there reads as one without anything
 abbrev pub no_pragmas : Pragmas

@@ -16,7 +16,7 @@ use Rattle.lp_language.specs.Course.{Scene, State, Failed, Other, Command, Cours
 use Rattle.lp_language.specs.Operations.{is_false, finished}
 use Rattle.lp_language.specs.Afterwards.{After}
 use Rattle.lp_language.proofs.Prices.{finished_after}
-use Rattle.lp_meaning.specs.Places.{environment, inventory, is_at}
+use Rattle.lp_places.specs.Places.{environment, inventory, is_at}
 use Rattle.lp_meaning.specs.WorldSteps.{as_name, load_name, version_of_object}
 use Rattle.lp_meaning.specs.Askers.{Asker, ask_value, told, for_player, tell}
 use Rattle.lp_meaning.specs.FileLoads.{text_target, as_target, live_object, master_call}

@@ -1,5 +1,4 @@
 -- Efuns lose nothing and win no budget.
-use Rattle.lp_meaning.specs.Limits.{max_call_outs}
 use Rattle.std.proofs.Common.{◌≡◌, ℕ, Bool, true, false, cond, List, [], ◌∷◌, Option, Some, None, refl}
 use Rattle.std.specs.Prelude.{ℤ, ◌%◌, pos, negsuc, not, drop, nat_eq, nat_lt, length}
 use Rattle.std.specs.Ordering.{int_eq}
@@ -19,12 +18,13 @@ use Rattle.lp_ops.specs.Operands.{Opened, Number, Chars, Array, Mapping, Object}
 use Rattle.lp_events.specs.declared.out.Out.TheVariants as outs
 use Rattle.lp_instr.specs.declared.efun.Efun.{Efun}
 use Rattle.lp_instr.specs.declared.efun.Efun.TheVariants.{ThisObject, ThisPlayer, ThisInteractive, PreviousObject, CallOther, CloneObject, LoadObject, FindObject, Destruct, ObjectName, LoadName, ProgramName, Clonep, Objectp, Intp, Stringp, Pointerp, Mappingp, Living, Interactive, FunctionExists, EnableCommands, Shadow, QueryShadowing, Unshadow, Environment, AllInventory, FirstInventory, NextInventory, Present, MoveObject, AddAction, Command, QueryVerb, NotifyFail, InputTo, Write, TellObject, TellRoom, Say, Printf, Users, Exec, RemoveInteractive, Time, SetHeartBeat, CallOut, RemoveCallOut, FindCallOut, Random, Throw, RaiseError, Strlen, Explode, Implode, LowerCase, UpperCase, Capitalize, Strstr, Trim, Sprintf, Sscanf, ToInt, ToString, Sizeof, Allocate, Member, Copy, Filter, Map, MIndices, MValues, MDelete, Mkmapping, Min, Max, Abs, ReadFile, WriteFile, FileSize, Rm, SaveObject, RestoreObject}
-use Rattle.lp_language.specs.World.{World, CallOut as CallOutOf, Keeps, object_at, is_live}
+use Rattle.lp_language.specs.World.{World, Keeps, object_at, is_live}
+use Rattle.lp_timers.specs.Timers.{CallOut as CallOutOf}
 use Rattle.lp_language.specs.Course.{AreSameCommands, Typed, Scene, State}
 use Rattle.lp_language.specs.Operations.{with_world, with_store, cells_of, living}
 use Rattle.lp_language.specs.Afterwards.{After}
 use Rattle.lp_language.proofs.Kept.{keeps_pairs, commands_trans}
-use Rattle.lp_meaning.specs.Timers.{beats, beat_off, beat_on, earliest}
+use Rattle.lp_timers.specs.Timers.{max_call_outs, beats, beat_off, beat_on, earliest}
 use Rattle.lp_meaning.specs.WorldSteps.{connection_of, is_connected, destructed, destruction, with_holder, without_connection}
 use Rattle.lp_meaning.specs.Askers.{told}
 use Rattle.lp_meaning.specs.EfunArguments.{arg, int_arg, text_arg, object_arg, value_arg}

@@ -1,6 +1,6 @@
 -- Efuns on files lose nothing and win no budget: what is restored makes new cells alone.
 use Rattle.lp_values.specs.Limits.{max_items}
-use Rattle.lp_meaning.specs.Limits.{max_saved_levels}
+use Rattle.lp_save.specs.SaveText.{max_saved_levels}
 use Rattle.std.proofs.Common.{◌≡◌, ℕ, zero, suc, ◌+◌, ◌*◌, ◌<◌, ◌≤◌, Bool, true, false, cond, List, [], ◌∷◌, ◌++◌, Option, Some, None, refl, ap, ◌∙◌, arith, length, length-append, unwrap_or, map}
 use Rattle.std.specs.Prelude.{codes, slice_get, nat_eq, nat_lt, drop, ◌&&◌, ◌||◌, is_some, slice_index, encode_utf8_all, pos, chars}
 use Rattle.std.specs.List.{before_first}
@@ -34,7 +34,7 @@ use Rattle.lp_meaning.proofs.Worlds.{keeps_these, keeps_object}
 use Rattle.lp_meaning.proofs.Stays.{after_world, then_stays, cond_stays}
 use Rattle.lp_meaning.proofs.StayLoads.{master_stays}
 use Rattle.lp_meaning.specs.FileEfuns.{is_path, path_answered, this_value, with_leave, bytes_of, read_value, size_value, or_empty, written_to, without_file, removed, named_value, saved_of, saved_bytes, saving, with_values, with_variables, restored, restoring_from, restoring, with_o, files}
-use Rattle.lp_meaning.specs.SaveText.{Rest, Reading, then_read, left, begins, needed, digits_at, is_number, number_read, int_of, int_read, text_read, as_text, next_cell, cell_begun, array_done, mapping_done, shared_cell, value_of_cell, value_read, cell_read, items_read, pairs_read, whole, Line, named, line_of, line_read, Lines, Read, Faulty, lines_read, is_header, is_variable_name, all_lines, restored_from, Restored, Values, FaultyLine, saved_text, restored_text}
+use Rattle.lp_save.specs.SaveText.{Rest, Reading, then_read, left, begins, needed, digits_at, is_number, number_read, int_of, int_read, text_read, as_text, next_cell, cell_begun, array_done, mapping_done, shared_cell, value_of_cell, value_read, cell_read, items_read, pairs_read, whole, Line, named, line_of, line_read, Lines, Read, Faulty, lines_read, is_header, is_variable_name, all_lines, restored_from, Restored, Values, FaultyLine, saved_text, restored_text}
 
 -- cells that grew: those that were there are there, each of its kind
 record Grows (old new : Store) : Type 0 where

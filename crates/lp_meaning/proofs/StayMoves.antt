@@ -6,13 +6,14 @@ use Rattle.lp_values.specs.declared.value.Value.{Value}
 use Rattle.lp_values.specs.declared.value.Value.TheVariants.{Int, Str}
 use Rattle.lp_values.specs.Errors.{plain}
 use Rattle.lp_events.specs.declared.out.Out.TheVariants as outs
-use Rattle.lp_language.specs.World.{Sentence, is_live}
+use Rattle.lp_language.specs.World.{is_live}
+use Rattle.lp_actions.specs.Actions.{Sentence}
 use Rattle.lp_language.specs.Course.{AreSameCommands, Typed, State, Failed, End, Gives, Stops, Apply, Ask, Course, Over, Asks, and_then, in_any_case, gives, stops, zero_value}
 use Rattle.lp_language.specs.Afterwards.{After, EndsAfter}
 use Rattle.lp_language.specs.Operations.{is_false}
 use Rattle.lp_language.proofs.Prices.{after_same}
-use Rattle.lp_meaning.specs.Places.{Init, moved, may_move, inits_of_move}
-use Rattle.lp_meaning.specs.Actions.{holds, matching, verb_of, argument_in}
+use Rattle.lp_places.specs.Places.{Init, moved, may_move, inits_of_move}
+use Rattle.lp_actions.specs.Actions.{holds, matching, verb_of, argument_in}
 use Rattle.lp_meaning.specs.WorldSteps.{connection_of}
 use Rattle.lp_meaning.specs.Askers.{Asker, asker_of, state_of, ask_value, told, for_player, tell}
 use Rattle.lp_meaning.specs.MovesAndCommands.{moved_world, may_init, inits, move_error, moving, fail_text, argument_value, trying, without_command, commanding, command_call}

@@ -10,13 +10,14 @@ use Rattle.lp_events.specs.declared.event.Event.{Event}
 use Rattle.lp_events.specs.declared.event.Event.TheVariants.{Connect, Line, Gone, Tick, Reload, Swap}
 use Rattle.lp_events.specs.declared.out.Out.{Out}
 use Rattle.lp_events.specs.declared.out.Out.TheVariants as outs
-use Rattle.lp_language.specs.World.{File, World, Keeps, CallOut, CleanUp, Reset, Waiting, is_live, new_world, object_named}
+use Rattle.lp_language.specs.World.{File, World, Keeps, Waiting, is_live, new_world, object_named}
+use Rattle.lp_timers.specs.Timers.{CallOut, CleanUp, Reset}
 use Rattle.lp_language.specs.Course.{State, End, Gives, Stops, Apply, Command, Load, Wanted, Reply, Plain, WasRead, IsSound, IsFaulty, Outcome, CanAnswer, Course, Over, Asks, Entry, Fits, and_then, in_any_case, gives, zero_value}
 use Rattle.lp_language.specs.Afterwards.{EndsAfter}
 use Rattle.lp_language.specs.Operations.{is_false}
 use Rattle.lp_language.proofs.Kept.{keeps_same, keeps_trans}
 use Rattle.lp_language.proofs.Prices.{after_same}
-use Rattle.lp_meaning.specs.Timers.{due_at, waits, beats_at, beats_by, watched_at, is_watched}
+use Rattle.lp_timers.specs.Timers.{due_at, waits, beats_at, beats_by, watched_at, is_watched}
 use Rattle.lp_meaning.specs.WorldSteps.{as_name, master_name, was_made, holder_of, is_open, with_connection, without_connection, reloaded}
 use Rattle.lp_meaning.specs.Askers.{driver, ask_reply, ask_value, told}
 use Rattle.lp_meaning.specs.FileLoads.{text_target, loaded_value}

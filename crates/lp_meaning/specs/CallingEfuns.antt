@@ -16,7 +16,7 @@ use Rattle.lp_language.specs.World.{World, is_live, object_at}
 use Rattle.lp_language.specs.Course.{Scene, State, Failed, Other, Command, Course, Over, and_then, gives, stops, zero_value}
 use Rattle.lp_language.specs.Operations.{finished, is_false}
 use Rattle.lp_language.specs.Resolve.{Found, function_of, heritage_of, is_nomask, names_in}
-use Rattle.lp_meaning.specs.Places.{is_at, environment, inventory, may_shadow, shadowed}
+use Rattle.lp_places.specs.Places.{is_at, environment, inventory, may_shadow, shadowed}
 use Rattle.lp_meaning.specs.WorldSteps.{as_name, load_name, version_of_object}
 use Rattle.lp_meaning.specs.Askers.{Asker, ask_value, for_player, tell, told}
 use Rattle.lp_meaning.specs.FileLoads.{text_target, as_target, live_object, clone_of, master_call}

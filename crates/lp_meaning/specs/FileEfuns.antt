@@ -1,5 +1,5 @@
 -- Efuns on files, with the leave of the master, and saving and restoring.
-use Rattle.lp_meaning.specs.SaveText.{Restored, Values, FaultyLine, saved_text, restored_text}
+use Rattle.lp_save.specs.SaveText.{Restored, Values, FaultyLine, saved_text, restored_text}
 use Rattle.lp_values.specs.Limits.{max_code_points}
 use Rattle.std.specs.Prelude.{ℕ, suc, List, [], ◌∷◌, ◌++◌, length, drop, map, Bool, not, ◌&&◌, Option, Some, None, is_some, nat_eq, nat_le, nat_lt, pos, negsuc, chars, codes, encode_utf8_all, slice_get, slice_index, slice_set, unwrap_or, if◌then◌else◌}
 use Rattle.std.specs.List.{list_all}

@@ -1,7 +1,4 @@
 pub mod Limits
-pub mod Places
-pub mod Actions
-pub mod Timers
 pub mod WorldSteps
 pub mod Askers
 pub mod FunctionCalls
@@ -12,7 +9,6 @@ pub mod ComputingEfuns
 pub mod WorldEfuns
 pub mod CallingEfuns
 pub mod FileEfuns
-pub mod SaveText
 pub mod Questions
 pub mod EventTurns
 pub mod Ticks

@@ -5,10 +5,6 @@ use Rattle.std.specs.Prelude.{ℕ}
 abbrev pub max_live : ℕ
 max_live = 100000
 
--- how many call-outs may wait
-abbrev pub max_call_outs : ℕ
-max_call_outs = 100000
-
 -- how many connections may be open
 abbrev pub max_connections : ℕ
 max_connections = 200
@@ -20,10 +16,6 @@ max_depth = 100
 -- how many loads for an `inherit` may lead to one, one after another
 abbrev pub max_nested : ℕ
 max_nested = 64
-
--- how deep saved values may lie in one another
-abbrev pub max_saved_levels : ℕ
-max_saved_levels = 100
 
 -- the budget of each call of the driver
 abbrev pub full_budget : ℕ

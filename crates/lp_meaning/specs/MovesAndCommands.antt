@@ -6,11 +6,12 @@ use Rattle.lp_values.specs.declared.value.Value.TheVariants.{Int, Str}
 use Rattle.lp_values.specs.declared.error.ErrorKind.{ErrorKind}
 use Rattle.lp_values.specs.declared.error.ErrorKind.TheVariants as kinds
 use Rattle.lp_values.specs.Errors.{plain}
-use Rattle.lp_language.specs.World.{World, Sentence, object_at, is_live}
+use Rattle.lp_language.specs.World.{World, object_at, is_live}
+use Rattle.lp_actions.specs.Actions.{Sentence}
 use Rattle.lp_language.specs.Operations.{is_false}
 use Rattle.lp_language.specs.Course.{State, Typed, Failed, End, Gives, Stops, Apply, Ask, Reply, Course, Over, and_then, in_any_case, gives, stops, zero_value}
-use Rattle.lp_meaning.specs.Places.{Init, MoveNo, IsShadow, WouldContainItself, is_at, environment, moved, may_move, inits_of_move}
-use Rattle.lp_meaning.specs.Actions.{holds, kept_in_reach, matching, verb_of, argument_in}
+use Rattle.lp_places.specs.Places.{Init, MoveNo, IsShadow, WouldContainItself, is_at, environment, moved, may_move, inits_of_move}
+use Rattle.lp_actions.specs.Actions.{holds, kept_in_reach, matching, verb_of, argument_in}
 use Rattle.lp_meaning.specs.Askers.{Asker, asker_of, state_of, ask_value, plainly, for_player, tell}
 
 -- the world after a move; each action whose giver is then out of reach is dropped

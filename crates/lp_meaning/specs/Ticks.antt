@@ -5,10 +5,11 @@ use Rattle.lp_values.specs.declared.value.Value.{Value}
 use Rattle.lp_values.specs.declared.value.Value.TheVariants.{Int}
 use Rattle.lp_events.specs.declared.event.Event.{Event}
 use Rattle.lp_events.specs.declared.event.Event.TheVariants.{Connect, Line, Gone, Tick, Reload, Swap}
-use Rattle.lp_language.specs.World.{CallOut, WatchKind, Reset, CleanUp, World, object_at, is_live}
+use Rattle.lp_language.specs.World.{World, object_at, is_live}
+use Rattle.lp_timers.specs.Timers.{CallOut, WatchKind, Reset, CleanUp}
 use Rattle.lp_language.specs.Operations.{is_false}
 use Rattle.lp_language.specs.Course.{State, Course, and_then}
-use Rattle.lp_meaning.specs.Timers.{due_at, waits, without_call_out, beats_at, beats_by, beat_next, beat_off, watched_at, is_watched, watch_next, watch_time, unwatched}
+use Rattle.lp_timers.specs.Timers.{due_at, waits, without_call_out, beats_at, beats_by, beat_next, beat_off, watched_at, is_watched, watch_next, watch_time, unwatched}
 use Rattle.lp_meaning.specs.WorldSteps.{is_clone_name}
 use Rattle.lp_meaning.specs.MovesAndCommands.{is_living}
 use Rattle.lp_meaning.specs.EventTurns.{Done, driver_apply, done, connect_turn, line_turn, gone_turn, reload_turn}

@@ -1,5 +1,4 @@
 -- Efuns that look at the world or change it, and call no LPC.
-use Rattle.lp_meaning.specs.Limits.{max_call_outs}
 use Rattle.std.specs.Prelude.{ℕ, ℤ, pos, negsuc, ◌+◌, ◌-◌, ◌%◌, List, [], ◌∷◌, ◌++◌, length, drop, map, Bool, true, not, ◌&&◌, Option, Some, None, is_some, slice_get, nat_eq, nat_lt, if◌then◌else◌}
 use Rattle.std.specs.List.{list_any}
 use Rattle.std.specs.Ordering.{int_eq}
@@ -22,13 +21,14 @@ use Rattle.lp_ops.specs.Operands.{Opened, Mapping}
 use Rattle.lp_ops.specs.Operators.{text, array}
 use Rattle.lp_instr.specs.declared.efun.Efun.{Efun}
 use Rattle.lp_instr.specs.declared.efun.Efun.TheVariants.{ThisObject, ThisPlayer, ThisInteractive, PreviousObject, FindObject, Destruct, ObjectName, LoadName, ProgramName, Living, Interactive, FunctionExists, EnableCommands, QueryShadowing, Unshadow, Environment, AllInventory, FirstInventory, NextInventory, AddAction, QueryVerb, NotifyFail, InputTo, Users, Exec, RemoveInteractive, Time, SetHeartBeat, CallOut, RemoveCallOut, FindCallOut, Random, Throw, RaiseError, MDelete}
-use Rattle.lp_language.specs.World.{Object as ObjectOf, Beat, World, is_live, object_at, object_named, object_value, with_object}
-use Rattle.lp_language.specs.World.{CallOut as CallOutOf}
+use Rattle.lp_language.specs.World.{Object as ObjectOf, World, is_live, object_at, object_named, object_value, with_object}
+use Rattle.lp_timers.specs.Timers.{Beat}
+use Rattle.lp_timers.specs.Timers.{CallOut as CallOutOf}
 use Rattle.lp_language.specs.Course.{Scene, State, Typed}
 use Rattle.lp_language.specs.Operations.{living, cells_of, with_store, with_world}
 use Rattle.lp_language.specs.Resolve.{Found, function_of, is_private, heritage_of, part_at, version_of, without_c}
-use Rattle.lp_meaning.specs.Places.{environment, in_reach, inventory, next_in, shadowing, unshadowed}
-use Rattle.lp_meaning.specs.Timers.{beats, beat_on, beat_off, earliest, without_call_out}
+use Rattle.lp_places.specs.Places.{environment, in_reach, inventory, next_in, shadowing, unshadowed}
+use Rattle.lp_timers.specs.Timers.{max_call_outs, beats, beat_on, beat_off, earliest, without_call_out}
 use Rattle.lp_meaning.specs.WorldSteps.{as_name, load_name, version_of_object, connection_of, is_connected, with_holder, without_connection, destructed, destruction}
 use Rattle.lp_meaning.specs.Askers.{told}
 use Rattle.lp_meaning.specs.EfunArguments.{arg, int_arg, text_arg, object_arg, object_in, value_arg, bad}

@@ -8,11 +8,13 @@ use Rattle.lp_values.specs.declared.value.Value.TheVariants.{Int}
 use Rattle.lp_events.specs.declared.out.Out.{Out}
 use Rattle.lp_events.specs.declared.out.Out.TheVariants as outs
 use Rattle.lp_instr.specs.EfunList.{is_name}
-use Rattle.lp_language.specs.World.{File, Version, Object, Connection, WatchKind, Reset, CleanUp, Watching, World, is_object, object_at, version_at, is_live, object_named, with_object, with_version}
+use Rattle.lp_language.specs.World.{File, Version, Object, Connection, World, object_at, version_at, is_live, object_named, with_object, with_version}
+use Rattle.lp_timers.specs.Timers.{WatchKind, Reset, CleanUp, Watching}
+use Rattle.lp_places.specs.Places.{is_object}
 use Rattle.lp_language.specs.Resolve.{heritage, resolve, variable_count, without_c}
-use Rattle.lp_meaning.specs.Places.{places_without, shadows_without}
-use Rattle.lp_meaning.specs.Actions.{kept_in_reach, sentences_without}
-use Rattle.lp_meaning.specs.Timers.{call_outs_without, beat_off, watches_without, watch_time}
+use Rattle.lp_places.specs.Places.{places_without, shadows_without}
+use Rattle.lp_actions.specs.Actions.{kept_in_reach, sentences_without}
+use Rattle.lp_timers.specs.Timers.{call_outs_without, beat_off, watches_without, watch_time}
 
 -- Names
 

@@ -9,7 +9,7 @@ use Rattle.lp_meaning.specs.FileEfuns.{files}
 use Rattle.lp_meaning.specs.ComputingEfuns.{computes}
 use Rattle.lp_meaning.specs.WorldEfuns.{deed}
 use Rattle.lp_language.specs.Operations.{is_false, unary, binary, item, range, stepped, new_array, new_mapping, put_item, local_of, with_local, global_of, with_global, copied, row_at, scan, labelled}
-use Rattle.lp_meaning.specs.SaveText.{saved_text, restored_text}
+use Rattle.lp_save.specs.SaveText.{saved_text, restored_text}
 use Rattle.lp_values.specs.Errors.{error_text}
 use Rattle.lp_format.specs.Forms.{marked, marked_len}
 use Rattle.lp_format.specs.Spelled.{deepest}

@@ -12,9 +12,9 @@ use Rattle.lp_instr.specs.EfunList.{is_name}
 use Rattle.lp_language.specs.World.{World}
 use Rattle.lp_language.specs.Course.{Scene, State, End, Gives, Stops, Asked, Internal, Apply, Other, Command, OfEfun, Ask, Reply, Course, Over, and_then, in_any_case, gives, zero_value}
 use Rattle.lp_language.specs.Resolve.{Found, Part, heritage_of, part_at, function_of, resolve, moved, is_private, is_protected}
-use Rattle.lp_meaning.specs.Places.{Init, inventory}
-use Rattle.lp_meaning.specs.Actions.{matching, verb_of, argument_in}
-use Rattle.lp_meaning.specs.Timers.{due_at}
+use Rattle.lp_places.specs.Places.{Init, inventory}
+use Rattle.lp_actions.specs.Actions.{matching, verb_of, argument_in}
+use Rattle.lp_timers.specs.Timers.{due_at}
 use Rattle.lp_meaning.specs.WorldSteps.{holder_of}
 use Rattle.lp_meaning.specs.Askers.{Asker, asker_of, state_of, driver, ask_value, plainly}
 use Rattle.lp_meaning.specs.FunctionCalls.{callers_behind, calling_if, nothing_called}

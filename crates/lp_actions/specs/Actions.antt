@@ -3,8 +3,17 @@ use Rattle.std.specs.Prelude.{ℕ, List, [], ◌∷◌, Bool, not, nat_eq, ◌&&
 use Rattle.std.specs.Cmp.Lexicographic.{pointwise}
 use Rattle.std.specs.List.{list_any, starts_with, before_first}
 use Rattle.lp_values.specs.declared.id.ObjId.{ObjId}
-use Rattle.lp_language.specs.World.{Lying, Sentence, is_object}
-use Rattle.lp_meaning.specs.Places.{in_reach}
+use Rattle.lp_places.specs.Places.{Lying, in_reach, is_object}
+
+-- An action: who may do it, whose function it is, that function and the verb, and whether a front of what is typed
+-- is enough.
+pub record Sentence : Type 0 where
+  pub number : ℕ
+  pub holder : ObjId
+  pub giver : ObjId
+  pub function : List ℕ
+  pub verb : List ℕ
+  pub is_front : Bool
 
 -- an action matches where its verb is equal, or with the flag where it is a prefix of the typed one
 abbrev pub matches : List ℕ → Sentence → Bool

@@ -3,7 +3,34 @@ use Rattle.std.specs.Prelude.{ℕ, ◌+◌, List, [], ◌∷◌, ◌++◌, Bool,
 use Rattle.std.specs.Cmp.Lexicographic.{pointwise}
 use Rattle.std.specs.List.{list_any}
 use Rattle.lp_values.specs.declared.id.ObjId.{ObjId}
-use Rattle.lp_language.specs.World.{CallOut, Beat, WatchKind, Reset, CleanUp, Watching, is_object}
+use Rattle.lp_values.specs.declared.value.Value.{Value}
+
+-- how many call-outs may wait
+abbrev pub max_call_outs : ℕ
+max_call_outs = 100000
+
+-- a call that waits for a moment
+pub record CallOut : Type 0 where
+  pub number : ℕ
+  pub object : ObjId
+  pub function : List ℕ
+  pub due : ℕ
+  pub arguments : List Value
+
+-- a heart beat, with its next moment
+pub record Beat : Type 0 where
+  pub object : ObjId
+  pub next : ℕ
+
+pub data WatchKind : Type 0 where
+  Reset : WatchKind
+  CleanUp : WatchKind
+
+-- a `reset` or a `clean_up` that is to come
+pub record Watching : Type 0 where
+  pub object : ObjId
+  pub kind : WatchKind
+  pub next : ℕ
 
 -- A call-out among others that stand by their moment: behind those that are due no later.
 abbrev pub placed_by_due : CallOut → List CallOut → List CallOut
@@ -33,15 +60,15 @@ first_call_out (c ∷ cs) = Some c
 
 -- the earliest call-out of a function of an object, if there is one
 abbrev pub earliest : List CallOut → ObjId → List ℕ → Option CallOut
-earliest cs o fun = first_call_out (by_due (filter (λ c. is_object c.object o && pointwise nat_eq c.function fun) cs))
+earliest cs o fun = first_call_out (by_due (filter (λ c. nat_eq c.object.0 o.0 && pointwise nat_eq c.function fun) cs))
 
 -- the call-outs of an object end with it
 abbrev pub call_outs_without : List CallOut → ObjId → List CallOut
-call_outs_without cs o = filter (λ c. not (is_object c.object o)) cs
+call_outs_without cs o = filter (λ c. not (nat_eq c.object.0 o.0)) cs
 
 -- the heart of an object beats
 abbrev pub beats : List Beat → ObjId → Bool
-beats bs o = list_any (λ b. is_object b.object o) bs
+beats bs o = list_any (λ b. nat_eq b.object.0 o.0) bs
 
 -- a heart is switched on: the first beat is two seconds later
 abbrev pub beat_on : List Beat → ObjId → ℕ → List Beat
@@ -49,7 +76,7 @@ beat_on bs o now = bs ++ record { object = o; next = now + 2 } ∷ []
 
 -- a heart is switched off
 abbrev pub beat_off : List Beat → ObjId → List Beat
-beat_off bs o = filter (λ b. not (is_object b.object o)) bs
+beat_off bs o = filter (λ b. not (nat_eq b.object.0 o.0)) bs
 
 -- the objects whose next beat is at most at a moment, in order of switching on
 abbrev pub beats_at : ℕ → List Beat → List ObjId
@@ -57,11 +84,11 @@ beats_at t bs = map (λ b. b.object) (filter (λ b. nat_le b.next t) bs)
 
 -- the heart of an object is to beat by a moment
 abbrev pub beats_by : List Beat → ObjId → ℕ → Bool
-beats_by bs o t = list_any (λ b. is_object b.object o && nat_le b.next t) bs
+beats_by bs o t = list_any (λ b. nat_eq b.object.0 o.0 && nat_le b.next t) bs
 
 -- the next beat of an object is at a moment
 abbrev pub beat_at : ObjId → ℕ → Beat → Beat
-beat_at o at b = if is_object b.object o then record b { next = at } else b
+beat_at o at b = if nat_eq b.object.0 o.0 then record b { next = at } else b
 
 -- among all hearts
 abbrev pub beat_next : List Beat → ObjId → ℕ → List Beat
@@ -80,7 +107,7 @@ watch_time CleanUp = 3600
 
 -- whether a watch is one of an object for a call
 abbrev pub is_watch_of : WatchKind → ObjId → Watching → Bool
-is_watch_of kind o x = same_watch x.kind kind && is_object x.object o
+is_watch_of kind o x = same_watch x.kind kind && nat_eq x.object.0 o.0
 
 -- the objects whose moment has come, by age
 abbrev pub watched_at : ℕ → WatchKind → List Watching → List ObjId
@@ -104,4 +131,4 @@ unwatched ws kind o = filter (λ x. not (is_watch_of kind o x)) ws
 
 -- the watches of an object end with it
 abbrev pub watches_without : List Watching → ObjId → List Watching
-watches_without ws o = filter (λ x. not (is_object x.object o)) ws
+watches_without ws o = filter (λ x. not (nat_eq x.object.0 o.0)) ws

@@ -1,7 +1,20 @@
 -- Environments and inventories, and chains of shadows, as lists.
-use Rattle.std.specs.Prelude.{ℕ, zero, suc, List, [], ◌∷◌, Bool, true, false, not, ◌||◌, if◌then◌else◌, Option, Some, None, option_map, is_some, filter, find, flat_map, map, length, ◌++◌}
+use Rattle.std.specs.Prelude.{ℕ, zero, suc, List, [], ◌∷◌, Bool, true, false, not, ◌||◌, nat_eq, if◌then◌else◌, Option, Some, None, option_map, is_some, filter, find, flat_map, map, length, ◌++◌}
 use Rattle.lp_values.specs.declared.id.ObjId.{ObjId}
-use Rattle.lp_language.specs.World.{Lying, Shadowing, is_object}
+
+-- an object lies in another
+pub record Lying : Type 0 where
+  pub item : ObjId
+  pub place : ObjId
+
+-- an object shadows another
+pub record Shadowing : Type 0 where
+  pub shadow : ObjId
+  pub victim : ObjId
+
+-- whether two serials are one
+abbrev pub is_object : ObjId → ObjId → Bool
+is_object a b = nat_eq a.0 b.0
 
 -- whether an object is the one that there may be
 abbrev pub is_at : Option ObjId → ObjId → Bool

@@ -1,6 +1,5 @@
 -- The text of saved values: how it is spelled, and what is read of it.
 use Rattle.lp_values.specs.Limits.{max_code_points, max_items}
-use Rattle.lp_meaning.specs.Limits.{max_saved_levels}
 use Rattle.std.specs.Prelude.{ℕ, zero, suc, ◌+◌, List, [], ◌∷◌, ◌++◌, length, take, drop, map, filter, flat_map, fold, Bool, true, false, not, ◌&&◌, ◌||◌, Option, Some, None, unwrap_or, slice_get, slice_index, nat_eq, nat_le, nat_lt, chars, codes, decimal, encode_utf8_all, position, if◌then◌else◌}
 use Rattle.std.specs.Char.{is_ascii_digit}
 use Rattle.std.specs.Fmt.{signed_decimal}
@@ -18,7 +17,10 @@ use Rattle.lp_cells.specs.Cells.{Store, content_set, items_of, stored_pairs, wit
 use Rattle.lp_cells.specs.Mapping.{pairs_there}
 use Rattle.lp_text.specs.Pieces.{pieces}
 use Rattle.lp_text.specs.Scans.{digits_number, signed}
-use Rattle.lp_instr.specs.EfunList.{is_name}
+
+-- how deep saved values may lie in one another
+abbrev pub max_saved_levels : ℕ
+max_saved_levels = 100
 
 -- Spelling
 
@@ -338,7 +340,7 @@ all_lines (l ∷ m ∷ ls) r =
 
 -- the k-th line of a name is for the k-th variable of that name
 abbrev pub lines_of : List ℕ → List Line → List Line
-lines_of name ls = filter (λ l. is_name l.name name) ls
+lines_of name ls = filter (λ l. bytes_eq l.name name) ls
 
 -- the value of a line
 abbrev pub value_at : Option Line → Option Value
@@ -347,7 +349,7 @@ value_at (Some l) = Some l.value
 
 -- how often a name stands in a list
 abbrev pub count_in : List ℕ → List (List ℕ) → ℕ
-count_in name names = length (filter (λ n. is_name n name) names)
+count_in name names = length (filter (λ n. bytes_eq n name) names)
 
 -- a value or nothing for each name, behind these
 abbrev pub given : List (List ℕ) → List (List ℕ) → List Line → List (Option Value)

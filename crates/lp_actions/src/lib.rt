@@ -1,0 +1,2 @@
+//! Actions of living objects, and the parts of a command.
+#![tactic(auto)]

@@ -1,0 +1,2 @@
+//! Environments, inventories and shadows of objects.
+#![tactic(auto)]

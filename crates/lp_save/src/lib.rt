@@ -1,0 +1,2 @@
+//! The text of saved values.
+#![tactic(auto)]

@@ -1,0 +1,2 @@
+//! Call-outs, heart beats, and the watches for `reset` and `clean_up`.
+#![tactic(auto)]
