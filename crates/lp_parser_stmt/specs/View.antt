@@ -68,7 +68,7 @@ abbrev pub frame_of : CodeFrame → Frame
 frame_of (frames.InBlock line done) = InBlock line (stmts_of done)
 frame_of (frames.InSwitch w) = InSwitch (switching_of w)
 frame_of (frames.IfYes line e) = IfYes line (tree_of e)
-frame_of (frames.IfNo line e y) = IfNo line (tree_of e) (stmt_of y)
+frame_of (frames.IfNo line e y) = IfNo line (tree_of e) (stmt_of y.value)
 frame_of (frames.WhileBody line e) = WhileBody line (tree_of e)
 frame_of (frames.DoBody line) = DoBody line
 frame_of (frames.ForBody line i t p) = ForBody line (init_of i) (option_map tree_of t) (option_map tree_of p)

@@ -1,9 +1,9 @@
 //! Tokens where a statement is waited for.
-ghost use Rattle.std.specs.Prelude.{[], Ok, Some};
-ghost use Rattle.lp_tree.specs.StatementView.{stmt_of};
-ghost use Rattle.lp_tree.specs.declared.keyword.Keyword.TheVariants.{Do};
-ghost use Rattle.lp_parser_stmt.specs.Machine.{InBlock, Inside, Need, Stack as Opens, begin as begun, case_begins, closes, default_begins, leaves, word_begins};
-ghost use Rattle.lp_parser_stmt.specs.Moves.{Steps, opening_state};
+ghost use Rattle.std.specs.Prelude.{◌≡◌, [], Ok, Some};
+ghost use Rattle.lp_parser_stmt.specs.declared.focus.Moved.TheVariants as moved;
+ghost use Rattle.lp_tree.specs.declared.keyword.Keyword.TheVariants.{Break, Continue, Do};
+ghost use Rattle.lp_parser_stmt.specs.Machine.{InBlock, Inside, Need, begin as begun, case_begins, class_begins, closes, default_begins, word_begins};
+ghost use Rattle.lp_parser_stmt.specs.Moves.{Steps};
 ghost use Rattle.lp_parser_stmt.specs.StackView.{stack_of};
 
 use crate::class::{Class, class_of};
@@ -35,6 +35,14 @@ fn close_brace(alloc: Global, stack: &mut Stack) -> Moved
     }
 }
 
+// A label outside a `switch`.
+fn no_label(frame: Option<Frame>) -> Moved
+    ensures { result ≡ moved.Refuses }
+{
+    drop(frame);
+    Moved::Refuses
+}
+
 // `case`, which stands in a `switch` alone.
 fn begin_case(stack: &mut Stack, line: u32) -> Moved
     ensures { Steps (case_begins line (stack_of stack.old)) (stack_of stack.new) (Ok result) }
@@ -45,10 +53,7 @@ fn begin_case(stack: &mut Stack, line: u32) -> Moved
             LabelAt::Begins,
             switching,
         )),
-        other => {
-            drop(other);
-            Moved::Refuses
-        }
+        other => no_label(other),
     }
 }
 
@@ -65,21 +70,24 @@ fn begin_default(stack: &mut Stack, line: u32) -> Result<Moved, AllocError>
     }
 }
 
-// A `break` or a `continue`, where there is what it leaves.
-fn leave(is_inside: bool, stmt: Stmt) -> Moved
-    ensures { (s : Opens) → Steps (leaves is_inside (stmt_of stmt) s) s (Ok result) }
+// `break`, where there is what it leaves.
+fn begin_break(stack: &Stack, line: u32) -> Moved
+    ensures { Steps (word_begins Break line (stack_of stack.now)) (stack_of stack.now) (Ok result) }
 {
-    if is_inside {
-        return Moved::Goes(Focus::EndStmt(stmt));
+    if stack.may_break() {
+        return Moved::Goes(Focus::EndStmt(Stmt::Break { line }));
     }
     Moved::Refuses
 }
 
-// A statement in parentheses, or with some.
-fn opens(opening: Opening) -> Result<Moved, AllocError>
-    ensures { (s : Opens) → Steps (Some (opening_state opening s)) s result }
+// `continue`, where there is a loop that it goes on with.
+fn begin_continue(stack: &Stack, line: u32) -> Moved
+    ensures { Steps (word_begins Continue line (stack_of stack.now)) (stack_of stack.now) (Ok result) }
 {
-    Ok(Moved::Goes(Focus::Opens(opening)))
+    if stack.may_continue() {
+        return Moved::Goes(Focus::EndStmt(Stmt::Continue { line }));
+    }
+    Moved::Refuses
 }
 
 // `do`
@@ -95,14 +103,14 @@ fn begin_word(stack: &mut Stack, word: Keyword, line: u32) -> Result<Moved, Allo
     ensures { Steps (word_begins word line (stack_of stack.old)) (stack_of stack.new) result }
 {
     match word {
-        Keyword::If => opens(Opening::Test(Role::TestIf(line))),
-        Keyword::While => opens(Opening::Test(Role::TestWhile(line))),
-        Keyword::Switch => opens(Opening::Test(Role::OnSwitch(line))),
-        Keyword::For => opens(Opening::ForParts(line)),
-        Keyword::Foreach => opens(Opening::Variables(line)),
+        Keyword::If => Ok(Moved::Goes(Focus::Opens(Opening::Test(Role::TestIf(line))))),
+        Keyword::While => Ok(Moved::Goes(Focus::Opens(Opening::Test(Role::TestWhile(line))))),
+        Keyword::Switch => Ok(Moved::Goes(Focus::Opens(Opening::Test(Role::OnSwitch(line))))),
+        Keyword::For => Ok(Moved::Goes(Focus::Opens(Opening::ForParts(line)))),
+        Keyword::Foreach => Ok(Moved::Goes(Focus::Opens(Opening::Variables(line)))),
         Keyword::Do => begin_do(stack, line),
-        Keyword::Break => Ok(leave(stack.may_break(), Stmt::Break { line })),
-        Keyword::Continue => Ok(leave(stack.may_continue(), Stmt::Continue { line })),
+        Keyword::Break => Ok(begin_break(stack, line)),
+        Keyword::Continue => Ok(begin_continue(stack, line)),
         Keyword::Return => Ok(Moved::Goes(Focus::Maybe(Optional::Value(line)))),
         Keyword::Case => Ok(begin_case(stack, line)),
         Keyword::Default => begin_default(stack, line),
@@ -118,12 +126,17 @@ fn open_brace(alloc: Global, stack: &mut Stack, line: u32) -> Result<Moved, Allo
     Ok(Moved::Goes(Focus::Need))
 }
 
-/// A token where a statement is waited for.
-pub fn begin(alloc: Global, stack: &mut Stack, seen: Seen) -> Result<Moved, AllocError>
-    ensures { Steps (begun seen (stack_of stack.old)) (stack_of stack.new) result }
+// A token of this class.
+fn begin_class(
+    alloc: Global,
+    stack: &mut Stack,
+    class: Class,
+    seen: Seen,
+) -> Result<Moved, AllocError>
+    ensures { Steps (class_begins class seen (stack_of stack.old)) (stack_of stack.new) result }
 {
     let line = seen.line;
-    match class_of(&seen.sort) {
+    match class {
         Class::BraceOpens => open_brace(alloc, stack, line),
         Class::BraceCloses => Ok(close_brace(alloc, stack)),
         Class::SemicolonEnds => Ok(Moved::Goes(Focus::Have(Stmt::Empty { line }))),
@@ -137,4 +150,12 @@ pub fn begin(alloc: Global, stack: &mut Stack, seen: Seen) -> Result<Moved, Allo
         ))),
         Class::WordBegins(word) => begin_word(stack, word, line),
     }
+}
+
+/// A token where a statement is waited for.
+pub fn begin(alloc: Global, stack: &mut Stack, seen: Seen) -> Result<Moved, AllocError>
+    ensures { Steps (begun seen (stack_of stack.old)) (stack_of stack.new) result }
+{
+    let class = class_of(&seen.sort);
+    begin_class(alloc, stack, class, seen)
 }

@@ -4,7 +4,7 @@ ghost use Rattle.lp_tree.specs.StatementView.{local_of};
 ghost use Rattle.lp_parser_expr.specs.Machine.{Need as expr_need};
 ghost use Rattle.lp_parser_stmt.specs.Machine.{Declaring, Reading, Stack as Opens, declared as declared_for, each_named, each_stars as each_starred, mark_after_names, need_each, one_more_each, over as over_variables, step};
 ghost use Rattle.lp_parser_stmt.specs.Moves.{Steps, each_state, state_of};
-ghost use Rattle.lp_parser_stmt.specs.View.{declarators_of, names_of, whose_of};
+ghost use Rattle.lp_parser_stmt.specs.View.{declarators_of, names_of, role_of, whose_of};
 
 use crate::class::mark_of;
 use crate::focus::{EachAt, Focus, Moved};
@@ -72,28 +72,24 @@ pub fn declaring(
     }
 }
 
-// A variable of a `foreach` with all that was read of it.
-fn goes(line: u32, first: Option<Each>, at: EachAt) -> Moved
-    ensures { (s : Opens) → Steps (Some (each_state at line first s)) s (Ok result) }
-{
-    Moved::Goes(Focus::Variable(line, first, at))
-}
-
 // The first token of a variable.
 fn begin_each(line: u32, first: Option<Each>, sort: Sort, at: u32) -> Moved
     ensures { (s : Opens) → Steps (need_each sort at line first s) s (Ok result) }
 {
     match sort {
-        Sort::Name(name) => goes(
-            line,
-            first,
-            EachAt::Named(Each {
+        Sort::Name(name) => {
+            let each = Each {
                 line: at,
                 type_name: None,
                 name,
-            }),
-        ),
-        Sort::Reserved(Keyword::Base(base)) => goes(line, first, EachAt::Stars(at, base, 0)),
+            };
+            Moved::Goes(Focus::Variable(line, first, EachAt::Named(each)))
+        }
+        Sort::Reserved(Keyword::Base(base)) => Moved::Goes(Focus::Variable(
+            line,
+            first,
+            EachAt::Stars(at, base, 0),
+        )),
         _ => Moved::Refuses,
     }
 }
@@ -115,29 +111,34 @@ fn each_stars(
                 // so many stars are longer than any memory holds
                 return Err(AllocError);
             }
-            Ok(goes(line, first, EachAt::Stars(at, base, stars + 1)))
+            Ok(Moved::Goes(Focus::Variable(line, first, EachAt::Stars(at, base, stars + 1))))
         }
-        Sort::Name(name) => Ok(goes(
-            line,
-            first,
-            EachAt::Named(Each {
+        Sort::Name(name) => {
+            let each = Each {
                 line: at,
                 type_name: Some(TypeName { base, stars }),
                 name,
-            }),
-        )),
+            };
+            Ok(Moved::Goes(Focus::Variable(line, first, EachAt::Named(each))))
+        }
         _ => Ok(Moved::Refuses),
     }
 }
 
-// The variables of a `foreach` were read.
-fn over(alloc: Global, line: u32, first: Option<Each>, each: Each) -> Moved
-    ensures { (s : Opens) → Steps (Some (Reading (expr_need []) (over_variables line first each) s)) s (Ok result) }
+// What is read behind the variables of a `foreach`.
+fn over(line: u32, first: Option<Each>, each: Each) -> Role
+    ensures { role_of result ≡ over_variables line first each }
 {
-    let role = match first {
+    match first {
         None => Role::OverEach(line, each, None),
         Some(first) => Role::OverEach(line, first, Some(each)),
-    };
+    }
+}
+
+// The variables of a `foreach` were read.
+fn begin_over(alloc: Global, role: Role) -> Moved
+    ensures { (s : Opens) → Steps (Some (Reading (expr_need []) (role_of role) s)) s (Ok result) }
+{
     Moved::Goes(Focus::Reading(ExprStack::new(alloc), ExprFocus::Need, role))
 }
 
@@ -148,7 +149,7 @@ fn one_more(line: u32, first: Option<Each>, each: Each) -> Moved
     if first.is_some() {
         return Moved::Refuses;
     }
-    goes(line, Some(each), EachAt::Begins)
+    Moved::Goes(Focus::Variable(line, Some(each), EachAt::Begins))
 }
 
 // Whether a name is the one behind the variables of a `foreach`.
@@ -164,10 +165,10 @@ fn after_each(alloc: Global, line: u32, first: Option<Each>, each: Each, sort: S
 {
     match sort {
         Sort::Mark(Mark::Comma) => one_more(line, first, each),
-        Sort::Mark(Mark::Colon) => over(alloc, line, first, each),
+        Sort::Mark(Mark::Colon) => begin_over(alloc, over(line, first, each)),
         Sort::Name(name) => {
             if is_in(&name) {
-                return over(alloc, line, first, each);
+                return begin_over(alloc, over(line, first, each));
             }
             Moved::Refuses
         }

@@ -35,6 +35,7 @@ pub fn switch_of(switching: Switching) -> Stmt
 }
 
 // `if (test) yes`, where no `else` follows.
+#[tactic(auto, using(crate::proofs::Ends::if_only))]
 fn end_yes(
     alloc: Global,
     line: u32,
@@ -57,10 +58,16 @@ fn end_yes(
 }
 
 // `if (test) yes else no`
-fn end_no(alloc: Global, line: u32, test: Expr, yes: Stmt, no: Stmt) -> Result<Stmt, AllocError>
-    ensures { IfOk result (λ t. stmt_of t ≡ If line (tree_of test) (stmt_of yes) (Else (stmt_of no))) }
+#[tactic(auto, using(crate::proofs::Ends::if_else))]
+fn end_no(
+    alloc: Global,
+    line: u32,
+    test: Expr,
+    yes: Box<Stmt>,
+    no: Stmt,
+) -> Result<Stmt, AllocError>
+    ensures { IfOk result (λ t. stmt_of t ≡ If line (tree_of test) (stmt_of yes.value) (Else (stmt_of no))) }
 {
-    let yes = Box::new(alloc, yes)?;
     let no = Box::new(alloc, no)?;
     Ok(Stmt::If {
         line,
@@ -147,6 +154,7 @@ fn end_frame(alloc: Global, frame: Frame, stmt: Stmt, is_else: bool) -> Result<E
 }
 
 /// Ends the statements that a token ends, which is an `else` or not. An `else` goes with the nearest `if`.
+#[tactic(auto, using(crate::proofs::Ends::settle_goes, crate::proofs::Ends::settle_stops))]
 pub fn settle(
     alloc: Global,
     stack: &mut Stack,

@@ -6,7 +6,7 @@ ghost use Rattle.lp_parser_expr.specs.Machine.{Need as expr_need, step as expr_n
 ghost use Rattle.lp_parser_expr.specs.Moves.{state_of as expr_state};
 ghost use Rattle.lp_parser_expr.specs.StackView.{stack_of as expr_stack};
 ghost use Rattle.lp_parser_stmt.specs.Endings.{is_end};
-ghost use Rattle.lp_parser_stmt.specs.Machine.{Inside, Need, OnSwitch, OneOf, Reading, Stack as Opens, after_some, by_paren as ends_by_paren, class, filled as filled_by, first_declares as first_declared, init_of as init_made, maybe as maybe_given, reads, step, used as used_for};
+ghost use Rattle.lp_parser_stmt.specs.Machine.{Inside, Maybe, Need, OnSwitch, OneOf, Reading, Stack as Opens, after_some, by_paren as ends_by_paren, filled as filled_by, first_declares as first_declared, init_of as init_made, maybe as maybe_given, reads, step, used as used_for};
 ghost use Rattle.lp_parser_stmt.specs.Moves.{Steps};
 ghost use Rattle.lp_parser_stmt.specs.StackView.{stack_of};
 ghost use Rattle.lp_parser_stmt.specs.View.{frame_of, optional_of, role_of};
@@ -207,6 +207,26 @@ fn skips(stack: &mut Stack, part: Optional, is_end: bool) -> Result<Moved, Alloc
     Ok(Moved::Refuses)
 }
 
+// A token of this class.
+fn maybe_class(
+    alloc: Global,
+    stack: &mut Stack,
+    part: Optional,
+    class: Class,
+    seen: Seen,
+) -> Result<Moved, AllocError>
+    ensures { Steps (maybe_given class seen (optional_of part) (stack_of stack.old)) (stack_of stack.new) result }
+{
+    let is_last = is_last(&part);
+    match class {
+        Class::SemicolonEnds => skips(stack, part, !is_last),
+        Class::ParenCloses => skips(stack, part, is_last),
+        Class::TypeBegins(base) => Ok(first_declares(alloc, part, base, seen.line)),
+        Class::ExpressionBegins => begin_expression(alloc, Role::OneOf(part), seen),
+        _ => Ok(Moved::Refuses),
+    }
+}
+
 /// A token where an expression may be missing.
 pub fn maybe(
     alloc: Global,
@@ -214,14 +234,8 @@ pub fn maybe(
     part: Optional,
     seen: Seen,
 ) -> Result<Moved, AllocError>
-    ensures { Steps (maybe_given (class seen.sort) seen (optional_of part) (stack_of stack.old)) (stack_of stack.new) result }
+    ensures { Steps (step (Maybe (optional_of part) (stack_of stack.old)) seen) (stack_of stack.new) result }
 {
-    let is_last = is_last(&part);
-    match class_of(&seen.sort) {
-        Class::SemicolonEnds => skips(stack, part, !is_last),
-        Class::ParenCloses => skips(stack, part, is_last),
-        Class::TypeBegins(base) => Ok(first_declares(alloc, part, base, seen.line)),
-        Class::ExpressionBegins => begin_expression(alloc, Role::OneOf(part), seen),
-        _ => Ok(Moved::Refuses),
-    }
+    let class = class_of(&seen.sort);
+    maybe_class(alloc, stack, part, class, seen)
 }

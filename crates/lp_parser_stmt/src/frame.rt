@@ -29,7 +29,7 @@ pub enum Frame {
     /// `if (a) ..`
     IfYes(u32, Expr),
     /// `if (a) b else ..`
-    IfNo(u32, Expr, Stmt),
+    IfNo(u32, Expr, Box<Stmt>),
     /// `while (a) ..`
     WhileBody(u32, Expr),
     /// `do ..`

@@ -5,7 +5,7 @@ ghost use Rattle.lp_tree.specs.TreeView.{tree_of};
 ghost use Rattle.lp_tree.specs.declared.token.Mark.TheVariants.{OpenParen, Semicolon};
 ghost use Rattle.lp_parser_expr.specs.Capped.{capped};
 ghost use Rattle.lp_parser_stmt.specs.Depth.{depth as levels, here as levels_here, names_here, optional_least, whose_least};
-ghost use Rattle.lp_parser_stmt.specs.Machine.{Expect, Have, InBlock, InFunction, InSwitch, Inside, Need, Stack as Opens, act as acted, after_body as after_done, after_yes as after_first, is_else as token_is_else, is_mark as token_is_mark, step as next_state};
+ghost use Rattle.lp_parser_stmt.specs.Machine.{Expect, Have, IfNo, InBlock, InFunction, InSwitch, Inside, Need, Stack as Opens, act as acted, after_body as after_done, after_yes as after_first, is_else as token_is_else, is_mark as token_is_mark, step as next_state};
 ghost use Rattle.lp_parser_stmt.specs.Moves.{IsUnsigned, Steps, opening_state, state_of};
 ghost use Rattle.lp_parser_stmt.specs.StackView.{done_of, stack_of};
 ghost use Rattle.lp_parser_stmt.specs.View.{names_of, optional_of, stmts_of, switching_of, whose_of};
@@ -54,7 +54,23 @@ fn is_mark(mark: Mark, sort: &Sort) -> bool
 }
 
 // An `else` behind the first statement of an `if`.
+fn begin_else(
+    alloc: Global,
+    stack: &mut Stack,
+    line: u32,
+    test: Expr,
+    yes: Stmt,
+) -> Result<Moved, AllocError>
+    ensures { Steps (Some (Need (Inside (IfNo line (tree_of test) (stmt_of yes)) (stack_of stack.old)))) (stack_of stack.new) result }
+{
+    let yes = Box::new(alloc, yes)?;
+    stack.push(Frame::IfNo(line, test, yes))?;
+    Ok(Moved::Goes(Focus::Need))
+}
+
+// A token behind the first statement of an `if`.
 fn after_yes(
+    alloc: Global,
     stack: &mut Stack,
     line: u32,
     test: Expr,
@@ -63,11 +79,15 @@ fn after_yes(
 ) -> Result<Moved, AllocError>
     ensures { Steps (after_first sort line (tree_of test) (stmt_of yes) (stack_of stack.old)) (stack_of stack.new) result }
 {
-    if is_else(&sort) {
-        stack.push(Frame::IfNo(line, test, yes))?;
-        return Ok(Moved::Goes(Focus::Need));
+    match sort {
+        Sort::Reserved(Keyword::Else) => begin_else(alloc, stack, line, test, yes),
+        other => {
+            drop(other);
+            drop(test);
+            drop(yes);
+            Ok(Moved::Refuses)
+        }
     }
-    Ok(Moved::Refuses)
 }
 
 // The `while` behind the statement of a `do`.
@@ -141,7 +161,7 @@ fn act(alloc: Global, stack: &mut Stack, stmt: Stmt, seen: Seen) -> Result<Moved
         None => next_of_function(alloc, stack, stmt, seen),
         Some(Frame::InBlock(line, done)) => next_of_block(alloc, stack, line, done, stmt, seen),
         Some(Frame::InSwitch(switching)) => next_of_switch(alloc, stack, switching, stmt, seen),
-        Some(Frame::IfYes(line, test)) => after_yes(stack, line, test, stmt, seen.sort),
+        Some(Frame::IfYes(line, test)) => after_yes(alloc, stack, line, test, stmt, seen.sort),
         Some(Frame::DoBody(line)) => Ok(after_body(line, stmt, seen.sort)),
         other => {
             drop(other);
