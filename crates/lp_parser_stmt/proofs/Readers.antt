@@ -1,6 +1,6 @@
 -- Steps of expressions in statements and names, as the program takes them.
 use Rattle.std.proofs.Common.{◌≡◌, ℕ, List, refl, ap, sym, ◌∙◌, subst, Bool, true, false, not}
-use Rattle.std.specs.Prelude.{Option, Some, None, option_map, Result, Ok, if◌then◌else◌}
+use Rattle.std.specs.Prelude.{Vec, Option, Some, None, option_map, Result, Ok, if◌then◌else◌}
 use Rattle.std.specs.declared.alloc.AllocError.{AllocError}
 use Rattle.lp_tree.specs.declared.seen.Seen.{Seen}
 use Rattle.lp_tree.specs.declared.token.Mark.{Mark}
@@ -17,6 +17,10 @@ use Rattle.lp_parser_expr.specs.Machine as expr
 use Rattle.lp_parser_expr.specs.Moves.{MovesOn, state_of as expr_state}
 use Rattle.lp_parser_expr.specs.View.{tree_in}
 use Rattle.lp_parser_stmt.specs.declared.names.NamesMoved.{NamesMoved}
+use Rattle.lp_parser_stmt.specs.declared.names.NamesMoved.TheVariants as namings
+use Rattle.lp_parser_stmt.specs.View.{declarators_of}
+use Rattle.lp_tree.specs.declared.stmt.Declarator.{Declarator}
+use Rattle.std.specs.declared.alloc.Global.{Global}
 use Rattle.lp_parser_stmt.specs.declared.focus.Moved.{Moved}
 use Rattle.lp_parser_stmt.specs.Moves.{NamesMove, NamesMoveOn, Steps}
 use Rattle.lp_parser_stmt.specs.Machine.{Names, Valued, mark_valued, value_goes, with_name, names_step, names_finished, mark_in, Stack, Role, OneOf, Optional, filled, State, Reading, Declaring, Whose, after_some, reading_goes, mark_after_names, names_go, reads, by_paren, semicolon_skips, paren_skips, step}
@@ -80,3 +84,9 @@ skips_semicolon part s s' r last e d = subst (λ o. Steps o s' r) (sym (semicolo
 
 pub skips_paren : (part : Optional) (s s' : Stack) (r : Result Moved AllocError) (last : Bool) → last ≡ by_paren (OneOf part) → Steps (if last then Some (filled part None s) else None) s' r → Steps (paren_skips part s) s' r
 skips_paren part s s' r last e d = subst (λ o. Steps o s' r) (sym (paren-is part s)) (subst (λ b. Steps (if b then Some (filled part None s) else None) s' r) e d)
+
+pub names_ends : (d : Names) (x : Seen) (m : NamesMoved) (u : Option (Vec Declarator Global)) → NamesMove d x (Ok m) → m ≡ namings.Ends u → (names_step d x ≡ None) × (option_map declarators_of u ≡ names_finished d)
+names_ends d x m u h e = subst (λ y. NamesMove d x (Ok y)) e h
+
+pub same_names : (a b : Vec Declarator Global) → a ≡ b → Some (declarators_of a) ≡ Some (declarators_of b)
+same_names a b e = ap (λ v. Some (declarators_of v)) e
