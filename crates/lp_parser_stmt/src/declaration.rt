@@ -1,6 +1,7 @@
 //! Declarations in statements, and the variables of a `foreach`.
 ghost use Rattle.std.specs.Prelude.{◌≡◌, [], Ok, Some, bytes_eq, codes};
 ghost use Rattle.lp_tree.specs.StatementView.{local_of};
+ghost use Rattle.lp_tree.specs.declared.seen.Sort.TheVariants as sorts;
 ghost use Rattle.lp_parser_expr.specs.Machine.{Need as expr_need};
 ghost use Rattle.lp_parser_stmt.specs.Machine.{Declaring, Reading, Stack as Opens, declared as declared_for, each_named, each_stars as each_starred, mark_after_names, need_each, one_more_each, over as over_variables, step};
 ghost use Rattle.lp_parser_stmt.specs.Moves.{Steps, each_state, state_of};
@@ -159,13 +160,23 @@ fn is_in(name: &Chars) -> bool
     name.as_slice() == ['i', 'n'].as_slice()
 }
 
+// A mark behind a variable.
+fn after_each_mark(alloc: Global, line: u32, first: Option<Each>, each: Each, mark: Mark) -> Moved
+    ensures { (s : Opens) → Steps (each_named (sorts.Mark mark) line first each s) s (Ok result) }
+{
+    match mark {
+        Mark::Comma => one_more(line, first, each),
+        Mark::Colon => begin_over(alloc, over(line, first, each)),
+        _ => Moved::Refuses,
+    }
+}
+
 // What stands behind a variable.
 fn after_each(alloc: Global, line: u32, first: Option<Each>, each: Each, sort: Sort) -> Moved
     ensures { (s : Opens) → Steps (each_named sort line first each s) s (Ok result) }
 {
     match sort {
-        Sort::Mark(Mark::Comma) => one_more(line, first, each),
-        Sort::Mark(Mark::Colon) => begin_over(alloc, over(line, first, each)),
+        Sort::Mark(mark) => after_each_mark(alloc, line, first, each, mark),
         Sort::Name(name) => {
             if is_in(&name) {
                 return begin_over(alloc, over(line, first, each));
