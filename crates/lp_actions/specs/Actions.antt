@@ -31,6 +31,10 @@ holds sentences holder number = list_any (λ s. is_object s.holder holder && nat
 abbrev pub kept_in_reach : List Lying → List Sentence → List Sentence
 kept_in_reach places sentences = filter (λ s. in_reach places s.holder s.giver) sentences
 
+-- the same, whichever objects are in reach of which
+abbrev pub kept_by : (ObjId → ObjId → Bool) → List Sentence → List Sentence
+kept_by reaches sentences = filter (λ s. reaches s.holder s.giver) sentences
+
 -- the actions that an object holds end with it
 abbrev pub sentences_without : List Sentence → ObjId → List Sentence
 sentences_without sentences o = filter (λ s. not (is_object s.holder o)) sentences

@@ -5,4 +5,5 @@ pub mod listed;
 pub mod name;
 pub mod program;
 pub mod slots;
+pub mod steps;
 pub mod tables;

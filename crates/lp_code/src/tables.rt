@@ -1,14 +1,16 @@
 //! Tables of a program: which function each name means, and which variables there are.
-ghost use Rattle.std.specs.Prelude.{◌≡◌, ◌≤◌, length};
+ghost use Rattle.std.specs.Prelude.{◌≡◌, ◌≤◌, ◌+◌, length};
 ghost use Rattle.lp_code.specs.Slots.{first_place};
 
 use crate::listed::Listed;
 use crate::name::Name;
 use crate::slots::Slots;
+use crate::steps::Steps;
 use lp_tree::path::FilePath;
 use lp_tree::pragma::Pragmas;
 use lp_tree::types::TypeName;
 use lp_values::id::ProgId;
+use std::sync::ledger::Ledger;
 
 /// A name and the function that it means in the program.
 #[derive(Debug, Drop)]
@@ -65,5 +67,20 @@ impl Tables {
     {
         let place = self.slots.place(name)?;
         Some(place as u16)
+    }
+
+    /// As `slot`, and counts a step where a name is compared: one look-up in the map of the names, and none where no slot is.
+    pub fn find<L: Ledger>(&self, name: &str, steps: &mut Steps<L>) -> Option<u16>
+        requires { length self.now.slots ≤ 65535 }
+        ensures is { result ≡ first_place name.now self.now.slots }
+        ensures counts { steps.old ≤ steps.new }
+        ensures few { steps.new ≤ steps.old + 1 }
+        ensures cost { steps.new ≤ steps.old + length self.now.slots }
+    {
+        if self.slots.as_slice().is_empty() {
+            return None;
+        }
+        steps.tick();
+        self.slot(name)
     }
 }

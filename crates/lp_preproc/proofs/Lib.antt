@@ -2,6 +2,7 @@ pub mod Answering
 pub mod ConditionLemmas
 pub mod IncludeLemmas
 pub mod Leading
+pub mod Lexing
 pub mod Outcomes
 pub mod ParameterLemmas
 pub mod ResultLemmas

@@ -1,27 +1,14 @@
 -- What is next leads to one outcome.
-use Rattle.std.proofs.Common.{◌≡◌, ℕ, ℤ, List, Some, refl, sym, ap, ◌∙◌, subst, arith}
-use Rattle.std.specs.Prelude.{map, Err}
-use Rattle.std.proofs.lemmas.Str.{utf8_valid_len-IsUtf8}
+use Rattle.std.proofs.Common.{◌≡◌, ℕ, ℤ, List, Some, refl, sym, ap, ◌∙◌, subst}
+use Rattle.std.specs.Prelude.{map}
 use Rattle.lp_tree.specs.declared.fault.FaultKind.{FaultKind}
 use Rattle.lp_tree.specs.declared.fault.FaultKind.TheVariants.{Lex}
-use Rattle.lp_tree.specs.declared.token.LexKind.{LexKind}
-use Rattle.lp_tree.specs.declared.token.LexKind.TheVariants.{NotUtf8, OpenComment, BadChar, OpenString, NumberTooLarge}
-use Rattle.lp_tree.specs.declared.token.Token.{Token}
-use Rattle.lp_lexer.specs.declared.LexFault.TheVariants.{At}
-use Rattle.lp_lexer.specs.Lexis.{begin, IsLexed, IsFault}
-use Rattle.lp_lexer.proofs.Walking.{same_tokens, not_both, only_fault}
+use Rattle.lp_preproc.proofs.Lexing.{no_fault, same_place, same_tokens}
 use Rattle.lp_preproc.specs.declared.word.Word.{Word}
 use Rattle.lp_parser_expr.specs.Theorem.{SpellsOne}
 use Rattle.lp_preproc.specs.Conditions.{HasValue, value, sight}
 use Rattle.lp_preproc.specs.State.{Setting, State, Next, line_or}
 use Rattle.lp_preproc.specs.Expansion.{Outcome, Whole, Faulty, LeadsTo, ends, fails, goes, asks, asks_fault, reads, reads_fault, tests, tests_fault, line_at}
-
-no_fault : (bs : List ℕ) (ts : List Token) (at : ℕ) (kind : LexKind) → IsLexed bs ts → IsFault bs at kind → ⊥
-no_fault bs ts at NotUtf8 l f = omega (arith, f.0, f.1, utf8_valid_len-IsUtf8 bs l.0)
-no_fault bs ts at OpenComment l f = not_both (begin bs) ts at l.1 f.0
-no_fault bs ts at BadChar l f = f
-no_fault bs ts at OpenString l f = f
-no_fault bs ts at NumberTooLarge l f = f
 
 same_some : {A : Type 0} (x y : A) → Some x ≡ Some y → x ≡ y
 same_some x y e = cc
@@ -48,11 +35,11 @@ one_outcome uniq (asks {r = r} h g) (asks_fault i) = absurd (apart r _ _ (one_ou
 one_outcome uniq (asks_fault h) (asks {r = r} i j) = absurd (apart r _ _ (sym (one_outcome uniq h i)))
 one_outcome uniq (asks_fault h) (asks_fault i) = one_outcome uniq h i
 one_outcome uniq {c} {p = p} (reads {bytes} {k = k} {ts = ts} l h) (reads {ts = us} m g) =
-    one_outcome uniq h (subst (λ x. LeadsTo c (k x) p) (sym (same_tokens (begin bytes) ts us l.1 m.1)) g)
+    one_outcome uniq h (subst (λ x. LeadsTo c (k x) p) (sym (same_tokens bytes ts us l m)) g)
 one_outcome uniq (reads {bytes} {ts = ts} l h) (reads_fault at kind f) = absurd (no_fault bytes ts at kind l f)
 one_outcome uniq (reads_fault at kind f) (reads {bytes} {ts = ts} l h) = absurd (no_fault bytes ts at kind l f)
 one_outcome uniq (reads_fault {bytes} {line} at kind f) (reads_fault place what g) =
-    ap (λ x. Faulty Lex (line_or line (line_at bytes x))) (only_fault bytes (Err (At at kind)) tt f place what g).0
+    ap (λ x. Faulty Lex (line_or line (line_at bytes x))) (same_place bytes place at what kind g f)
 one_outcome uniq {c} {p = p} (tests {ws} {k = k} {z = y} v h) (tests {z = z} w g) =
     one_outcome uniq h (subst (λ x. LeadsTo c (k x) p) (sym (same_value uniq ws y z v w)) g)
 one_outcome uniq (tests {z = z} v h) (tests_fault n) = absurd (n z v)

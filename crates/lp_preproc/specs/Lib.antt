@@ -3,6 +3,7 @@ pub mod Directives
 pub mod Expansion
 pub mod Macros
 pub mod Names
+pub mod Outs
 pub mod Places
 pub mod Stacks
 pub mod State

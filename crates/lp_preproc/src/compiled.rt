@@ -15,6 +15,7 @@ use crate::expander::{Expander, MOST_BYTES, run};
 use crate::fault::{Expanded, PreFault};
 use crate::law::law_one_outcome;
 use crate::macros::{Body, Kinds, Macro};
+use crate::out::Out;
 use crate::place::Place;
 use crate::reader::Reader;
 use crate::row::Row;
@@ -140,7 +141,7 @@ fn opened(alloc: Global, path: Row<u8>, tokens: Vec<Token>) -> Result<Expander, 
             purpose: Purpose::File,
             reading: Reading::Plain,
             waiting: Stack::new(alloc),
-            out: Stack::new(alloc),
+            out: Out::new(alloc),
             put_in: 0,
         },
         files,
@@ -150,20 +151,20 @@ fn opened(alloc: Global, path: Row<u8>, tokens: Vec<Token>) -> Result<Expander, 
 }
 
 // What came out.
-fn out_of(reader: Reader) -> Row<Word>
-    ensures { result ≡ reverse reader.out }
+fn out_of(alloc: Global, reader: Reader) -> Result<Row<Word>, AllocError>
+    ensures { IfOk result (λ r. r ≡ reverse reader.out) }
 {
-    reader.out.into_row()
+    reader.out.into_row(alloc)
 }
 
 // What came out of the files, and their pragmas.
-fn finished(expander: Expander) -> (Row<Word>, Pragmas)
-    ensures out { result.0 ≡ reverse expander.reader.out }
-    ensures pragmas { result.1 ≡ expander.pragmas }
+fn finished(alloc: Global, expander: Expander) -> Result<(Row<Word>, Pragmas), AllocError>
+    ensures out { IfOk result (λ r. r.0 ≡ reverse expander.reader.out) }
+    ensures pragmas { IfOk result (λ r. r.1 ≡ expander.pragmas) }
 {
     let pragmas = expander.pragmas;
     let reader = expander.reader;
-    (out_of(reader), pragmas)
+    Ok((out_of(alloc, reader)?, pragmas))
 }
 
 // The expansion of a file of these tokens.
@@ -178,7 +179,10 @@ fn expand_tokens(
 {
     let mut expander = opened(alloc, path, tokens)?;
     match run(alloc, files, place, &mut expander) {
-        Ok(()) => Ok(finished(expander)),
+        Ok(()) => {
+            let done = finished(alloc, expander)?;
+            Ok(done)
+        }
         Err(stop) => Err(stop),
     }
 }

@@ -13,6 +13,7 @@ pub mod law;
 pub mod list;
 pub mod macros;
 pub mod names;
+pub mod out;
 pub mod params;
 pub mod place;
 pub mod reader;

@@ -9,6 +9,7 @@ ghost use Rattle.lp_preproc.specs.Tables.{macros_in};
 ghost use Rattle.lp_preproc.specs.Uses.{expanded, read, used};
 ghost use Rattle.lp_preproc.specs.declared.state.Use.{Use as AnyUse};
 
+use crate::out::Out;
 use crate::place::Place;
 use crate::reader::Reader;
 use crate::reading::{Read, take_end, take_word};
@@ -43,12 +44,15 @@ pub fn expand_list(
         purpose,
         reading: Reading::Plain,
         waiting: Stack::from_row(words),
-        out: Stack::new(alloc),
+        out: Out::new(alloc),
         put_in,
     };
     'turns: for _ in 0..u64::MAX {
         match turn(alloc, place, table, &mut reader, least) {
-            Ok(true) => return Ok((reader.out.into_row(), reader.put_in)),
+            Ok(true) => {
+                let out = reader.out.into_row(alloc)?;
+                return Ok((out, reader.put_in));
+            }
             Ok(false) => {}
             Err(stop) => return Err(stop),
         }

@@ -1,9 +1,10 @@
 //! What is read of the words of a file or of a list, and what came out.
-ghost use Rattle.std.specs.Prelude.{◌≡◌, ◌++◌, ℕ, IfOk, List, length as list_length};
+ghost use Rattle.std.specs.Prelude.{◌≡◌, ◌++◌, ℕ, IfOk, List, Some, length as list_length};
 ghost use Rattle.lp_preproc.specs.Macros.{Table};
 ghost use Rattle.lp_preproc.specs.Steps.{Does, Standing, state_of};
 ghost use Rattle.lp_preproc.specs.Uses.{emit, last_text, lone_text, one_more, out_by, put_back, text_after, text_of, with_text};
 
+use crate::out::Out;
 use crate::row::Row;
 use crate::stack::Stack;
 use crate::state::{Purpose, Reading};
@@ -30,30 +31,30 @@ pub struct Reader {
     /// Words that come before all others.
     pub waiting: Stack<Word>,
     /// What came out, the last one first.
-    pub out: Stack<Word>,
+    pub out: Out,
     /// How many tokens, uses and includes were put in.
     pub put_in: u32,
 }
 
 // A word more comes out.
-fn one_more(reader: &mut Reader, word: Word) -> Result<(), Stop>
+fn one_more(alloc: Global, reader: &mut Reader, word: Word) -> Result<(), Stop>
     ensures { (ms : Table) (k : Standing) → Does (one_more (state_of reader.old ms k) word) result (state_of reader.new ms k) }
 {
     if reader.out.len() >= MOST_TOKENS {
         return Err(Stop::At(FaultKind::TooManyTokens, word.line));
     }
-    reader.out.push(word)?;
+    reader.out.push(alloc, word)?;
     Ok(())
 }
 
 // A text that has no text before it.
-fn lone_text(reader: &mut Reader, word: Word, length: usize) -> Result<(), Stop>
+fn lone_text(alloc: Global, reader: &mut Reader, word: Word, length: usize) -> Result<(), Stop>
     ensures { (ms : Table) (k : Standing) (t : List ℕ) → length ≡ list_length t → Does (lone_text (state_of reader.old ms k) word t) result (state_of reader.new ms k) }
 {
     if length > LONGEST_TEXT {
         return Err(Stop::At(FaultKind::Lex, word.line));
     }
-    one_more(reader, word)
+    one_more(alloc, reader, word)
 }
 
 // The text of a word that is one.
@@ -66,41 +67,14 @@ fn text_copy(kind: &TokenKind) -> Result<Option<Chars>, AllocError>
     }
 }
 
-// The text that came out last.
-fn last_text(reader: &Reader) -> Result<Option<Chars>, AllocError>
-    ensures { IfOk result (λ t. t ≡ last_text reader.now.out) }
+// A text behind the one that came out last, which has so many code points.
+fn text_behind(reader: &mut Reader, before: usize, text: &[char]) -> Result<(), Stop>
+    ensures { (ms : Table) (k : Standing) (t : List ℕ) → last_text reader.old.out ≡ Some t → before ≡ list_length t → Does (with_text (state_of reader.old ms k) (t ++ text.now) reader.old.out) result (state_of reader.new ms k) }
 {
-    match reader.out.first() {
-        Some(word) => text_copy(&word.kind),
-        None => Ok(None),
+    if before > LONGEST_TEXT || text.len() > LONGEST_TEXT - before {
+        return Err(Stop::At(FaultKind::Lex, reader.out.last_line()));
     }
-}
-
-// Two texts as one.
-fn joined(alloc: Global, before: &Chars, after: &Chars) -> Result<Chars, AllocError>
-    ensures { IfOk result (λ t. t ≡ before.now ++ after.now) }
-{
-    let mut letters = Vec::from_slice(alloc, before.as_slice())?;
-    letters.extend_from_slice(after.as_slice())?;
-    Chars::from_vec(alloc, letters)
-}
-
-// A text in the place of the last word.
-fn with_text(reader: &mut Reader, text: Chars) -> Result<(), Stop>
-    ensures { (ms : Table) (k : Standing) → Does (with_text (state_of reader.old ms k) text reader.old.out) result (state_of reader.new ms k) }
-{
-    let Some(last) = reader.out.pop() else {
-        return Ok(());
-    };
-    if text.as_slice().len() > LONGEST_TEXT {
-        return Err(Stop::At(FaultKind::Lex, last.line));
-    }
-    reader.out.push(Word {
-        kind: TokenKind::Text(text),
-        line: last.line,
-        hidden: last.hidden,
-        depth: last.depth,
-    })?;
+    reader.out.extend(text)?;
     Ok(())
 }
 
@@ -108,9 +82,9 @@ fn with_text(reader: &mut Reader, text: Chars) -> Result<(), Stop>
 fn text_out(alloc: Global, reader: &mut Reader, word: Word, text: Chars) -> Result<(), Stop>
     ensures { (ms : Table) (k : Standing) → Does (text_after (state_of reader.old ms k) word text (last_text reader.old.out)) result (state_of reader.new ms k) }
 {
-    match last_text(reader)? {
-        Some(before) => with_text(reader, joined(alloc, &before, &text)?),
-        None => lone_text(reader, word, text.as_slice().len()),
+    match reader.out.text_len() {
+        Some(before) => text_behind(reader, before, text.as_slice()),
+        None => lone_text(alloc, reader, word, text.as_slice().len()),
     }
 }
 
@@ -120,7 +94,7 @@ fn out_by(alloc: Global, reader: &mut Reader, word: Word, text: Option<Chars>) -
 {
     match text {
         Some(text) => text_out(alloc, reader, word, text),
-        None => one_more(reader, word),
+        None => one_more(alloc, reader, word),
     }
 }
 
@@ -139,7 +113,7 @@ pub fn emit(alloc: Global, reader: &mut Reader, word: Word) -> Result<(), Stop>
     match reader.purpose {
         Purpose::File => file_out(alloc, reader, word),
         _ => {
-            reader.out.push(word)?;
+            reader.out.push(alloc, word)?;
             Ok(())
         }
     }

@@ -1,5 +1,5 @@
 //! Sources with what they expand to, or their first fault.
-use crate::told::{fails, gives, store_of};
+use crate::told::{fails, fails_in, gives, gives_in, store_of, store_of_bytes};
 use lp_preproc::compiled::expand;
 use lp_tree::fault::FaultKind;
 use lp_tree::pragma::TypeMode;
@@ -321,6 +321,36 @@ fn more_faults(rt: HostRuntime) -> Result<(), Fail> {
     fails(&rt, alloc, &[("/a.c", "1 'x")], FaultKind::Lex, 1)?;
     fails(&rt, alloc, &[("/b.c", "1")], FaultKind::NoFile, 0)?;
     Ok(())
+}
+
+#[test]
+fn bytes(rt: HostRuntime) -> Result<(), Fail> {
+    let alloc = rt.alloc();
+    // Bytes that are no UTF-8 are a fault of their line before an open comment behind them, and in an included file of
+    // the line of its `#include`, also where no token of it would be read.
+    let broken = store_of_bytes(alloc, &[("/a.c", b"1\n2 \xff\n/*")])?;
+    fails_in(&rt, alloc, &broken, FaultKind::Lex, 2)?;
+    let comment = store_of_bytes(alloc, &[("/a.c", b"1\n/* \xff")])?;
+    fails_in(&rt, alloc, &comment, FaultKind::Lex, 2)?;
+    let including: &[(&str, &[u8])] = &[
+        ("/a.c", b"1\n\n#include \"b\"\n#else"),
+        ("/b", b"#if 0\n\xc3\n#endif"),
+    ];
+    fails_in(
+        &rt,
+        alloc,
+        &store_of_bytes(alloc, including)?,
+        FaultKind::Lex,
+        3,
+    )?;
+    let open: &[(&str, &[u8])] = &[("/a.c", b"#include <b>\n1"), ("/sys/b", b"1\n2 /* 3")];
+    fails_in(&rt, alloc, &store_of_bytes(alloc, open)?, FaultKind::Lex, 1)?;
+    // What is not opened is not looked at.
+    let skipped: &[(&str, &[u8])] = &[
+        ("/a.c", b"#if 0\n#include \"b\"\n#endif\n1"),
+        ("/b", b"\xff"),
+    ];
+    gives_in(&rt, alloc, &store_of_bytes(alloc, skipped)?, &[(4, "1")])
 }
 
 #[test]

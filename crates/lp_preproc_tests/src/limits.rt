@@ -1,5 +1,5 @@
 //! Limits, each kept and passed by one.
-use crate::told::fails_in;
+use crate::told::{fails_in, gives_in};
 use lp_files::store::Store;
 use lp_preproc::compiled::expand;
 use lp_tree::fault::FaultKind;
@@ -49,8 +49,14 @@ fn one(alloc: Global, text: &str) -> Result<Store, Fail> {
 #[test]
 fn depths(rt: HostRuntime) -> Result<(), Fail> {
     let alloc = rt.alloc();
-    let deep = one(alloc, chain(alloc, 64)?.as_str())?;
-    assert_eq!(rt; expand(alloc, &deep, "/a.c")?.tokens.len(), 1);
+    let mut chained = chain(alloc, 64)?;
+    chained.push_str("\nM1")?;
+    gives_in(
+        &rt,
+        alloc,
+        &one(alloc, chained.as_str())?,
+        &[(65, "M64"), (66, "M64")],
+    )?;
     let deeper = one(alloc, chain(alloc, 65)?.as_str())?;
     fails_in(&rt, alloc, &deeper, FaultKind::MacroDepth, 66)?;
     assert_eq!(rt;
@@ -68,14 +74,10 @@ fn depths(rt: HostRuntime) -> Result<(), Fail> {
     times(&mut arguments, "I(", 64)?;
     arguments.push_str("1")?;
     times(&mut arguments, ")", 64)?;
-    assert_eq!(rt;
-        expand(alloc, &one(alloc, arguments.as_str())?, "/a.c")?
-            .tokens
-            .len(),
-        1
-    );
+    gives_in(&rt, alloc, &one(alloc, arguments.as_str())?, &[(2, "1")])?;
     arguments.push_str("\n")?;
     times(&mut arguments, "I(", 65)?;
+    arguments.push_str("1")?;
     times(&mut arguments, ")", 65)?;
     fails_in(
         &rt,
@@ -158,6 +160,44 @@ fn uses(rt: HostRuntime) -> Result<(), Fail> {
 }
 
 #[test]
+fn put_in(rt: HostRuntime) -> Result<(), Fail> {
+    let alloc = rt.alloc();
+    // A use counts one and what it puts in: 99 texts, which are one token in the end. 10000 uses are 1000000.
+    let mut uses = String::from_str(alloc, "#define T")?;
+    times(&mut uses, " \"\"", 99)?;
+    uses.push_str("\n")?;
+    times(&mut uses, "T ", 9999)?;
+    let mut whole = String::from_str(alloc, uses.as_str())?;
+    whole.push_str("T\nx")?;
+    gives_in(
+        &rt,
+        alloc,
+        &one(alloc, whole.as_str())?,
+        &[(2, "\"\""), (3, "x")],
+    )?;
+    // One more: a use with one text more, or another use behind it.
+    let mut longer = String::from_str(alloc, uses.as_str())?;
+    longer.push_str("\n#undef T\n#define T")?;
+    times(&mut longer, " \"\"", 100)?;
+    longer.push_str("\nT")?;
+    fails_in(
+        &rt,
+        alloc,
+        &one(alloc, longer.as_str())?,
+        FaultKind::TooManyTokens,
+        5,
+    )?;
+    whole.push_str("\n#define E\n\nE")?;
+    fails_in(
+        &rt,
+        alloc,
+        &one(alloc, whole.as_str())?,
+        FaultKind::TooManyTokens,
+        6,
+    )
+}
+
+#[test]
 fn texts(rt: HostRuntime) -> Result<(), Fail> {
     let alloc = rt.alloc();
     // Neighbouring texts are one, over lines and macros.
@@ -171,6 +211,44 @@ fn texts(rt: HostRuntime) -> Result<(), Fail> {
     );
     text.push_str("\"x\"")?;
     fails_in(&rt, alloc, &one(alloc, text.as_str())?, FaultKind::Lex, 2)
+}
+
+// A text literal of so many code points of two bytes each.
+fn literal(alloc: Global, count: u32) -> Result<String, Fail> {
+    let mut out = String::from_str(alloc, "\"")?;
+    times(&mut out, "\u{e9}", count)?;
+    out.push_str("\"")?;
+    Ok(out)
+}
+
+#[test]
+fn code_points(rt: HostRuntime) -> Result<(), Fail> {
+    let alloc = rt.alloc();
+    // What counts is code points: of one text, and of joined ones.
+    let mut longest = literal(alloc, 100000)?;
+    longest.push_str(" \"\"\n\"\"")?;
+    let wanted = literal(alloc, 100000)?;
+    gives_in(
+        &rt,
+        alloc,
+        &one(alloc, longest.as_str())?,
+        &[(1, wanted.as_str())],
+    )?;
+    let mut single = String::from_str(alloc, "1\n")?;
+    single.push_str(literal(alloc, 100001)?.as_str())?;
+    fails_in(&rt, alloc, &one(alloc, single.as_str())?, FaultKind::Lex, 2)?;
+    // The line of a joined text that is too long is that of its first literal.
+    let mut joined = literal(alloc, 60000)?;
+    joined.push_str("\n")?;
+    joined.push_str(literal(alloc, 40000)?.as_str())?;
+    gives_in(
+        &rt,
+        alloc,
+        &one(alloc, joined.as_str())?,
+        &[(1, wanted.as_str())],
+    )?;
+    joined.push_str("\n\"x\"")?;
+    fails_in(&rt, alloc, &one(alloc, joined.as_str())?, FaultKind::Lex, 1)
 }
 
 #[test]

@@ -19,6 +19,15 @@ pub fn store_of(alloc: Global, files: &[(&str, &str)]) -> Result<Store, Fail> {
     Ok(store)
 }
 
+/// A store of these files, whose bytes need not be UTF-8.
+pub fn store_of_bytes(alloc: Global, files: &[(&str, &[u8])]) -> Result<Store, Fail> {
+    let mut store = Store::new(alloc);
+    for (path, bytes) in files {
+        store.write(path, bytes)?;
+    }
+    Ok(store)
+}
+
 fn tell(told: &mut String, line: u32, token: &Token) -> Result<(), Fail> {
     write!(told, "{}:{:?} ", line, token.kind)?;
     Ok(())
@@ -53,7 +62,17 @@ pub fn gives(
     lines: &[(u32, &str)],
 ) -> Result<(), Fail> {
     let store = store_of(alloc, files)?;
-    let expanded = expand(alloc, &store, "/a.c")?;
+    gives_in(rt, alloc, &store, lines)
+}
+
+/// A store's file expands to these tokens.
+pub fn gives_in(
+    rt: &impl Abort,
+    alloc: Global,
+    store: &Store,
+    lines: &[(u32, &str)],
+) -> Result<(), Fail> {
+    let expanded = expand(alloc, store, "/a.c")?;
     let told = out(alloc, expanded.tokens.as_slice())?;
     let wanted = wanted(rt, alloc, lines)?;
     assert_eq!(rt; told.as_str(), wanted.as_str());

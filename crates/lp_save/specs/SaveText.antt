@@ -1,6 +1,6 @@
 -- The text of saved values: how it is spelled, and what is read of it.
 use Rattle.lp_values.specs.Limits.{max_code_points, max_items}
-use Rattle.std.specs.Prelude.{ℕ, zero, suc, ◌+◌, List, [], ◌∷◌, ◌++◌, length, take, drop, map, filter, flat_map, fold, Bool, true, false, not, ◌&&◌, ◌||◌, Option, Some, None, unwrap_or, slice_get, slice_index, nat_eq, nat_le, nat_lt, chars, codes, decimal, encode_utf8_all, position, if◌then◌else◌}
+use Rattle.std.specs.Prelude.{ℕ, zero, suc, ◌+◌, bytes_eq, List, [], ◌∷◌, ◌++◌, length, take, drop, map, filter, flat_map, fold, Bool, true, false, not, ◌&&◌, ◌||◌, Option, Some, None, unwrap_or, slice_get, slice_index, nat_eq, nat_le, nat_lt, chars, codes, decimal, encode_utf8_all, position, if◌then◌else◌}
 use Rattle.std.specs.Char.{is_ascii_digit}
 use Rattle.std.specs.Fmt.{signed_decimal}
 use Rattle.std.specs.List.{list_all, list_any, prefix_len, starts_with, before_first}

@@ -35,8 +35,8 @@ expand_at-returns t c = λ c' i k.
 pub expand_list-returns-in-Ok-true : goal.expand_list-returns-in-Ok-true
 expand_list-returns-in-Ok-true t c = λ c' i p.
     let s = state_of c.turns.reader (macros_in c.args.table.now) (in_list c.args.least p) in
-    list_ended c' _ s (state_of c.turn.new.reader (macros_in c.args.table.now) (in_list c.args.least p)) (c.into_row.result, c.turn.new.reader.put_in) (c.turns.invariant c' i p)
-    ((rw c.in-Ok-true.field-0-test at c.in-Ok-true.ensures) c' i p) c.into_row.ensures refl
+    list_ended c' _ s (state_of c.turn.new.reader (macros_in c.args.table.now) (in_list c.args.least p)) (c.in_ok-out-in-Ok-true.out, c.turn.new.reader.put_in) (c.turns.invariant c' i p)
+    ((rw c.in-Ok-true.field-0-test at c.in-Ok-true.ensures) c' i p) c.in_ok-out-in-Ok-true.ensures refl
 
 pub expand_list-returns-in-Err : goal.expand_list-returns-in-Err
 expand_list-returns-in-Err t c = λ c' i p.

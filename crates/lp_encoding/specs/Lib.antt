@@ -1,0 +1,4 @@
+pub mod Forms
+pub mod Variants
+pub mod Instructions
+pub mod Programs

@@ -1,0 +1,12 @@
+use Rattle.std.proofs.Common.{None, ap, cond, ◌∙◌}
+use Rattle.std.specs.Ordering.{nat_cmp}
+use Rattle.std.specs.BTreeMap.{get}
+use Rattle.lp_places.specs.Table.{is_among, items_in}
+use Rattle.lp_places.proofs.TableLemmas.{cut, nat_at}
+use Rattle.lp_places.proofs.links.Links.take_out.Goals as goal
+
+pub returns : goal.returns
+returns c = λ links tb. cut c.leave.new.self (record { alloc = c.leave.new.self.alloc; forward = c.cut_listed.new.forward; backward = c.remove-items.new.self }) links c.args.o tb.once (c.leave.ensures links tb) (record {
+  forward = λ n. c.cut_listed.ensures n ∙ ap (λ v. cond (is_among n (items_in v)) None (get nat_cmp c.leave.new.self.forward n)) c.remove-items.ensures.value;
+  backward = λ n. c.remove-items.ensures.updates.0 n ∙ ap (λ b. cond b None (get nat_cmp c.leave.new.self.backward n)) (nat_at c.args.o.0 n);
+})

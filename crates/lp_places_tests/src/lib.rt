@@ -1,0 +1,9 @@
+//! Tests of objects, places and shadows.
+#![tactic(auto)]
+
+#[cfg(test)]
+mod objects;
+#[cfg(test)]
+mod places;
+#[cfg(test)]
+mod shadows;

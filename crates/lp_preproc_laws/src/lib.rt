@@ -1,0 +1,5 @@
+//! What the definition of an expansion promises to those above: laws that no code needs.
+#![tactic(auto)]
+
+pub mod answered;
+pub mod signs;

@@ -1,0 +1,5 @@
+pub mod DueLemmas
+pub mod FunctionLemmas
+pub mod IndexLemmas
+pub mod KeptLemmas
+pub mod SpotLemmas
