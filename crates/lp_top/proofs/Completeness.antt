@@ -87,7 +87,7 @@ bad-more b xs ys (z ∷ zs) at all s h e =
     ap (λ t. t ++ drop at (take longest_input b)) (sym fr.spelled) ∙ take-append-drop at (take longest_input b) ∙ all ∙ s.spelled ∙ ap spellings e ∙ spellings-append xs (z ∷ zs) in
     fr.longest z (record { fits = fits-middle beginning xs z zs (subst (AllFit beginning) e s.fit); others = spellings zs; spelled = cancel (spellings xs) _ _ whole })
 
-bad-not-script : OneSpelling → (b : List ℕ) (xs ys : List Item) (at : ℕ) → length b ≤ longest_input → IsScript b ys → IsBadScript b xs at → ⊥
+pub bad-not-script : OneSpelling → (b : List ℕ) (xs ys : List Item) (at : ℕ) → length b ≤ longest_input → IsScript b ys → IsBadScript b xs at → ⊥
 bad-not-script law b xs ys at l s h =
     let fr = h.0 in
     let w = front-held law b xs ys l s (record { others = drop at (take longest_input b); spelled = sym (take-append-drop at (take longest_input b)) ∙ ap (λ z. z ++ drop at (take longest_input b)) fr.spelled; fit = fr.fit }) in

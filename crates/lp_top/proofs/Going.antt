@@ -221,7 +221,7 @@ script-holds b xs s l y = record {
 }
 
 -- the end was read, and the line at the end written, or a front of it
-pub replays-finished : (b : List ℕ) (r : Reading) (live : Live) (from now next : Option (List ℕ)) (s : Status) (h : IsRunning r live from now) → IsScript b (h.read ++ items.End ∷ []) × (length b ≤ longest_input) → Finishes now next s → Replays b s from next
+pub replays-finished : (b : List ℕ) (r : Reading) (live : Live) (from now next : Option (List ℕ)) (s : Status) (h : IsRunning r live from now) → IsScript b (h.read ++ items.End ∷ []) × (length b ≤ longest_input) → Finishes (codes "end\n") now next s → Replays b s from next
 replays-finished b r live from now next ends.Done h t i =
     let xs = h.read ++ items.End ∷ [] in
     let es : events_of xs ≡ events_of h.read = events-append h.read (items.End ∷ []) ∙ append-nil (events_of h.read) in
@@ -280,7 +280,7 @@ pub kind-interrupted : (now next : Option (List ℕ)) (t : List ℕ) (s : Status
 kind-interrupted now next t ends.BadWords i = absurd i
 kind-interrupted now next t s i = tt
 
-pub kind-finished : (now next : Option (List ℕ)) (s : Status) → Finishes now next s → IsReplayEnd s
+pub kind-finished : (now next : Option (List ℕ)) (s : Status) → Finishes (codes "end\n") now next s → IsReplayEnd s
 kind-finished now next ends.BadWords i = absurd i
 kind-finished now next s i = tt
 

@@ -4,3 +4,5 @@ pub mod Filing
 pub mod Going
 pub mod Beginning
 pub mod Completeness
+pub mod Checking
+pub mod Naming

@@ -9,7 +9,7 @@ use Rattle.lp_events.specs.declared.item.Item.{Item}
 use Rattle.lp_events.specs.declared.item.Item.TheVariants as items
 use Rattle.lp_events.specs.declared.event.Event.TheVariants.{Connect, Line, Gone, Tick, Reload, Swap}
 use Rattle.lp_events.specs.Script.{IsScript, longest_input, spelling, event_spelling, spellings}
-use Rattle.lp_small.specs.Run.{is_run_yet}
+use Rattle.lp_small.specs.Run.{is_run_yet, BeginsWithItems}
 use Rattle.lp_script.specs.declared.phase.Phase.{Phase}
 use Rattle.lp_script.specs.declared.phase.Phase.TheVariants.{Taking, Giving, Over}
 use Rattle.lp_script.specs.declared.phase.Ending.TheVariants.{Whole, Bad, Large, Failed}
@@ -56,13 +56,13 @@ by_phase b taken told n Giving h g l =
 by_phase b taken told n (Over ending) h g l = absurd g
 
 -- the input begins with the items that were given
-pub holds : (b : List ℕ) (r : Reading) (told : Option (List ℕ)) (xs : List Item) → Reads b r told → GoesOn r.phase → HasGiven r xs → AreRunYet xs → Holds b xs
-holds b r told xs h g v y =
+pub begins_with : (b : List ℕ) (r : Reading) (told : Option (List ℕ)) (xs : List Item) → Reads b r told → GoesOn r.phase → HasGiven r xs → BeginsWithItems (take longest_input b) xs
+begins_with b r told xs h g v =
     let e = by_phase b r.taken told r.cut r.phase h g v.within in
-    record {
-      begins = record { others = drop r.cut (take longest_input b); spelled = sym (take-append-drop r.cut (take longest_input b)) ∙ ap (λ z. z ++ drop r.cut (take longest_input b)) (e ∙ v.spelled); fit = v.fit };
-      yet = y;
-    }
+    record { others = drop r.cut (take longest_input b); spelled = sym (take-append-drop r.cut (take longest_input b)) ∙ ap (λ z. z ++ drop r.cut (take longest_input b)) (e ∙ v.spelled); fit = v.fit }
+
+pub holds : (b : List ℕ) (r : Reading) (told : Option (List ℕ)) (xs : List Item) → Reads b r told → GoesOn r.phase → HasGiven r xs → AreRunYet xs → Holds b xs
+holds b r told xs h g v y = record { begins = begins_with b r told xs h g v; yet = y }
 
 -- the items that were given have as many bytes as the reader is far
 pub cut_is : (r : Reading) (xs : List Item) → HasGiven r xs → r.cut ≡ length (spellings xs)

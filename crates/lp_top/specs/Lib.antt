@@ -1,4 +1,5 @@
 pub mod Ends
 pub mod Words
 pub mod Replay
+pub mod Check
 pub mod Causes

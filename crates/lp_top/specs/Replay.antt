@@ -128,16 +128,16 @@ Interrupts before after piece (NoMaster fs) = ⊥
 Interrupts before after piece TooLarge = ⊥
 Interrupts before after piece InputFault = ⊥
 
--- The line at the end was written, or a front of it.
-abbrev pub Finishes : Option (List ℕ) → Option (List ℕ) → Status → Type 0
-Finishes before after Done = after ≡ after_adding before (codes "end\n")
-Finishes before after OutputFault = (piece : List ℕ) × IsFrontOf piece (codes "end\n") × (after ≡ after_adding before piece)
-Finishes before after BadWords = ⊥
-Finishes before after (BadScript at) = ⊥
-Finishes before after (NoMaster fs) = ⊥
-Finishes before after TooLarge = ⊥
-Finishes before after InputFault = ⊥
-Finishes before after NoMemory = ⊥
+-- The last piece was written, or a front of it.
+abbrev pub Finishes : List ℕ → Option (List ℕ) → Option (List ℕ) → Status → Type 0
+Finishes last before after Done = after ≡ after_adding before last
+Finishes last before after OutputFault = (piece : List ℕ) × IsFrontOf piece last × (after ≡ after_adding before piece)
+Finishes last before after BadWords = ⊥
+Finishes last before after (BadScript at) = ⊥
+Finishes last before after (NoMaster fs) = ⊥
+Finishes last before after TooLarge = ⊥
+Finishes last before after InputFault = ⊥
+Finishes last before after NoMemory = ⊥
 
 -- the ends that a replay may have once the words are right
 abbrev pub IsReplayEnd : Status → Type 0

@@ -1,9 +1,13 @@
 //! The top call of the driver.
 #![tactic(auto)]
 
+mod check;
+mod command;
+mod finish;
+mod items;
 pub mod replay;
 pub mod status;
 pub mod words;
 
-pub use replay::run;
+pub use command::run;
 pub use status::{Faults, Status, code};

@@ -1,6 +1,5 @@
 //! The command `replay`: reads a script, and writes its transcript.
-ghost use Rattle.std.specs.Prelude.{◌≡◌, ◌≢◌, ℕ, ◌≤◌, List, [], ◌∷◌, ◌++◌, Some, true, false, IfOk, IfErr, OnOk, OnErr, ◌⊎◌, ◌↔◌, length};
-ghost use Rattle.lp_io.specs.Counts.{Rose};
+ghost use Rattle.std.specs.Prelude.{◌≡◌, ◌≢◌, ℕ, ◌≤◌, List, [], ◌∷◌, ◌++◌, Some, true, false, IfOk, IfErr, OnOk, OnErr, length};
 ghost use Rattle.lp_events.specs.declared.item.Item.{Item as I};
 ghost use Rattle.lp_events.specs.declared.item.Item.TheVariants.{End as the_end};
 ghost use Rattle.lp_events.specs.Script.{IsScript, longest_input};
@@ -13,16 +12,16 @@ ghost use Rattle.lp_small.specs.Run.{is_run_yet as run_yet, has_started, turn, S
 ghost use Rattle.lp_small.specs.Running.{world_of};
 ghost use Rattle.lp_script.specs.Reader.{fresh, GoesOn, GoneAtMost, HasGiven, Reads, IsAfter};
 ghost use Rattle.std.specs.Option.{option_copied};
-ghost use Rattle.lp_top.specs.Words.{AreReplay};
-ghost use Rattle.lp_top.specs.Replay.{AreRunYet, EndsReading, IsReadingEnd, IsAtStart, IsGoing, IsReplayEnd, IsNoMaster, Interrupts, Finishes, Replays, Ends, status_of_fault, source_with, is_start as start_item, is_end as end_item};
+ghost use Rattle.lp_top.specs.Replay.{AreRunYet, EndsReading, IsReadingEnd, IsAtStart, IsGoing, IsReplayEnd, IsNoMaster, Interrupts, Replays, Ends, source_with, is_start as start_item};
 
+use crate::finish::finish;
+use crate::items::{is_end, status_of};
 use crate::status::{Faults, Status};
-use crate::words::are_replay;
 use lp_events::event::Event;
 use lp_events::item::Item;
 use lp_events::octets::Octets;
-use lp_io::{Sink, Source, put_all};
-use lp_script::{Reader, ScriptFault, one_spelling, write_outs};
+use lp_io::{Sink, Source};
+use lp_script::{Reader, write_outs};
 use lp_small::live::{Live, StartFault, start};
 use lp_tree::fault::{Fault, FaultKind};
 use lp_tree::path::FilePath;
@@ -41,17 +40,6 @@ fn is_run_yet(item: &Item) -> bool
             path.as_str() == "/secure/master.c" && bytes.as_slice().len() <= MOST_BYTES
         }
         Item::Event(event) => matches!(event, Event::Connect(_) | Event::Line(_, _)),
-    }
-}
-
-fn status_of(fault: ScriptFault) -> Status
-    ensures { result ≡ status_of_fault fault }
-{
-    match fault {
-        ScriptFault::BadScript { at } => Status::BadScript { at },
-        ScriptFault::TooLarge => Status::TooLarge,
-        ScriptFault::InputFault => Status::InputFault,
-        ScriptFault::NoMemory => Status::NoMemory,
     }
 }
 
@@ -100,12 +88,6 @@ fn is_start(item: &Item) -> bool
     ensures { result ≡ start_item item.now }
 {
     matches!(item, Item::Start)
-}
-
-fn is_end(item: &Item) -> bool
-    ensures { result ≡ end_item item.now }
-{
-    matches!(item, Item::End)
 }
 
 // Reads up to the item `start`, and gives the source of the master if there is one.
@@ -159,24 +141,6 @@ fn carry_out<K: Sink>(
     }
 }
 
-// Writes the line at the end of a transcript, and hands on what the sink may hold back.
-fn finish<K: Sink>(out: &mut K) -> Status
-    ensures end { Finishes (K.written out.old) (K.written out.new) result }
-    ensures cause { BlamesOutput result (K.faults out.old) (K.faults out.new) (K.zeros out.old) (K.zeros out.new) }
-    ensures no_fall { K.faults out.old ≤ K.faults out.new }
-    ensures zeros_no_fall { K.zeros out.old ≤ K.zeros out.new }
-    ensures passed { result ≡ Status.Done → IsPassedOn (K.passed out.new) }
-{
-    match put_all(out, b"end\n") {
-        Ok(()) => {}
-        Err(_) => return Status::OutputFault,
-    }
-    match out.flush() {
-        Ok(()) => Status::Done,
-        Err(_) => Status::OutputFault,
-    }
-}
-
 // Carries out the events up to the end.
 fn events<S: Source, K: Sink>(
     alloc: Global,
@@ -205,7 +169,7 @@ fn events<S: Source, K: Sink>(
                 Ok(()) => {}
                 Err(status) => return status,
             },
-            Item::End => return finish(out),
+            Item::End => return finish(out, b"end\n"),
             Item::Head(_, _) => unreachable!(),
             Item::File(_path, _bytes) => unreachable!(),
             Item::Start => unreachable!(),
@@ -264,8 +228,8 @@ fn begin<S: Source, K: Sink>(
     }
 }
 
-// Carries out a script whose words were right.
-fn replay<S: Source, K: Sink>(alloc: Global, input: &mut S, out: &mut K) -> Status
+/// Carries out a script.
+pub(crate) fn replay<S: Source, K: Sink>(alloc: Global, input: &mut S, out: &mut K) -> Status
     ensures replays { (b : List ℕ) → S.remaining input.old ≡ Some b → Replays b result (K.written out.old) (K.written out.new) }
     ensures whole { result ≡ Status.Done → (b : List ℕ) → S.remaining input.old ≡ Some b → S.remaining input.new ≡ Some [] }
     ensures most { (b : List ℕ) → S.remaining input.old ≡ Some b → GoneAtMost b (S.remaining input.new) }
@@ -286,48 +250,3 @@ fn replay<S: Source, K: Sink>(alloc: Global, input: &mut S, out: &mut K) -> Stat
 pub fn law_start()
     ensures { StartsOrFaults }
 {}
-
-/// Carries out the command that the words name: `replay` reads a script from `input` and writes its
-/// transcript to `out`.
-///
-/// - `Done`: the input was read to its end and is a script, and the bytes written are its transcript.
-/// - `BadWords`: the words are not the one word `replay`; nothing was read or written.
-/// - `BadScript`: at this offset stands no item that fits there and that a replay carries out; the
-///   blocks of the events before were written.
-/// - `NoMaster`: the files make no master, with this one fault; nothing was written.
-/// - `TooLarge`: the input goes on past 67108864 bytes, and where its items end within them nothing
-///   is left, or an item is begun.
-/// - `InputFault`: a read failed, and the source's count of faults rose.
-/// - `OutputFault`: a write or a flush failed, or a write took nothing, and one of the sink's counts
-///   rose.
-/// - `NoMemory`: the blocks of the events before were written.
-///
-/// At most 67108865 bytes of the input are taken, at every end. At `Done` all that was written was
-/// passed on by a flush.
-///
-/// What was read and written is known of a source and a sink that tell it, such as those in memory.
-pub fn run<S: Source, K: Sink>(
-    alloc: Global,
-    words: &[String],
-    input: &mut S,
-    out: &mut K,
-) -> Status
-    ensures words { (result ≡ Status.BadWords) ↔ (AreReplay words.now → ⊥) }
-    ensures untouched { result ≡ Status.BadWords → (input.new ≡ input.old) × (out.new ≡ out.old) }
-    ensures replays { AreReplay words.now → (b : List ℕ) → S.remaining input.old ≡ Some b → Replays b result (K.written out.old) (K.written out.new) }
-    ensures whole { result ≡ Status.Done → (b : List ℕ) → S.remaining input.old ≡ Some b → S.remaining input.new ≡ Some [] }
-    ensures most { (b : List ℕ) → S.remaining input.old ≡ Some b → GoneAtMost b (S.remaining input.new) }
-    ensures passed { result ≡ Status.Done → IsPassedOn (K.passed out.new) }
-    ensures input_fault { BlamesInput result (S.faults input.old) (S.faults input.new) }
-    ensures output_fault { BlamesOutput result (K.faults out.old) (K.faults out.new) (K.zeros out.old) (K.zeros out.new) }
-    // A script whose master is made, over devices that do not fail, is carried out to its end.
-    ensures complete { (b : List ℕ) (xs : List I) (w : World) → AreReplay words.now → S.remaining input.old ≡ Some b → length b ≤ longest_input → IsScript b xs → AreRunYet xs → Starts (files_of xs) w
-        → (Rose (S.faults input.old) (S.faults input.new) → ⊥) → (Rose (K.faults out.old) (K.faults out.new) → ⊥) → (Rose (K.zeros out.old) (K.zeros out.new) → ⊥)
-        → (result ≡ Status.Done) ⊎ (result ≡ Status.NoMemory) }
-{
-    one_spelling();
-    if !are_replay(words) {
-        return Status::BadWords;
-    }
-    replay(alloc, input, out)
-}

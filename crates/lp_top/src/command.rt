@@ -1,0 +1,79 @@
+//! The call that carries out a command.
+ghost use Rattle.std.specs.Prelude.{◌≡◌, ℕ, ◌≤◌, List, [], None, ◌⊎◌, length, map, string_bytes};
+ghost use Rattle.lp_io.specs.Counts.{Rose};
+ghost use Rattle.lp_io.specs.Told.{IsPassedOn};
+ghost use Rattle.lp_events.specs.declared.item.Item.{Item as I};
+ghost use Rattle.lp_events.specs.Script.{IsScript, files_of, longest_input};
+ghost use Rattle.lp_small.specs.World.{World};
+ghost use Rattle.lp_small.specs.Run.{Starts};
+ghost use Rattle.lp_script.specs.Reader.{GoneAtMost};
+ghost use Rattle.lp_top.specs.Causes.{BlamesInput, BlamesOutput};
+ghost use Rattle.lp_top.specs.Check.{Checks};
+ghost use Rattle.lp_top.specs.Replay.{AreRunYet, Replays};
+ghost use Rattle.lp_top.specs.Words.{Name, command_in};
+
+use crate::check::check;
+use crate::replay::replay;
+use crate::status::Status;
+use crate::words::{Command, WordsFault, command_of};
+use lp_io::{Sink, Source};
+use lp_script::one_spelling;
+use std::alloc::Global;
+
+/// Carries out the command that the words name: `replay` reads a script from `input` and writes its
+/// transcript to `out`; `check` reads a script and writes a line `FILE line N: TEXT` for each of its
+/// files that ends in `.c` and has a fault of its expansion or its unit, by path, and then the line
+/// `F files, E faults`. A check runs nothing.
+///
+/// - `Done`: the input was read to its end and is a script, and the bytes written are its transcript
+///   or its report.
+/// - `BadWords`: exactly where the words name no command, unless there is no memory to see it; nothing
+///   was read or written.
+/// - `BadScript`: at this offset stands no item that fits there, or one that a replay does not carry
+///   out; a replay has written the blocks of the events before, a check nothing.
+/// - `NoMaster`: the files make no master, with this one fault; nothing was written. A check never
+///   answers it.
+/// - `TooLarge`: the input goes on past 67108864 bytes, and where its items end within them nothing
+///   is left, or an item is begun.
+/// - `InputFault`: a read failed, and the source's count of faults rose.
+/// - `OutputFault`: a write or a flush failed, or a write took nothing, and one of the sink's counts
+///   rose. A front of the transcript or of the report was written.
+/// - `NoMemory`: a replay has written the blocks of the events before, a check nothing.
+///
+/// At most 67108865 bytes of the input are taken, at every end. At `Done` all that was written was
+/// passed on by a flush.
+///
+/// What was read and written is known of a source and a sink that tell it, such as those in memory.
+pub fn run<S: Source, K: Sink>(
+    alloc: Global,
+    words: &[String],
+    input: &mut S,
+    out: &mut K,
+) -> Status
+    ensures words { result ≡ Status.BadWords → command_in (map string_bytes words.now) ≡ None }
+    ensures refused { command_in (map string_bytes words.now) ≡ None → (result ≡ Status.BadWords) ⊎ (result ≡ Status.NoMemory) }
+    ensures untouched { command_in (map string_bytes words.now) ≡ None → (input.new ≡ input.old) × (out.new ≡ out.old) }
+    ensures replays { Name words.now Command.Replay → (b : List ℕ) → S.remaining input.old ≡ Some b → Replays b result (K.written out.old) (K.written out.new) }
+    ensures checks { Name words.now Command.Check → (b : List ℕ) → S.remaining input.old ≡ Some b → Checks b result (K.written out.old) (K.written out.new) }
+    ensures whole { result ≡ Status.Done → (b : List ℕ) → S.remaining input.old ≡ Some b → S.remaining input.new ≡ Some [] }
+    ensures most { (b : List ℕ) → S.remaining input.old ≡ Some b → GoneAtMost b (S.remaining input.new) }
+    ensures passed { result ≡ Status.Done → IsPassedOn (K.passed out.new) }
+    ensures input_fault { BlamesInput result (S.faults input.old) (S.faults input.new) }
+    ensures output_fault { BlamesOutput result (K.faults out.old) (K.faults out.new) (K.zeros out.old) (K.zeros out.new) }
+    // A script whose master is made, over devices that do not fail, is carried out to its end.
+    ensures complete { (b : List ℕ) (xs : List I) (w : World) → Name words.now Command.Replay → S.remaining input.old ≡ Some b → length b ≤ longest_input → IsScript b xs → AreRunYet xs → Starts (files_of xs) w
+        → (Rose (S.faults input.old) (S.faults input.new) → ⊥) → (Rose (K.faults out.old) (K.faults out.new) → ⊥) → (Rose (K.zeros out.old) (K.zeros out.new) → ⊥)
+        → (result ≡ Status.Done) ⊎ (result ≡ Status.NoMemory) }
+    // Each script, over devices that do not fail, is checked to its end.
+    ensures complete_check { (b : List ℕ) (xs : List I) → Name words.now Command.Check → S.remaining input.old ≡ Some b → length b ≤ longest_input → IsScript b xs
+        → (Rose (S.faults input.old) (S.faults input.new) → ⊥) → (Rose (K.faults out.old) (K.faults out.new) → ⊥) → (Rose (K.zeros out.old) (K.zeros out.new) → ⊥)
+        → (result ≡ Status.Done) ⊎ (result ≡ Status.NoMemory) }
+{
+    one_spelling();
+    match command_of(alloc, words) {
+        Ok(Command::Replay) => replay(alloc, input, out),
+        Ok(Command::Check) => check(alloc, input, out),
+        Err(WordsFault::BadWords) => Status::BadWords,
+        Err(WordsFault::NoMemory) => Status::NoMemory,
+    }
+}
