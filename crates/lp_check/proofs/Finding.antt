@@ -1,6 +1,6 @@
 -- What was found in a file.
 use Rattle.std.proofs.Common.{◌≡◌, ◌≤◌, ℕ, List, [], ◌∷◌, ◌++◌, ◌∙◌, sym, ap, subst, refl, length}
-use Rattle.std.specs.Prelude.{flat_map}
+use Rattle.std.specs.Prelude.{flat_map, IfOk}
 use Rattle.std.proofs.lemmas.List.{append-nil}
 use Rattle.std.proofs.Common.{append_assoc, ◌+◌, arith, length-append}
 use Rattle.std.proofs.lemmas.Grind.{flat_map-append}
@@ -13,8 +13,10 @@ use Rattle.lp_parser_expr.specs.declared.fault.ParseFault.{ParseFault}
 use Rattle.lp_parser_expr.specs.declared.fault.ParseFault.TheVariants as parse
 use Rattle.lp_parser.specs.Theorem.{sight, IsFault}
 use Rattle.lp_tree.specs.Units.{line_at}
-use Rattle.lp_preproc.specs.Expansion.{IsExpansion, setting}
-use Rattle.lp_check.specs.Faults.{IsUnitFault, IsNamed, HasFault, unit, IsFaultless, AreFaults, none, faultless, faulty}
+use Rattle.lp_preproc.specs.Expansion.{IsExpansion, IsFault as IsExpansionFault, setting}
+use Rattle.lp_preproc.specs.declared.fault.PreFault.{PreFault}
+use Rattle.lp_preproc.specs.declared.fault.PreFault.TheVariants as pre
+use Rattle.lp_check.specs.Faults.{IsUnitFault, IsNamed, IsFound, told_expansion, HasFault, expansion, unit, IsFaultless, AreFaults, none, faultless, faulty}
 use Rattle.lp_check.specs.Report.{fault_line}
 
 -- a fault of the tokens is one of the file
@@ -24,6 +26,11 @@ has_unit_fault files path ts p (parse.Unexpected line) fault x h n =
     unit n.0 x (subst (λ k. IsUnitFault ts k fault.line) (sym n.2) (h.0, h.1, n.1 ∙ h.2))
 has_unit_fault files path ts p (parse.TooNested line) fault x h n =
     unit n.0 x (subst (λ k. IsUnitFault ts k fault.line) (sym n.2) (h.0, h.1, n.1 ∙ h.2))
+
+-- a fault of the expansion is one of the file
+pub has_expansion_fault : (files : Store) (path : List ℕ) (f : PreFault) → IsExpansionFault (setting files path) f → IfOk (told_expansion f) (IsFound files path)
+has_expansion_fault files path (pre.At fault) h = expansion h.0 h.1
+has_expansion_fault files path pre.NoMemory h = tt
 
 -- one more file
 pub faultless_behind : (files : Store) (paths : List (List ℕ)) (path : List ℕ) (fs : List Fault) → AreFaults files paths fs → IsFaultless files path → AreFaults files (paths ++ path ∷ []) fs

@@ -1,6 +1,6 @@
 //! The first fault of a file.
 ghost use Rattle.std.specs.Prelude.{◌≡◌, IfOk};
-ghost use Rattle.lp_check.specs.Faults.{IsFound, IsNamed};
+ghost use Rattle.lp_check.specs.Faults.{IsFound, IsNamed, told_expansion};
 
 use lp_files::store::Store;
 use lp_parser::parse;
@@ -28,6 +28,16 @@ fn unit_fault(alloc: Global, path: &str, fault: ParseFault) -> Result<Fault, All
     })
 }
 
+// What is told of a file that has no expansion.
+fn expansion_fault(fault: PreFault) -> Result<Option<Fault>, AllocError>
+    ensures { result ≡ told_expansion fault }
+{
+    match fault {
+        PreFault::At(fault) => Ok(Some(fault)),
+        PreFault::NoMemory => Err(AllocError),
+    }
+}
+
 /// The first fault of a file, or none: of its expansion, or else of the unit that its tokens spell.
 pub(crate) fn fault_in(
     alloc: Global,
@@ -42,7 +52,6 @@ pub(crate) fn fault_in(
             Ok(_unit) => Ok(None),
             Err(fault) => Ok(Some(unit_fault(alloc, path, fault)?)),
         },
-        Err(PreFault::At(fault)) => Ok(Some(fault)),
-        Err(PreFault::NoMemory) => Err(AllocError),
+        Err(fault) => expansion_fault(fault),
     }
 }

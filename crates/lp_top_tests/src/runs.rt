@@ -1,75 +1,7 @@
 //! What no clause says: the bytes of worked examples, at ample memory.
-use lp_io::{MemSink, MemSource, Octets};
-use lp_top::{Status, code, run};
+use crate::running::{HELLO, ran, ran_over, script};
 use lp_tree::fault::FaultKind;
-use std::alloc::AllocError;
 use std::test::Fail;
-
-/// The master whose `logon` says hello.
-const HELLO: &str =
-    "object connect() { return this_object(); }\nint logon() { write(\"Hello\\n\"); return 1; }\n";
-
-/// A script of a master and items, run; its status and what it wrote.
-#[derive(Drop)]
-struct Replayed {
-    status: u8,
-    at: Option<u64>,
-    faults: Vec<(u32, FaultKind)>,
-    reads: u64,
-    writes: u64,
-    bytes: Vec<u8>,
-}
-
-fn script(rt: &HostRuntime, master: &str, items: &str) -> Result<String, AllocError> {
-    let len = master.len();
-    format!(in rt.alloc(); "mudscript 1 0 0\nfile /secure/master.c {len}\n{master}\nstart\n{items}")
-}
-
-fn ran(
-    rt: &HostRuntime,
-    words: &[&str],
-    script: &[u8],
-    failing: &[u64],
-    takes: usize,
-) -> Result<Replayed, AllocError> {
-    ran_over(rt, words, script, failing, &[], takes)
-}
-
-/// The same over a sink whose calls with these numbers fail.
-fn ran_over(
-    rt: &HostRuntime,
-    words: &[&str],
-    script: &[u8],
-    failing: &[u64],
-    failing_writes: &[u64],
-    takes: usize,
-) -> Result<Replayed, AllocError> {
-    let mut all = Vec::new(rt.alloc());
-    for word in words {
-        all.push(String::from_str(rt.alloc(), word)?)?;
-    }
-    let bytes = Octets::from_vec(script.to_vec(rt.alloc())?);
-    let mut input = MemSource::new(bytes, failing.to_vec(rt.alloc())?);
-    let mut out = MemSink::new(rt.alloc(), failing_writes.to_vec(rt.alloc())?, takes);
-    let status = run(rt.alloc(), all.as_slice(), &mut input, &mut out);
-    let mut faults = Vec::new(rt.alloc());
-    if let Status::NoMaster { faults: found } = &status {
-        for fault in found.as_slice() {
-            faults.push((fault.line, fault.kind))?;
-        }
-    }
-    Ok(Replayed {
-        status: code(&status),
-        at: match status {
-            Status::BadScript { at } => Some(at),
-            _ => None,
-        },
-        faults,
-        reads: input.calls(),
-        writes: out.calls(),
-        bytes: out.as_slice().to_vec(rt.alloc())?,
-    })
-}
 
 /// A master, items, and the status and transcript that they give.
 type Row = (&'static str, &'static str, u8, &'static str);

@@ -1,10 +1,11 @@
 use Rattle.std.proofs.Common.{sym, subst}
 use Rattle.lp_tree.specs.Signs.{AreUnsigned}
 use Rattle.lp_tree.specs.UnitView.{unit_of}
-use Rattle.lp_preproc.specs.Expansion.{IsExpansion, IsFault as IsExpansionFault, setting}
+use Rattle.lp_preproc.specs.Expansion.{IsExpansion, setting}
 use Rattle.lp_parser.specs.Theorem.{IsFault}
-use Rattle.lp_check.specs.Faults.{expansion}
-use Rattle.lp_check.proofs.Finding.{has_unit_fault}
+use Rattle.std.specs.Prelude.{IfOk}
+use Rattle.lp_check.specs.Faults.{IsFound}
+use Rattle.lp_check.proofs.Finding.{has_unit_fault, has_expansion_fault}
 use Rattle.lp_check.proofs.found.fault_in.Goals as goal
 
 pub parse-requires : goal.parse-requires
@@ -26,7 +27,6 @@ returns-in-Ok c =
     (subst (λ ts. IsExpansion (setting c.args.files.now c.args.path.now) ts c.in-Ok.expanded.pragmas) (sym c.as_slice.ensures.value) c.in-Ok.ensures.found)
     c.in-Err.ensures.faults c.in_ok-unit_fault-in-Err.ensures
 
-pub returns-in-Err-At : goal.returns-in-Err-At
-returns-in-Err-At c =
-    let h = subst (IsExpansionFault (setting c.args.files.now c.args.path.now)) c.in-Err-At.field-0-is c.in-Err-At.ensures.fault in
-    expansion h.0 h.1
+pub returns-in-Err-2 : goal.returns-in-Err-2
+returns-in-Err-2 c =
+    subst (λ r. IfOk r (IsFound c.args.files.now c.args.path.now)) (sym c.expansion_fault.ensures) (has_expansion_fault c.args.files.now c.args.path.now c.in-Err-2.fault c.in-Err-2.ensures.fault)
