@@ -1,7 +1,8 @@
 -- What was found in a file.
 use Rattle.std.proofs.Common.{◌≡◌, ◌≤◌, ℕ, List, [], ◌∷◌, ◌++◌, ◌∙◌, sym, ap, subst, refl, length}
 use Rattle.std.specs.Prelude.{flat_map, IfOk}
-use Rattle.std.proofs.lemmas.List.{append-nil}
+use Rattle.std.proofs.Common.{◌<◌, take, slice_index_or as get_or}
+use Rattle.std.proofs.lemmas.List.{append-nil, take_more}
 use Rattle.std.proofs.Common.{append_assoc, ◌+◌, arith, length-append}
 use Rattle.std.proofs.lemmas.Grind.{flat_map-append}
 use Rattle.lp_files.specs.declared.store.Store.{Store}
@@ -56,8 +57,8 @@ pub record IsTold (files : Store) (paths : List (List ℕ)) (out : List ℕ) (co
   pub lines : out ≡ flat_map fault_line faults
   pub counted : count ≡ length faults
 
-pub told_none : (files : Store) → IsTold files [] [] 0
-told_none files = record { faults = []; found = none; lines = refl; counted = refl }
+pub told_none : (files : Store) (out : List ℕ) → out ≡ [] → IsTold files [] out 0
+told_none files out e = record { faults = []; found = none; lines = e; counted = refl }
 
 -- one more file without a fault
 pub told_faultless : (files : Store) (paths : List (List ℕ)) (path out : List ℕ) (count : ℕ) → IsTold files paths out count → IsFaultless files path → IsTold files (paths ++ path ∷ []) out count
@@ -71,3 +72,13 @@ told_faulty files paths path out now count f t h e = record {
   lines = e ∙ ap (λ x. x ++ fault_line f) t.lines ∙ sym (lines_behind t.faults f);
   counted = omega (arith, t.counted, length-append t.faults (f ∷ []));
 }
+
+one_more : (paths : List (List ℕ)) (i : ℕ) (path : List ℕ) → i < length paths → path ≡ get_or paths i path → take (i + 1) paths ≡ take i paths ++ path ∷ []
+one_more paths i path lt is = take_more paths i path lt ∙ ap (λ p. take i paths ++ p ∷ []) (sym is)
+
+-- what was found in one more file, and told
+pub told_more : (files : Store) (paths : List (List ℕ)) (i : ℕ) (path out : List ℕ) (count : ℕ) → i < length paths → path ≡ get_or paths i path → IsTold files (take i paths) out count → IsFaultless files path → IsTold files (take (i + 1) paths) out count
+told_more files paths i path out count lt is t h = subst (λ ps. IsTold files ps out count) (sym (one_more paths i path lt is)) (told_faultless files (take i paths) path out count t h)
+
+pub told_fault_more : (files : Store) (paths : List (List ℕ)) (i : ℕ) (path out now : List ℕ) (count : ℕ) (f : Fault) → i < length paths → path ≡ get_or paths i path → IsTold files (take i paths) out count → HasFault files path f → now ≡ out ++ fault_line f → IsTold files (take (i + 1) paths) now (count + 1)
+told_fault_more files paths i path out now count f lt is t h e = subst (λ ps. IsTold files ps now (count + 1)) (sym (one_more paths i path lt is)) (told_faulty files (take i paths) path out now count f t h e)

@@ -48,7 +48,7 @@ static REPORTS: [Report; 11] = [
             ("/a.c", "int f( {\n\n\"open\n"),
             ("/b.c", "int b;\n\nint f() { return 1 }\n"),
         ],
-        "/a.c line 3: unterminated string\n/b.c line 3: unexpected token\n2 files, 2 faults\n",
+        "/a.c line 3: bad token\n/b.c line 3: unexpected token\n2 files, 2 faults\n",
     ),
     // Each file is told once, by path, though its include is shared.
     (
