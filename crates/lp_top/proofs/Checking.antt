@@ -6,7 +6,7 @@ use Rattle.lp_io.specs.Told.{after_adding}
 use Rattle.lp_events.specs.declared.item.Item.{Item}
 use Rattle.lp_events.specs.declared.item.Item.TheVariants as items
 use Rattle.lp_events.specs.Script.{beginning, IsScript, files_of, longest_input}
-use Rattle.lp_small.specs.Run.{BeginsWithItems}
+use Rattle.lp_small.specs.Run.{BeginsWithItems, before as none_begun}
 use Rattle.lp_script.specs.declared.fault.ScriptFault.{ScriptFault}
 use Rattle.lp_script.specs.declared.fault.ScriptFault.TheVariants as script
 use Rattle.lp_script.specs.Reader.{Reading, GoesOn, HasGiven, Reads, IsAfter, Says, fresh}
@@ -16,7 +16,7 @@ use Rattle.lp_check.specs.Sources.{AreFiles}
 use Rattle.lp_top.specs.declared.status.Status.{Status}
 use Rattle.lp_top.specs.declared.status.Status.TheVariants as ends
 use Rattle.lp_top.specs.Check.{EndsCheck, WroteCheck, Checks, IsGathering, IsGathered, EndsGathering}
-use Rattle.lp_top.specs.Replay.{Finishes, IsFrontOf, IsReadingEnd, IsReplayEnd, status_of_fault, is_end}
+use Rattle.lp_top.specs.Replay.{Replays, Finishes, IsFrontOf, IsReadingEnd, IsReplayEnd, status_of_fault, is_end}
 use Rattle.lp_top.proofs.Reading.{begins_with}
 use Rattle.lp_top.proofs.Filing.{files-append}
 use Rattle.lp_top.proofs.Completeness.{OneSpelling, bad-not-script}
@@ -70,6 +70,17 @@ whole_begins b xs s l = record { others = []; spelled = take_all longest_input b
 -- no memory for the report
 pub checks_no_memory : (b : List ℕ) (before : Option (List ℕ)) (sources : Sources) → IsGathered b sources → Checks b ends.NoMemory before before
 checks_no_memory b before sources h = wrote_none b before ends.NoMemory h.read (whole_begins b h.read h.script h.short) (λ piece e. e)
+
+-- no memory before anything was read
+pub checks_unread : (b : List ℕ) (told : Option (List ℕ)) → Checks b ends.NoMemory told told
+checks_unread b told = wrote_none b told ends.NoMemory [] (record { others = take longest_input b; spelled = refl; fit = tt }) (λ piece e. e)
+
+pub replays_unread : (b : List ℕ) (told : Option (List ℕ)) → Replays b ends.NoMemory told told
+replays_unread b told = record {
+  read = [];
+  ends = record { begins = record { others = take longest_input b; spelled = refl; fit = tt }; yet = refl };
+  wrote = λ old f. ([], added_none told old f, none_begun refl);
+}
 
 added : (before after : Option (List ℕ)) (old piece : List ℕ) → after ≡ after_adding before piece → before ≡ Some old → after ≡ Some (old ++ piece)
 added before after old piece e f = e ∙ ap (λ o. after_adding o piece) f
