@@ -1,6 +1,6 @@
 -- What was found in a file.
 use Rattle.std.proofs.Common.{◌≡◌, ◌≤◌, ℕ, List, [], ◌∷◌, ◌++◌, ◌∙◌, sym, ap, subst, refl, length}
-use Rattle.std.specs.Prelude.{flat_map, IfOk}
+use Rattle.std.specs.Prelude.{flat_map, Option}
 use Rattle.std.proofs.Common.{◌<◌, take, slice_index_or as get_or}
 use Rattle.std.proofs.lemmas.List.{append-nil, take_more}
 use Rattle.std.proofs.Common.{append_assoc, ◌+◌, arith, length-append}
@@ -17,7 +17,7 @@ use Rattle.lp_tree.specs.Units.{line_at}
 use Rattle.lp_preproc.specs.Expansion.{IsExpansion, IsFault as IsExpansionFault, setting}
 use Rattle.lp_preproc.specs.declared.fault.PreFault.{PreFault}
 use Rattle.lp_preproc.specs.declared.fault.PreFault.TheVariants as pre
-use Rattle.lp_check.specs.Faults.{IsUnitFault, IsNamed, IsFound, told_expansion, HasFault, expansion, unit, IsFaultless, AreFaults, none, faultless, faulty}
+use Rattle.lp_check.specs.Faults.{IsUnitFault, IsNamed, IsFound, IsToldOf, HasFault, expansion, unit, IsFaultless, AreFaults, none, faultless, faulty}
 use Rattle.lp_check.specs.Report.{fault_line}
 
 -- a fault of the tokens is one of the file
@@ -29,9 +29,9 @@ has_unit_fault files path ts p (parse.TooNested line) fault x h n =
     unit n.0 x (subst (λ k. IsUnitFault ts k fault.line) (sym n.2) (h.0, h.1, n.1 ∙ h.2))
 
 -- a fault of the expansion is one of the file
-pub has_expansion_fault : (files : Store) (path : List ℕ) (f : PreFault) → IsExpansionFault (setting files path) f → IfOk (told_expansion f) (IsFound files path)
-has_expansion_fault files path (pre.At fault) h = expansion h.0 h.1
-has_expansion_fault files path pre.NoMemory h = tt
+pub has_expansion_fault : (files : Store) (path : List ℕ) (f : PreFault) → IsExpansionFault (setting files path) f → (told : Option Fault) → IsToldOf f told → IsFound files path told
+has_expansion_fault files path (pre.At fault) h told e = subst (IsFound files path) (sym e) (expansion h.0 h.1)
+has_expansion_fault files path pre.NoMemory h told e = absurd e
 
 -- one more file
 pub faultless_behind : (files : Store) (paths : List (List ℕ)) (path : List ℕ) (fs : List Fault) → AreFaults files paths fs → IsFaultless files path → AreFaults files (paths ++ path ∷ []) fs

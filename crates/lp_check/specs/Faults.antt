@@ -1,5 +1,5 @@
 -- What is wrong with a file, as far as expansion and parsing go.
-use Rattle.std.specs.Prelude.{◌≡◌, ◌≤◌, ℕ, List, [], ◌∷◌, Option, Some, None, Result, Ok, Err}
+use Rattle.std.specs.Prelude.{◌≡◌, ◌≤◌, ℕ, List, [], ◌∷◌, Option, Some, None}
 use Rattle.lp_files.specs.declared.store.Store.{Store}
 use Rattle.lp_tree.specs.declared.fault.Fault.{Fault}
 use Rattle.lp_tree.specs.declared.fault.FaultKind.{FaultKind}
@@ -8,8 +8,6 @@ use Rattle.lp_tree.specs.declared.pragma.Pragmas.{Pragmas}
 use Rattle.lp_tree.specs.declared.token.Token.{Token}
 use Rattle.lp_tree.specs.Units.{ItemTree, SpellsUnit, IsUnexpected, IsTooNested, line_at, unit_height}
 use Rattle.lp_preproc.specs.Expansion.{IsExpansion, IsFirstFault, setting}
-use Rattle.std.specs.declared.alloc.AllocError.{AllocError}
-use Rattle.std.specs.declared.alloc.AllocError.TheViews.{out-AllocError}
 use Rattle.lp_preproc.specs.declared.fault.PreFault.{PreFault}
 use Rattle.lp_preproc.specs.declared.fault.PreFault.TheVariants as pre
 use Rattle.lp_parser_expr.specs.declared.fault.ParseFault.{ParseFault}
@@ -54,6 +52,6 @@ IsNamed path (parse.Unexpected line) fault = (fault.file ≡ path) × (fault.lin
 IsNamed path (parse.TooNested line) fault = (fault.file ≡ path) × (fault.line ≡ line) × (fault.kind ≡ kinds.TooNested)
 
 -- what is told of a file that has no expansion
-abbrev pub told_expansion : PreFault → Result (Option Fault) AllocError
-told_expansion (pre.At fault) = Ok (Some fault)
-told_expansion pre.NoMemory = Err out-AllocError
+abbrev pub IsToldOf : PreFault → Option Fault → Type 0
+IsToldOf (pre.At fault) told = told ≡ Some fault
+IsToldOf pre.NoMemory told = ⊥

@@ -1,6 +1,6 @@
 //! The first fault of a file.
 ghost use Rattle.std.specs.Prelude.{◌≡◌, IfOk};
-ghost use Rattle.lp_check.specs.Faults.{IsFound, IsNamed, told_expansion};
+ghost use Rattle.lp_check.specs.Faults.{IsFound, IsNamed, IsToldOf};
 
 use lp_files::store::Store;
 use lp_parser::parse;
@@ -30,7 +30,7 @@ fn unit_fault(alloc: Global, path: &str, fault: ParseFault) -> Result<Fault, All
 
 // What is told of a file that has no expansion.
 fn expansion_fault(fault: PreFault) -> Result<Option<Fault>, AllocError>
-    ensures { result ≡ told_expansion fault }
+    ensures { IfOk result (IsToldOf fault) }
 {
     match fault {
         PreFault::At(fault) => Ok(Some(fault)),

@@ -3,8 +3,7 @@ use Rattle.lp_tree.specs.Signs.{AreUnsigned}
 use Rattle.lp_tree.specs.UnitView.{unit_of}
 use Rattle.lp_preproc.specs.Expansion.{IsExpansion, setting}
 use Rattle.lp_parser.specs.Theorem.{IsFault}
-use Rattle.std.specs.Prelude.{IfOk}
-use Rattle.lp_check.specs.Faults.{IsFound}
+use Rattle.std.proofs.lemmas.Result.{IfOk-weaker}
 use Rattle.lp_check.proofs.Finding.{has_unit_fault, has_expansion_fault}
 use Rattle.lp_check.proofs.found.fault_in.Goals as goal
 
@@ -23,10 +22,10 @@ returns-in-Ok-parse c = record {
 
 pub returns-in-Ok : goal.returns-in-Ok
 returns-in-Ok c =
-    has_unit_fault c.args.files.now c.args.path.now c.as_slice.result.now c.in-Ok.expanded.pragmas c.in-Err.fault c.in_ok-unit_fault-in-Err.field-0
+    has_unit_fault c.args.files.now c.args.path.now c.as_slice.result.now c.in-Ok.expanded.pragmas c.in-Err-parse.fault c.in_ok-unit_fault-in-Err-parse.field-0
     (subst (λ ts. IsExpansion (setting c.args.files.now c.args.path.now) ts c.in-Ok.expanded.pragmas) (sym c.as_slice.ensures.value) c.in-Ok.ensures.found)
-    c.in-Err.ensures.faults c.in_ok-unit_fault-in-Err.ensures
+    c.in-Err-parse.ensures.faults c.in_ok-unit_fault-in-Err-parse.ensures
 
-pub returns-in-Err-2 : goal.returns-in-Err-2
-returns-in-Err-2 c =
-    subst (λ r. IfOk r (IsFound c.args.files.now c.args.path.now)) (sym c.expansion_fault.ensures) (has_expansion_fault c.args.files.now c.args.path.now c.in-Err-2.fault c.in-Err-2.ensures.fault)
+pub returns : goal.returns
+returns c =
+    IfOk-weaker c.expansion_fault.result _ _ (has_expansion_fault c.args.files.now c.args.path.now c.in-Err.fault c.in-Err.ensures.fault) c.expansion_fault.ensures
