@@ -2,4 +2,5 @@ pub mod DueLemmas
 pub mod FunctionLemmas
 pub mod IndexLemmas
 pub mod KeptLemmas
+pub mod LineLemmas
 pub mod SpotLemmas

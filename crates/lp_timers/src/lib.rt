@@ -6,4 +6,7 @@ pub mod call_outs;
 pub mod fault;
 pub(crate) mod functions;
 pub(crate) mod index;
+pub mod kind;
+pub(crate) mod line;
 pub(crate) mod spot;
+pub(crate) mod tree;
