@@ -3,4 +3,5 @@ pub mod FunctionLemmas
 pub mod IndexLemmas
 pub mod KeptLemmas
 pub mod LineLemmas
+pub mod MarkLemmas
 pub mod SpotLemmas

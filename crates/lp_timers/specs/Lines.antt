@@ -13,6 +13,12 @@ abbrev pub kind_of : Watch → Kind
 kind_of watch.Reset = Reset
 kind_of watch.CleanUp = CleanUp
 
+-- a kind's place among the kinds
+abbrev pub kind_place : Kind → ℕ
+kind_place Beat = 0
+kind_place Reset = 1
+kind_place CleanUp = 2
+
 -- whether two kinds are one
 abbrev pub same_kind : Kind → Kind → Bool
 same_kind Beat Beat = true

@@ -1,6 +1,6 @@
 //! What may be to come for an object.
 ghost use Rattle.std.specs.Prelude.{◌≡◌};
-ghost use Rattle.lp_timers.specs.Lines.{same_kind, kind_of};
+ghost use Rattle.lp_timers.specs.Lines.{kind_of, kind_place, same_kind};
 
 /// What an object may be watched for.
 #[derive(Clone, Copy, Debug, PartialEq, Eq)]
@@ -12,7 +12,7 @@ pub enum Watch {
 }
 
 /// What may be to come for an object: a heart beat, or what it is watched for.
-#[derive(Clone, Copy, Debug, PartialEq, Eq, PartialOrd, Ord)]
+#[derive(Clone, Copy, Debug, PartialEq, Eq)]
 pub(crate) enum Kind {
     Beat,
     Reset,
@@ -27,6 +27,17 @@ impl Kind {
         match watch {
             Watch::Reset => Kind::Reset,
             Watch::CleanUp => Kind::CleanUp,
+        }
+    }
+
+    /// Its place among the kinds.
+    pub(crate) fn place(self) -> u64
+        ensures { result ≡ kind_place self }
+    {
+        match self {
+            Kind::Beat => 0,
+            Kind::Reset => 1,
+            Kind::CleanUp => 2,
         }
     }
 

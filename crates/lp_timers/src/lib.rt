@@ -8,5 +8,7 @@ pub(crate) mod functions;
 pub(crate) mod index;
 pub mod kind;
 pub(crate) mod line;
+pub(crate) mod moments;
 pub(crate) mod spot;
+pub mod timers;
 pub(crate) mod tree;
