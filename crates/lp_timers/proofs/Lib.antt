@@ -5,3 +5,4 @@ pub mod KeptLemmas
 pub mod LineLemmas
 pub mod MarkLemmas
 pub mod SpotLemmas
+pub mod TimingLemmas
