@@ -24,7 +24,12 @@ impl Line {
     }
 
     /// Puts its object behind others, if it is of this kind and due at a moment.
-    pub(crate) fn tell_due(self, kind: Kind, t: u64, found: &mut Vec<ObjId>) -> Result<(), AllocError>
+    pub(crate) fn tell_due(
+        self,
+        kind: Kind,
+        t: u64,
+        found: &mut Vec<ObjId>,
+    ) -> Result<(), AllocError>
         ensures { OnOk result (found.new.items ≡ found.old.items ++ due_objects kind t (self ∷ [])) }
     {
         if self.is_due(kind, t) {

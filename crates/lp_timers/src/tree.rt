@@ -204,7 +204,12 @@ impl Tree {
     }
 
     /// Puts the objects of the lines of a kind that are due at a moment behind others, in order.
-    pub(crate) fn tell_due(&self, kind: Kind, t: u64, found: &mut Vec<ObjId>) -> Result<(), AllocError>
+    pub(crate) fn tell_due(
+        &self,
+        kind: Kind,
+        t: u64,
+        found: &mut Vec<ObjId>,
+    ) -> Result<(), AllocError>
         requires { KnowsSoonest self.now }
         ensures { OnOk result (found.new.items ≡ found.old.items ++ due_objects kind t (lines_of self.now)) }
     {

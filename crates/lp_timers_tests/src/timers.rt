@@ -12,18 +12,33 @@ fn a_beat_off_and_on_in_one_tick(rt: HostRuntime) -> Result<(), Fail> {
     assert!(rt; timers.beat(ObjId(3), true, 0)?);
     assert!(rt; timers.beat(ObjId(2), true, 0)?);
     assert_eq!(rt; timers.beats(1)?.as_slice(), [].as_slice());
-    assert_eq!(rt; timers.beats(2)?.as_slice(), [ObjId(1), ObjId(3), ObjId(2)].as_slice());
+    assert_eq!(rt;
+        timers.beats(2)?.as_slice(),
+        [ObjId(1), ObjId(3), ObjId(2)].as_slice()
+    );
     assert!(rt; timers.beat(ObjId(3), false, 2)?);
     assert!(rt; !timers.beat(ObjId(3), false, 2)?);
     assert!(rt; timers.beat(ObjId(3), true, 2)?);
     assert!(rt; !timers.beat(ObjId(3), true, 9)?);
-    assert_eq!(rt; timers.beats(3)?.as_slice(), [ObjId(1), ObjId(2)].as_slice());
+    assert_eq!(rt;
+        timers.beats(3)?.as_slice(),
+        [ObjId(1), ObjId(2)].as_slice()
+    );
     assert!(rt; !timers.beats_by(ObjId(3), 3) && timers.beats_by(ObjId(3), 4));
-    assert_eq!(rt; timers.beats(4)?.as_slice(), [ObjId(1), ObjId(2), ObjId(3)].as_slice());
+    assert_eq!(rt;
+        timers.beats(4)?.as_slice(),
+        [ObjId(1), ObjId(2), ObjId(3)].as_slice()
+    );
     timers.next_beat(ObjId(1), 5);
     timers.next_beat(ObjId(7), 1);
-    assert_eq!(rt; timers.beats(4)?.as_slice(), [ObjId(2), ObjId(3)].as_slice());
-    assert_eq!(rt; timers.beats(5)?.as_slice(), [ObjId(1), ObjId(2), ObjId(3)].as_slice());
+    assert_eq!(rt;
+        timers.beats(4)?.as_slice(),
+        [ObjId(2), ObjId(3)].as_slice()
+    );
+    assert_eq!(rt;
+        timers.beats(5)?.as_slice(),
+        [ObjId(1), ObjId(2), ObjId(3)].as_slice()
+    );
     Ok(())
 }
 
@@ -34,16 +49,36 @@ fn a_watch_put_again(rt: HostRuntime) -> Result<(), Fail> {
     timers.watch(ObjId(1), Watch::CleanUp, 3600)?;
     timers.watch(ObjId(2), Watch::Reset, 1800)?;
     timers.watch(ObjId(3), Watch::Reset, 1700)?;
-    assert_eq!(rt; timers.watched(Watch::Reset, 1799)?.as_slice(), [ObjId(3)].as_slice());
+    assert_eq!(rt;
+        timers.watched(Watch::Reset, 1799)?.as_slice(),
+        [ObjId(3)].as_slice()
+    );
     timers.watch(ObjId(1), Watch::Reset, 2000)?;
-    assert_eq!(rt; timers.watched(Watch::Reset, 1999)?.as_slice(), [ObjId(2), ObjId(3)].as_slice());
-    assert_eq!(rt; timers.watched(Watch::Reset, 2000)?.as_slice(), [ObjId(1), ObjId(2), ObjId(3)].as_slice());
-    assert_eq!(rt; timers.watched(Watch::CleanUp, 3599)?.as_slice(), [].as_slice());
+    assert_eq!(rt;
+        timers.watched(Watch::Reset, 1999)?.as_slice(),
+        [ObjId(2), ObjId(3)].as_slice()
+    );
+    assert_eq!(rt;
+        timers.watched(Watch::Reset, 2000)?.as_slice(),
+        [ObjId(1), ObjId(2), ObjId(3)].as_slice()
+    );
+    assert_eq!(rt;
+        timers.watched(Watch::CleanUp, 3599)?.as_slice(),
+        [].as_slice()
+    );
     timers.unwatch(ObjId(1), Watch::Reset);
-    assert!(rt; !timers.is_watched(ObjId(1), Watch::Reset) && timers.is_watched(ObjId(1), Watch::CleanUp));
+    assert!(rt;
+        !timers.is_watched(ObjId(1), Watch::Reset) && timers.is_watched(ObjId(1), Watch::CleanUp)
+    );
     timers.watch(ObjId(1), Watch::Reset, 1800)?;
-    assert_eq!(rt; timers.watched(Watch::Reset, 9000)?.as_slice(), [ObjId(2), ObjId(3), ObjId(1)].as_slice());
-    assert_eq!(rt; timers.watched(Watch::CleanUp, 9000)?.as_slice(), [ObjId(1)].as_slice());
+    assert_eq!(rt;
+        timers.watched(Watch::Reset, 9000)?.as_slice(),
+        [ObjId(2), ObjId(3), ObjId(1)].as_slice()
+    );
+    assert_eq!(rt;
+        timers.watched(Watch::CleanUp, 9000)?.as_slice(),
+        [ObjId(1)].as_slice()
+    );
     assert_eq!(rt; timers.beats(9000)?.as_slice(), [].as_slice());
     Ok(())
 }
@@ -60,11 +95,20 @@ fn all_of_an_object_ends(rt: HostRuntime) -> Result<(), Fail> {
         timers.watch(ObjId(ob), Watch::CleanUp, 3600)?;
     }
     assert_eq!(rt; timers.drop_of(ObjId(1)).map(|c| c.number), Some(1));
-    assert_eq!(rt; timers.beats(2)?.as_slice(), [ObjId(1), ObjId(2)].as_slice());
+    assert_eq!(rt;
+        timers.beats(2)?.as_slice(),
+        [ObjId(1), ObjId(2)].as_slice()
+    );
     assert!(rt; timers.drop_of(ObjId(1)).is_none());
     assert_eq!(rt; timers.beats(2)?.as_slice(), [ObjId(2)].as_slice());
-    assert_eq!(rt; timers.watched(Watch::Reset, 1800)?.as_slice(), [ObjId(2)].as_slice());
-    assert_eq!(rt; timers.watched(Watch::CleanUp, 3600)?.as_slice(), [ObjId(2)].as_slice());
+    assert_eq!(rt;
+        timers.watched(Watch::Reset, 1800)?.as_slice(),
+        [ObjId(2)].as_slice()
+    );
+    assert_eq!(rt;
+        timers.watched(Watch::CleanUp, 3600)?.as_slice(),
+        [ObjId(2)].as_slice()
+    );
     assert_eq!(rt; timers.left(ObjId(2), &fun), Some(5));
     assert_eq!(rt; timers.due(5)?.as_slice(), [2].as_slice());
     assert_eq!(rt; timers.remove(ObjId(2), &fun).map(|c| c.number), Some(2));
