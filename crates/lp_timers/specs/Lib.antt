@@ -1,6 +1,11 @@
 pub mod Functions
 pub mod Index
 pub mod Indexed
+pub mod Lines
+pub mod Marked
+pub mod Marks
 pub mod Spots
 pub mod Timers
+pub mod Timing
+pub mod Tree
 pub mod Waiting

@@ -125,6 +125,10 @@ watch_at kind o at x = if is_watch_of kind o x then record x { next = at } else 
 abbrev pub watch_next : List Watching → WatchKind → ObjId → ℕ → List Watching
 watch_next ws kind o at = map (watch_at kind o at) ws
 
+-- an object is watched from now on, with a moment: where it is watched already, the moment changes and its place stays
+abbrev pub watch_put : List Watching → WatchKind → ObjId → ℕ → List Watching
+watch_put ws kind o at = if is_watched ws kind o then watch_next ws kind o at else ws ++ record { object = o; kind = kind; next = at } ∷ []
+
 -- an object is not watched for this any more
 abbrev pub unwatched : List Watching → WatchKind → ObjId → List Watching
 unwatched ws kind o = filter (λ x. not (is_watch_of kind o x)) ws

@@ -1,4 +1,4 @@
-//! What no clause says of actions, call-outs and the leave to use files.
+//! What no clause says of actions, of all that is to come, and of the leave to use files.
 //!
 //! The tests stand here and not beside the code, so that no library is proved twice.
 #![tactic(auto)]
@@ -9,3 +9,5 @@ mod actions;
 mod call_outs;
 #[cfg(test)]
 mod policy;
+#[cfg(test)]
+mod timers;
