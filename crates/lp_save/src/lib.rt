@@ -1,2 +1,12 @@
 //! The text of saved values.
 #![tactic(auto)]
+
+mod cell_set;
+mod spell;
+mod walk;
+
+pub mod fault;
+pub mod save;
+
+pub use fault::SaveFault;
+pub use save::save_text;
