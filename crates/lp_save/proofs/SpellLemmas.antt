@@ -1,5 +1,5 @@
 -- Text that is added.
-use Rattle.std.proofs.Common.{◌≡◌, ℕ, zero, suc, ◌+◌, ◌-◌, ◌<◌, ◌≤◌, Bool, true, false, List, [], ◌∷◌, ◌++◌, length, take, append-nil, unwrap_or, Option, Some, None, refl, sym, ap, subst, ◌∙◌, arith}
+use Rattle.std.proofs.Common.{◌≡◌, ℕ, zero, suc, ◌+◌, ◌-◌, ◌<◌, ◌≤◌, Bool, true, false, List, [], ◌∷◌, ◌++◌, length, get_or, take, append-nil, unwrap_or, Option, Some, None, refl, sym, ap, subst, ◌∙◌, append_assoc, arith}
 use Rattle.std.specs.Prelude.{codes, Result, Ok, Err, OnOk, if◌then◌else◌}
 use Rattle.std.specs.List.{fold}
 use Rattle.std.proofs.lemmas.List.{take_all}
@@ -12,7 +12,7 @@ use Rattle.lp_values.specs.declared.value.Value.TheVariants.{Arr, Map}
 use Rattle.lp_cells.specs.Cells.{Store, items_at, items_of, pairs_at, stored_pairs}
 use Rattle.lp_cells.specs.Mapping.{pair_there, pairs_there}
 use Rattle.lp_save.specs.declared.spell.Speller.{Speller}
-use Rattle.lp_save.specs.SaveText.{Spelt, is_among, add, begun, numbered, share_number, spelt}
+use Rattle.lp_save.specs.SaveText.{Spelt, is_among, add, begun, numbered, line_spelt, max_saved_levels, share_number, spelt}
 use Rattle.lp_save.specs.States.{Writes, Spells, pair_spelt}
 use Rattle.lp_save.proofs.WalkLemmas.{among_added, there_more}
 
@@ -109,3 +109,20 @@ pub spelt_no_pair : (live : ObjId → Bool) (spell : Spelt → Value → Spelt) 
 spelt_no_pair live spell start old now ps i is before = λ s w.
     let all : pairs_there live (take (i + 1) ps) ≡ pairs_there live (take i ps) = there_more live ps i ∙ ap (λ y. pairs_there live (take i ps) ++ y) (sym is) ∙ append-nil (pairs_there live (take i ps)) in
     subst (λ y. Writes now (fold (pair_spelt spell) (start s) y)) (sym all) (before s w)
+
+-- a line
+pub spelt_line : (live : ObjId → Bool) (cells : Store) (shared : List CellId) (old one two three new : Speller) (p : List ℕ × Value) → one.text.items ≡ old.text.items ++ p.0 → one.done ≡ old.done → two.text.items ≡ one.text.items ++ codes " " → two.done ≡ one.done
+    → Spells two three (λ s. spelt live cells shared max_saved_levels s p.1) → new.text.items ≡ three.text.items ++ codes "\n" → new.done ≡ three.done → Spells old new (λ s. line_spelt live cells shared s p)
+spelt_line live cells shared old one two three new p text done text2 done2 value text3 done3 = λ s w.
+    spells_text three new (codes "\n") text3 done3 (spelt live cells shared max_saved_levels (add (p.0 ++ codes " ") s) p.1)
+    (value (add (p.0 ++ codes " ") s) (spells_text old two (p.0 ++ codes " ") (text2 ∙ ap (λ x. x ++ codes " ") text ∙ append_assoc old.text.items p.0 (codes " ")) (done2 ∙ done) s w))
+
+-- a line more, and all lines
+pub spelt_lines : (f : Spelt → List ℕ × Value → Spelt) (old now new : Speller) (vars : List (List ℕ × Value)) (i : ℕ) (p : List ℕ × Value) → i < length vars → p ≡ get_or vars i p → Spells old now (λ s. fold f s (take i vars)) → Spells now new (λ s. f s p)
+    → Spells old new (λ s. fold f s (take (i + 1) vars))
+spelt_lines f old now new vars i p lt is before line = λ s w.
+    let all : take (i + 1) vars ≡ take i vars ++ p ∷ [] = take_more vars i p lt ∙ ap (λ y. take i vars ++ y ∷ []) (sym is) in
+    subst (λ y. Writes new (fold f s y)) (sym all) (subst (Writes new) (sym (fold-append f s (take i vars) (p ∷ []))) (line (fold f s (take i vars)) (before s w)))
+
+pub spelt_all : (f : Spelt → List ℕ × Value → Spelt) (old now : Speller) (vars : List (List ℕ × Value)) (i : ℕ) → length vars ≤ i → Spells old now (λ s. fold f s (take i vars)) → Spells old now (λ s. fold f s vars)
+spelt_all f old now vars i le before = λ s w. subst (λ y. Writes now (fold f s y)) (take_all i vars le) (before s w)

@@ -1,9 +1,9 @@
 -- Cells that are met, and values that are gone over.
-use Rattle.std.proofs.Common.{◌≡◌, ℕ, zero, suc, ◌+◌, ◌-◌, ◌<◌, ◌≤◌, Bool, true, false, ◌||◌, eqb, List, [], ◌∷◌, ◌++◌, length, get_or, take, drop, append-nil, unwrap_or, Option, Some, None, refl, sym, ap, subst, ◌∙◌, arith, inl, inr}
-use Rattle.std.specs.Prelude.{if◌then◌else◌}
+use Rattle.std.proofs.Common.{◌≡◌, ℕ, zero, suc, ◌+◌, ◌-◌, ◌<◌, ◌≤◌, Bool, true, false, cond, ◌||◌, eqb, List, [], ◌∷◌, ◌++◌, length, get_or, take, drop, append-nil, unwrap_or, Option, Some, None, refl, sym, ap, subst, ◌∙◌, arith, inl, inr}
+use Rattle.std.specs.Prelude.{encode_utf8_all, filter, if◌then◌else◌, map}
 use Rattle.std.specs.List.{flat_map, fold, list_any}
-use Rattle.std.proofs.lemmas.Bool.{cases_Bool, eqb-true, true≢false}
-use Rattle.std.proofs.lemmas.List.{take_all, take_more}
+use Rattle.std.proofs.lemmas.Bool.{cases_Bool, cond-true, cond-false, eqb-true, true≢false}
+use Rattle.std.proofs.lemmas.List.{map-append, take_all, take_more}
 use Rattle.std.proofs.lemmas.List.Folds.{list_any-append}
 use Rattle.std.proofs.lemmas.Grind.{fold-append}
 use Rattle.lp_values.specs.declared.id.CellId.{CellId}
@@ -17,7 +17,7 @@ use Rattle.std.specs.Option.{option_to_list}
 use Rattle.std.proofs.lemmas.List.Elements.{filter-append}
 use Rattle.std.proofs.lemmas.Grind.{flat_map-append}
 use Rattle.lp_save.specs.declared.walk.Walker.{Walker}
-use Rattle.lp_save.specs.SaveText.{Walk, is_among, cell_in, inner, met_first, met_again, met_deep, walked}
+use Rattle.lp_save.specs.SaveText.{Walk, is_among, cell_in, inner, met_first, met_again, met_deep, saved_text, shared_in, text_spelt, walk_of, walked}
 use Rattle.lp_save.specs.States.{Stands, GoesOver, both, met_at, is_entered}
 
 or_false : (b : Bool) → (b || false) ≡ b
@@ -180,3 +180,37 @@ over_no_pair live f old now ps i is before = λ w s.
 pub over_all_pairs : (live : ObjId → Bool) (f : Walk → Value → Walk) (old now : Walker) (ps : List (Value × Value)) (i : ℕ) → length ps ≤ i
     → GoesOver old now (λ w. fold f w (flat_map both (pairs_there live (take i ps)))) → GoesOver old now (λ w. fold f w (flat_map both (pairs_there live ps)))
 over_all_pairs live f old now ps i le before = λ w s. subst (λ y. Stands now (fold f w (flat_map both (pairs_there live y)))) (take_all i ps le) (before w s)
+
+-- ---- variables
+
+pub over_var : (f : Walk → Value → Walk) (old now new : Walker) (vars : List (List ℕ × Value)) (i : ℕ) (p : List ℕ × Value) → i < length vars → p ≡ get_or vars i p → GoesOver old now (λ w. fold f w (map (λ q. q.1) (take i vars)))
+    → GoesOver now new (λ w. f w p.1) → GoesOver old new (λ w. fold f w (map (λ q. q.1) (take (i + 1) vars)))
+over_var f old now new vars i p lt is before step = λ w s.
+    let snd : List ℕ × Value → Value = λ q. q.1 in
+    let all : map snd (take (i + 1) vars) ≡ map snd (take i vars) ++ p.1 ∷ [] = ap (map snd) (take_more vars i p lt ∙ ap (λ y. take i vars ++ y ∷ []) (sym is)) ∙ map-append snd (take i vars) (p ∷ []) in
+    subst (λ y. Stands new (fold f w y)) (sym all) (subst (Stands new) (sym (fold-append f w (map snd (take i vars)) (p.1 ∷ []))) (step (fold f w (map snd (take i vars))) (before w s)))
+
+pub over_vars : (f : Walk → Value → Walk) (old now : Walker) (vars : List (List ℕ × Value)) (i : ℕ) → length vars ≤ i → GoesOver old now (λ w. fold f w (map (λ q. q.1) (take i vars))) → GoesOver old now (λ w. fold f w (map (λ q. q.1) vars))
+over_vars f old now vars i le before = λ w s. subst (λ y. Stands now (fold f w (map (λ q. q.1) y))) (take_all i vars le) (before w s)
+
+-- ---- what is saved
+
+pub saved_some : (live : ObjId → Bool) (cells : Store) (ps : List (List ℕ × Value)) (k : Walker) (shared : List CellId) (bytes : List ℕ) → Stands k (walk_of live cells (map (λ p. p.1) ps)) → k.is_deep ≡ false → shared ≡ shared_in (walk_of live cells (map (λ p. p.1) ps))
+    → bytes ≡ encode_utf8_all (text_spelt live cells shared ps) → saved_text live cells ps ≡ Some bytes
+unfolding saved_text
+saved_some live cells ps k shared bytes s deep is spelled =
+    let w : Walk = walk_of live cells (map (λ p. p.1) ps) in
+    cond-false w.is_deep None (Some (encode_utf8_all (text_spelt live cells (shared_in w) ps))) (sym s.is_deep ∙ deep) ∙ ap (λ x. Some (encode_utf8_all (text_spelt live cells x ps))) (sym is) ∙ ap Some (sym spelled)
+
+pub saved_none : (live : ObjId → Bool) (cells : Store) (ps : List (List ℕ × Value)) (k : Walker) → Stands k (walk_of live cells (map (λ p. p.1) ps)) → k.is_deep ≡ true → saved_text live cells ps ≡ None
+unfolding saved_text
+saved_none live cells ps k s deep =
+    let w : Walk = walk_of live cells (map (λ p. p.1) ps) in
+    cond-true w.is_deep None (Some (encode_utf8_all (text_spelt live cells (shared_in w) ps))) (sym s.is_deep ∙ deep)
+
+filter_agrees : (p q : CellId → Bool) → ((c : CellId) → p c ≡ q c) → (cs : List CellId) → filter p cs ≡ filter q cs
+filter_agrees p q same [] = refl
+filter_agrees p q same (c ∷ cs) = ap (λ b. cond b (c ∷ filter p cs) (filter p cs)) (same c) ∙ ap (λ ds. cond (q c) (c ∷ ds) ds) (filter_agrees p q same cs)
+
+pub shared_same : (k : Walker) (w : Walk) (shared : List CellId) → Stands k w → shared ≡ filter (λ c. is_among c k.again) k.met → shared ≡ shared_in w
+shared_same k w shared s is = is ∙ filter_agrees (λ c. is_among c k.again) (λ c. is_among c w.again) s.again k.met ∙ ap (filter (λ c. is_among c w.again)) s.met

@@ -6,7 +6,8 @@ mod spell;
 mod walk;
 
 pub mod fault;
+pub mod law;
 pub mod save;
 
-pub use fault::SaveFault;
+pub use fault::{FaultKind, SaveFault};
 pub use save::save_text;

@@ -1,8 +1,8 @@
 //! Saving values.
 ghost use Rattle.std.specs.Prelude.{◌≡◌, All, IfOk, IsErrOf, None, OnOk, Some, encode_utf8_all, fold, map};
 ghost use Rattle.lp_cells.specs.Cells.{IsClosed, IsThere};
-ghost use Rattle.lp_save.specs.SaveText.{line_spelt, saved_text, text_spelt, walked, max_saved_levels};
-ghost use Rattle.lp_save.specs.States.{GoesOver, Spells};
+ghost use Rattle.lp_save.specs.SaveText.{Walk, line_spelt, max_saved_levels, saved_text, shared_in, text_spelt, walked};
+ghost use Rattle.lp_save.specs.States.{GoesOver, Spells, Stands};
 
 use crate::cell_set::CellSet;
 use crate::fault::SaveFault;
@@ -34,6 +34,24 @@ fn walk_all<L: Living>(
     Ok(())
 }
 
+/// Spells the line of a variable.
+fn spell_line<L: Living>(
+    speller: &mut Speller,
+    var: &(Text, Value),
+    shared: &CellSet,
+    cells: &Cells,
+    live: &L,
+) -> Result<(), AllocError>
+    requires closed { IsClosed cells.now }
+    requires there { IsThere cells.now var.now.1 }
+    ensures { OnOk result (Spells speller.old speller.new (λ s. line_spelt (L.live live.now) cells.now shared.now s var.now)) }
+{
+    add(speller, var.0.as_slice())?;
+    add(speller, &[' '])?;
+    spell(speller, &var.1, LEVELS, shared, cells, live)?;
+    add(speller, &['\n'])
+}
+
 /// Spells a line for each variable.
 fn spell_all<L: Living>(
     speller: &mut Speller,
@@ -47,12 +65,18 @@ fn spell_all<L: Living>(
     ensures { OnOk result (Spells speller.old speller.new (λ s. fold (line_spelt (L.live live.now) cells.now shared.now) s vars.now)) }
 {
     for var in vars {
-        add(speller, var.0.as_slice())?;
-        add(speller, &[' '])?;
-        spell(speller, &var.1, LEVELS, shared, cells, live)?;
-        add(speller, &['\n'])?;
+        spell_line(speller, var, shared, cells, live)?;
     }
     Ok(())
+}
+
+/// The cells that were met more than once.
+fn shared_cells(walker: Walker) -> CellSet
+    ensures { (w : Walk) → Stands walker w → result ≡ shared_in w }
+{
+    let Walker { mut met, again, .. } = walker;
+    met.keep_in(&again);
+    met
 }
 
 /// The bytes of a text.
@@ -102,7 +126,6 @@ pub fn save_text<L: Living>(
     if walker.is_deep {
         return Err(SaveFault::TooNested);
     }
-    let Walker { mut met, again, .. } = walker;
-    met.keep_in(&again);
-    Ok(text_of(alloc, vars, &met, cells, live)?)
+    let shared = shared_cells(walker);
+    Ok(text_of(alloc, vars, &shared, cells, live)?)
 }
