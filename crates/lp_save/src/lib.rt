@@ -2,12 +2,11 @@
 #![tactic(auto)]
 
 mod cell_set;
-mod spell;
-mod walk;
-
 pub mod fault;
 pub mod law;
 pub mod save;
+mod spell;
+mod walk;
 
 pub use fault::{FaultKind, SaveFault};
 pub use save::save_text;

@@ -86,6 +86,15 @@ impl World {
         Ok(Value::Map(self.cells.new_map(pairs)?))
     }
 
+    /// A new array of the numbers below 10000.
+    fn numbers(&mut self, rt: &impl Abort) -> Result<Value, Fail> {
+        let mut items = Vec::new(self.alloc);
+        for n in 0..10000 {
+            items.push(Value::Int(n))?;
+        }
+        self.array(rt, items)
+    }
+
     /// Writes an item of an array.
     fn set(&mut self, rt: &impl Abort, c: CellId, i: u64, v: Value) -> Result<(), Fail> {
         assert!(rt; self.cells.is_there(&Value::Arr(c)));
@@ -183,5 +192,29 @@ fn a_hundred_levels_are_saved(rt: HostRuntime) -> Result<(), Fail> {
     assert!(rt; world.has_values(vars.as_slice()));
     let fault = save_text(alloc, vars.as_slice(), &world.cells, &Even).err();
     assert_eq!(rt; fault, Some(SaveFault::TooNested));
+    Ok(())
+}
+
+// The largest array, and ten of them in one.
+#[test]
+fn ten_thousand_values_are_saved(rt: HostRuntime) -> Result<(), Fail> {
+    let mut world = World::new(rt.alloc());
+    let v = world.numbers(&rt)?;
+    let text = world.saved(&rt, v)?;
+    assert_eq!(rt; text.len(), 48906);
+    Ok(())
+}
+
+#[test]
+fn a_hundred_thousand_values_are_saved(rt: HostRuntime) -> Result<(), Fail> {
+    let alloc = rt.alloc();
+    let mut world = World::new(alloc);
+    let mut all = Vec::new(alloc);
+    for _ in 0..10 {
+        all.push(world.numbers(&rt)?)?;
+    }
+    let v = world.array(&rt, all)?;
+    let text = world.saved(&rt, v)?;
+    assert_eq!(rt; text.len(), 488966);
     Ok(())
 }

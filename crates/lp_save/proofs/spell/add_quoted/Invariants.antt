@@ -6,5 +6,5 @@ use Rattle.lp_save.proofs.spell.add_quoted.Given as goal
 abbrev pub invariant-loop-c : goal.invariant-loop-c
 invariant-loop-c l = record {
   text : l.speller.text.items ≡ l.fn.speller.text.items ++ 34 ∷ flat_map saved_point (take l.c-index l.text);
-  done : l.speller.done ≡ l.fn.speller.done
+  done : l.speller.done ≡ l.fn.speller.done;
 }
