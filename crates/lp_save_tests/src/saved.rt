@@ -119,9 +119,8 @@ impl World {
     /// The text of a variable `v` and a variable `w` that is 0 is this.
     fn saves(&self, rt: &impl Abort, value: Value, want: &str) -> Result<(), Fail> {
         let text = self.saved(rt, value)?;
-        assert!(rt; 6 <= text.len());
-        let line = String::from_utf8(text)?;
-        assert_eq!(rt; line.as_str(), want);
+        let text = String::from_utf8(text)?;
+        assert_eq!(rt; text.as_str(), want);
         Ok(())
     }
 }
@@ -150,6 +149,16 @@ fn values_are_spelled(rt: HostRuntime) -> Result<(), Fail> {
     )?;
     let map = world.mapping(&rt, pairs)?;
     world.saves(&rt, map, "#2:0\nv ([1:\"a\",0:8,])\nw 0\n")
+}
+
+#[test]
+fn no_variables_give_the_first_line(rt: HostRuntime) -> Result<(), Fail> {
+    let alloc = rt.alloc();
+    let world = World::new(alloc);
+    let vars = Vec::new(alloc);
+    let text = save_text(alloc, vars.as_slice(), &world.cells, &Even)?.into_vec();
+    assert_eq!(rt; text.as_slice(), b"#2:0\n".as_slice());
+    Ok(())
 }
 
 // An array that occurs twice, and one inside itself.
