@@ -3,6 +3,7 @@ pub mod ConditionLemmas
 pub mod IncludeLemmas
 pub mod Leading
 pub mod Lexing
+pub mod NameOrder
 pub mod Outcomes
 pub mod ParameterLemmas
 pub mod ResultLemmas

@@ -2,6 +2,7 @@ pub mod Conditions
 pub mod Directives
 pub mod Expansion
 pub mod Macros
+pub mod NameTrees
 pub mod Names
 pub mod Outs
 pub mod Places

@@ -11,7 +11,7 @@ ghost use Rattle.lp_preproc.specs.Uses.{argument_word, asked, asked_name, asked_
 use crate::macros::Macro;
 use crate::params::{Distinct, Params};
 use crate::reader::{Reader, emit};
-use crate::result::{among, same_name};
+use crate::result::same_name;
 use crate::row::Row;
 use crate::stack::Stack;
 use crate::state::{Arguments, Part, Purpose, Reading, Use};
@@ -119,7 +119,7 @@ fn read_name(
 ) -> Result<Read, Stop>
     ensures { (c : Setting) (k : Standing) → Reads c (read_name c (state_of reader.old (macros_in table.now) k) word name.now) result (state_of reader.new (macros_in table.now) k) }
 {
-    if among(name, word.hidden.as_slice()) {
+    if word.hidden.contains(name) {
         return out(alloc, reader, word);
     }
     use_macro(alloc, reader, word, table.find(name))

@@ -2,7 +2,7 @@
 ghost use Rattle.std.specs.Prelude.{◌≡◌, ◌++◌, ◌∷◌, [], ◌≤◌, ◌<◌, ◌^◌, ℕ, IfOk, OnOk, List, Option, Some, None, map, length, slice_get};
 ghost use Rattle.std.specs.Option.{option_copied, option_map};
 ghost use Rattle.std.specs.Cmp.Lexicographic.{pointwise};
-ghost use Rattle.lp_preproc.specs.Macros.{among, same_name, with_name, with_names};
+ghost use Rattle.lp_preproc.specs.Macros.{same_name};
 ghost use Rattle.lp_preproc.specs.Uses.{argument_at, argument_of, filled, hidden_in, name_of, put, put_back, put_argument, put_words, result_words, tokens_of};
 ghost use Rattle.lp_preproc.specs.State.{Setting};
 ghost use Rattle.lp_preproc.specs.Macros.{Table};
@@ -19,7 +19,6 @@ use crate::row::Row;
 use crate::state::Use;
 use crate::stop::Stop;
 use crate::word::{Word, copy_kind};
-use lp_tree::chars::Chars;
 use lp_tree::fault::FaultKind;
 use lp_tree::token::TokenKind;
 use std::alloc::{AllocError, Global};
@@ -31,50 +30,12 @@ pub fn same_name(a: &[char], b: &[char]) -> bool
     a == b
 }
 
-/// Whether a name is one of these.
-pub fn among(name: &[char], names: &[Chars]) -> bool
-    ensures { result ≡ among name.now names.now }
-{
-    'names: for other in names {
-        if same_name(name, other.as_slice()) {
-            return true;
-        }
-    }
-    false
-}
-
-/// These names and one more.
-pub fn with_name(alloc: Global, name: &Chars, names: &Names) -> Result<Names, AllocError>
-    ensures { IfOk result (λ r. r ≡ with_name name.now names.now) }
-{
-    if among(name.as_slice(), names.as_slice()) {
-        return names.copy();
-    }
-    let mut all = Vec::new(alloc);
-    all.push(name.copy()?)?;
-    'copied: for other in names.as_slice() {
-        all.push(other.copy()?)?;
-    }
-    Names::from_vec(alloc, all)
-}
-
-/// The names of both lists.
-pub fn with_names(alloc: Global, more: &Names, names: &Names) -> Result<Names, AllocError>
-    ensures { IfOk result (λ r. r ≡ with_names more.now names.now) }
-{
-    let mut all = names.copy()?;
-    'more: for name in more.as_slice() {
-        all = with_name(alloc, name, &all)?;
-    }
-    Ok(all)
-}
-
 /// The names that are no macros in the result of a use.
 pub fn hidden_in(alloc: Global, word: &Word) -> Result<Names, AllocError>
     ensures { IfOk result (λ r. r ≡ hidden_in word.now (name_of word.now.kind)) }
 {
     match &word.kind {
-        TokenKind::Name(name) => with_name(alloc, name, &word.hidden),
+        TokenKind::Name(name) => word.hidden.with(alloc, name),
         _ => word.hidden.copy(),
     }
 }
@@ -135,7 +96,7 @@ fn put_argument(
     Ok(Word {
         kind: copy_kind(&arg.kind)?,
         line: word.line,
-        hidden: with_names(alloc, &arg.hidden, hidden)?,
+        hidden: hidden.with_all(alloc, &arg.hidden)?,
         depth: arg.depth.max(depth),
     })
 }
