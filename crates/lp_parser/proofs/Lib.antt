@@ -4,3 +4,5 @@ pub mod Levels
 pub mod Viable
 pub mod Main
 pub mod Replies
+pub mod Readings
+pub mod Steps

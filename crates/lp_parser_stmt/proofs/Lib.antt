@@ -5,3 +5,6 @@ pub mod Levels
 pub mod Sound
 pub mod Viable
 pub mod Laws
+pub mod Stacks
+pub mod Ends
+pub mod Readers

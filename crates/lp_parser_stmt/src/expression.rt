@@ -1,0 +1,241 @@
+//! Expressions in statements.
+ghost use Rattle.std.specs.Prelude.{◌≡◌, [], Ok, None, Some, if◌then◌else◌, option_map};
+ghost use Rattle.lp_tree.specs.StatementView.{init_of};
+ghost use Rattle.lp_tree.specs.TreeView.{tree_of};
+ghost use Rattle.lp_parser_expr.specs.Machine.{Need as expr_need, step as expr_next};
+ghost use Rattle.lp_parser_expr.specs.Moves.{state_of as expr_state};
+ghost use Rattle.lp_parser_expr.specs.StackView.{stack_of as expr_stack};
+ghost use Rattle.lp_parser_stmt.specs.Endings.{is_end};
+ghost use Rattle.lp_parser_stmt.specs.Machine.{Inside, Maybe, Need, OnSwitch, OneOf, Reading, Stack as Opens, after_some, by_paren as ends_by_paren, filled as filled_by, first_declares as first_declared, init_of as init_made, maybe as maybe_given, reads, step, used as used_for};
+ghost use Rattle.lp_parser_stmt.specs.Moves.{Steps};
+ghost use Rattle.lp_parser_stmt.specs.StackView.{stack_of};
+ghost use Rattle.lp_parser_stmt.specs.View.{frame_of, optional_of, role_of};
+
+use crate::class::{Class, class_of, mark_of};
+use crate::ending::end_do;
+use crate::focus::{Focus, Moved};
+use crate::frame::{Frame, Switching};
+use crate::names::Names;
+use crate::role::{Optional, Role, Whose};
+use crate::stack::Stack;
+use lp_parser_expr::focus::{Focus as ExprFocus, Moved as ExprMoved};
+use lp_parser_expr::machine::step as expr_step;
+use lp_parser_expr::stack::Stack as ExprStack;
+use lp_parser_expr::tall::Tall;
+use lp_tree::expr::Expr;
+use lp_tree::keyword::Base;
+use lp_tree::seen::{Seen, Sort};
+use lp_tree::stmt::{Init, Stmt};
+use lp_tree::token::Mark;
+use std::alloc::{AllocError, Global};
+
+/// The first token of an expression.
+pub fn begin_expression(alloc: Global, role: Role, seen: Seen) -> Result<Moved, AllocError>
+    ensures { (s : Opens) → Steps (reads (expr_next (expr_need []) seen) (role_of role) s) s result }
+{
+    let mut inner = ExprStack::new(alloc);
+    match expr_step(alloc, &mut inner, ExprFocus::Need, seen)? {
+        ExprMoved::Goes(next) => Ok(Moved::Goes(Focus::Reading(inner, next, role))),
+        ExprMoved::Ends(_) => Ok(Moved::Refuses),
+    }
+}
+
+// What was read of the statement is on the stack, and a statement comes.
+fn opens(stack: &mut Stack, frame: Frame) -> Result<Moved, AllocError>
+    ensures { Steps (Some (Need (Inside (frame_of frame) (stack_of stack.old)))) (stack_of stack.new) result }
+{
+    stack.push(frame)?;
+    Ok(Moved::Goes(Focus::Need))
+}
+
+// A `switch` up to its brace.
+fn opens_switch(alloc: Global, stack: &mut Stack, line: u32, on: Expr) -> Result<Moved, AllocError>
+    ensures { Steps (Some (used_for (OnSwitch line) (tree_of on) (stack_of stack.old))) (stack_of stack.new) result }
+{
+    stack.push(Frame::InSwitch(Switching {
+        line,
+        on,
+        done: Vec::new(alloc),
+    }))?;
+    Ok(Moved::Goes(Focus::Awaits(Mark::OpenBrace)))
+}
+
+// The first part of a `for`, which is no declaration.
+fn init_from(of: Option<Expr>) -> Init
+    ensures { init_of result ≡ init_made (option_map tree_of of) }
+{
+    match of {
+        None => Init::Nothing,
+        Some(of) => Init::Runs(of),
+    }
+}
+
+/// An optional part was read, or passed over, with the mark behind it.
+pub fn filled(stack: &mut Stack, part: Optional, value: Option<Expr>) -> Result<Moved, AllocError>
+    ensures { Steps (Some (filled_by (optional_of part) (option_map tree_of value) (stack_of stack.old))) (stack_of stack.new) result }
+{
+    match part {
+        Optional::Value(line) => Ok(Moved::Goes(Focus::Have(Stmt::Return { line, value }))),
+        Optional::First(line) => Ok(Moved::Goes(Focus::Maybe(Optional::Test(
+            line,
+            init_from(value),
+        )))),
+        Optional::Test(line, init) => Ok(Moved::Goes(Focus::Maybe(Optional::Step(
+            line, init, value,
+        )))),
+        Optional::Step(line, init, test) => opens(stack, Frame::ForBody(line, init, test, value)),
+    }
+}
+
+// An expression and the mark that ends it were read.
+fn used(alloc: Global, stack: &mut Stack, role: Role, tree: Expr) -> Result<Moved, AllocError>
+    ensures { Steps (Some (used_for (role_of role) (tree_of tree) (stack_of stack.old))) (stack_of stack.new) result }
+{
+    match role {
+        Role::ToRun => Ok(Moved::Goes(Focus::Have(Stmt::Run {
+            line: tree.line(),
+            of: tree,
+        }))),
+        Role::TestIf(line) => opens(stack, Frame::IfYes(line, tree)),
+        Role::TestWhile(line) => opens(stack, Frame::WhileBody(line, tree)),
+        Role::TestDo(line, body) => Ok(Moved::Goes(Focus::EndStmt(end_do(
+            alloc, line, body, tree,
+        )?))),
+        Role::OverEach(line, first, second) => opens(
+            stack,
+            Frame::EachBody(line, first, second, tree),
+        ),
+        Role::OnSwitch(line) => opens_switch(alloc, stack, line, tree),
+        Role::OneOf(part) => filled(stack, part, Some(tree)),
+    }
+}
+
+// Whether `)` ends an expression, and not `;`.
+fn by_paren(role: &Role) -> bool
+    ensures { result ≡ ends_by_paren (role_of role.now) }
+{
+    match role {
+        Role::ToRun => false,
+        Role::OneOf(Optional::Step(_, _, _)) => true,
+        Role::OneOf(_) => false,
+        _ => true,
+    }
+}
+
+// Whether this mark ends an expression.
+fn ends_by(mark: Option<Mark>, role: &Role) -> bool
+    ensures { result ≡ is_end mark (role_of role.now) }
+{
+    match mark {
+        Some(Mark::Semicolon) => !by_paren(role),
+        Some(Mark::CloseParen) => by_paren(role),
+        _ => false,
+    }
+}
+
+// Behind a whole expression.
+fn after(
+    alloc: Global,
+    stack: &mut Stack,
+    role: Role,
+    tree: Expr,
+    mark: Option<Mark>,
+) -> Result<Moved, AllocError>
+    ensures { Steps (after_some mark (role_of role) (Some (tree_of tree)) (stack_of stack.old)) (stack_of stack.new) result }
+{
+    if ends_by(mark, &role) {
+        return used(alloc, stack, role, tree);
+    }
+    Ok(Moved::Refuses)
+}
+
+/// A token of an expression, or behind it.
+pub fn reading(
+    alloc: Global,
+    stack: &mut Stack,
+    inner: ExprStack,
+    at: ExprFocus,
+    role: Role,
+    seen: Seen,
+) -> Result<Moved, AllocError>
+    ensures { Steps (step (Reading (expr_state at (expr_stack inner)) (role_of role) (stack_of stack.old)) seen) (stack_of stack.new) result }
+{
+    let mark = mark_of(&seen.sort);
+    let mut inner = inner;
+    match expr_step(alloc, &mut inner, at, seen)? {
+        ExprMoved::Goes(next) => Ok(Moved::Goes(Focus::Reading(inner, next, role))),
+        ExprMoved::Ends(Some(tree)) => after(alloc, stack, role, tree.expr, mark),
+        ExprMoved::Ends(None) => Ok(Moved::Refuses),
+    }
+}
+
+// A declaration, which is the first part of a `for` alone.
+fn first_declares(alloc: Global, part: Optional, base: Base, line: u32) -> Moved
+    ensures { (s : Opens) → Steps (first_declared base line (optional_of part) s) s (Ok result) }
+{
+    match part {
+        Optional::First(owner) => Moved::Goes(Focus::Declaring(
+            line,
+            base,
+            Names::new(alloc),
+            Whose::OfFor(owner),
+        )),
+        other => {
+            drop(other);
+            Moved::Refuses
+        }
+    }
+}
+
+// Whether `)` ends an optional part, and not `;`.
+fn is_last(part: &Optional) -> bool
+    ensures { result ≡ ends_by_paren (OneOf (optional_of part.now)) }
+{
+    match part {
+        Optional::Step(_, _, _) => true,
+        _ => false,
+    }
+}
+
+// A mark where an optional part may be missing, which ends it or not.
+fn skips(stack: &mut Stack, part: Optional, is_end: bool) -> Result<Moved, AllocError>
+    ensures { Steps (if is_end then Some (filled_by (optional_of part) None (stack_of stack.old)) else None) (stack_of stack.new) result }
+{
+    if is_end {
+        return filled(stack, part, None);
+    }
+    Ok(Moved::Refuses)
+}
+
+// A token of this class.
+fn maybe_class(
+    alloc: Global,
+    stack: &mut Stack,
+    part: Optional,
+    class: Class,
+    seen: Seen,
+) -> Result<Moved, AllocError>
+    ensures { Steps (maybe_given class seen (optional_of part) (stack_of stack.old)) (stack_of stack.new) result }
+{
+    let is_last = is_last(&part);
+    match class {
+        Class::SemicolonEnds => skips(stack, part, !is_last),
+        Class::ParenCloses => skips(stack, part, is_last),
+        Class::TypeBegins(base) => Ok(first_declares(alloc, part, base, seen.line)),
+        Class::ExpressionBegins => begin_expression(alloc, Role::OneOf(part), seen),
+        _ => Ok(Moved::Refuses),
+    }
+}
+
+/// A token where an expression may be missing.
+pub fn maybe(
+    alloc: Global,
+    stack: &mut Stack,
+    part: Optional,
+    seen: Seen,
+) -> Result<Moved, AllocError>
+    ensures { Steps (step (Maybe (optional_of part) (stack_of stack.old)) seen) (stack_of stack.new) result }
+{
+    let class = class_of(&seen.sort);
+    maybe_class(alloc, stack, part, class, seen)
+}
