@@ -10,7 +10,7 @@ pub(crate) const HELLO: &str =
 
 /// How a run ended, what it asked of its devices, and what it wrote.
 #[derive(Drop)]
-pub(crate) struct Ran {
+pub(crate) struct Outcome {
     pub(crate) status: u8,
     pub(crate) at: Option<u64>,
     pub(crate) faults: Vec<(u32, FaultKind)>,
@@ -30,7 +30,7 @@ pub(crate) fn ran(
     script: &[u8],
     failing: &[u64],
     takes: usize,
-) -> Result<Ran, AllocError> {
+) -> Result<Outcome, AllocError> {
     ran_over(rt, words, script, failing, &[], takes)
 }
 
@@ -42,7 +42,7 @@ pub(crate) fn ran_over(
     failing: &[u64],
     failing_writes: &[u64],
     takes: usize,
-) -> Result<Ran, AllocError> {
+) -> Result<Outcome, AllocError> {
     let mut all = Vec::new(rt.alloc());
     for word in words {
         all.push(String::from_str(rt.alloc(), word)?)?;
@@ -57,7 +57,7 @@ pub(crate) fn ran_over(
             faults.push((fault.line, fault.kind))?;
         }
     }
-    Ok(Ran {
+    Ok(Outcome {
         status: code(&status),
         at: match status {
             Status::BadScript { at } => Some(at),
