@@ -1,8 +1,7 @@
 -- Lines in order of their numbers: what is found, changed or left out among them.
-use Rattle.std.proofs.Common.{◌≡◌, ℕ, ◌+◌, ◌<◌, ◌≤◌, Bool, true, false, cond, not, nat_eq, nat_le, ◌&&◌, List, [], ◌∷◌, ◌++◌, map, Option, Some, None, refl, sym, ap, subst, ◌∙◌, arith, append_assoc}
+use Rattle.std.proofs.Common.{◌≡◌, ℕ, ◌<◌, ◌≤◌, Bool, true, false, cond, not, nat_eq, nat_le, ◌&&◌, List, [], ◌∷◌, ◌++◌, map, Some, None, refl, ap, ◌∙◌, arith}
 use Rattle.std.specs.List.{filter, AllByRecursion}
 use Rattle.std.proofs.lemmas.Bool.Decides.{nat_tests}
-use Rattle.lp_values.specs.declared.id.ObjId.{ObjId}
 use Rattle.lp_timers.specs.declared.kind.Kind.{Kind}
 use Rattle.lp_timers.specs.declared.line.Line.{Line}
 use Rattle.lp_timers.specs.Lines.{AreBelow, AreFrom, AreRising, due_objects, is_due_for, lines_cut, lines_set, line_set, moment_of, same_kind}

@@ -1,6 +1,6 @@
 -- Heart beats and watches among lines: what an edit of the lines means for each.
 use Rattle.std.proofs.Common.{◌≡◌, ℕ, Bool, true, false, cond, not, nat_eq, nat_le, ◌&&◌, ◌||◌, List, [], ◌∷◌, ◌++◌, map, Option, None, ◌+◌, append-nil, refl, sym, ap, ◌∙◌}
-use Rattle.std.specs.List.{filter, list_any}
+use Rattle.std.specs.List.{filter}
 use Rattle.std.proofs.lemmas.Bool.{false≢true}
 use Rattle.lp_values.specs.declared.id.ObjId.{ObjId}
 use Rattle.lp_timers.specs.declared.kind.Kind.{Kind}

@@ -1,5 +1,5 @@
 -- All that is to come, as lists: call-outs, heart beats and watches.
-use Rattle.std.specs.Prelude.{◌≡◌, ℕ, ◌+◌, List, [], ◌∷◌, ◌++◌, Bool, true, false, not, if◌then◌else◌, Option, Some, None}
+use Rattle.std.specs.Prelude.{ℕ, List, [], ◌∷◌, Bool, not, if◌then◌else◌, Option, Some, None}
 use Rattle.lp_values.specs.declared.id.ObjId.{ObjId}
 use Rattle.lp_timers.specs.declared.kind.Kind.{Kind}
 use Rattle.lp_timers.specs.declared.kind.Kind.TheVariants as line

@@ -1,5 +1,5 @@
 -- The tree that the lines are kept in.
-use Rattle.std.specs.Prelude.{ℕ, ◌≡◌, List, [], ◌∷◌, ◌++◌, ⊤}
+use Rattle.std.specs.Prelude.{◌≡◌, List, [], ◌∷◌, ◌++◌, ⊤}
 use Rattle.lp_timers.specs.declared.line.Line.{Line}
 use Rattle.lp_timers.specs.declared.tree.Tree.{Tree, Leaf, Fork'}
 use Rattle.lp_timers.specs.declared.tree.Opened.{Opened}

@@ -121,8 +121,10 @@ impl Timers {
     }
 
     /// Switches the heart of an object on, with its first beat two seconds after now, or off. Answers
-    /// whether that changed anything: where it did not, nothing changes. Switching off takes no memory;
-    /// where memory is wanting nothing changes.
+    /// whether that changed anything: where it did not, nothing changes. Switching off takes no memory.
+    ///
+    /// `AllocError`: memory is wanting, or 2^64 - 1 hearts and watches were put so far. Then nothing
+    /// changes.
     pub fn beat(&mut self, ob: ObjId, on: bool, now: u64) -> Result<bool, AllocError>
         requires { now ≤ 1000000000000 }
         ensures ok { IfOk result (λ changed. (changed ≡ turns_beat self.old.beats ob on) × (self.new ≡ record { next = self.old.next; call_outs = self.old.call_outs; beats = beat_turned self.old.beats ob on now; watches = self.old.watches })) }
@@ -165,7 +167,10 @@ impl Timers {
     }
 
     /// An object is watched, and its moment is this one. Where it is watched already, it keeps its
-    /// place, and takes no memory. Where memory is wanting nothing changes.
+    /// place.
+    ///
+    /// `AllocError`: memory is wanting, or 2^64 - 1 hearts and watches were put so far. Then nothing
+    /// changes.
     pub fn watch(&mut self, ob: ObjId, kind: Watch, at: u64) -> Result<(), AllocError>
         ensures ok { OnOk result (self.new ≡ record { next = self.old.next; call_outs = self.old.call_outs; beats = self.old.beats; watches = watch_put self.old.watches (watch_kind kind) ob at }) }
         ensures err { OnErr result (self.new ≡ self.old) }

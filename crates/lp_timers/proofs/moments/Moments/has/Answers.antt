@@ -1,4 +1,4 @@
-use Rattle.std.proofs.Common.{Option, ℕ, is_some, ◌≡◌, None, Some, refl, ap, sym, ◌∙◌}
+use Rattle.std.proofs.Common.{Option, ℕ, is_some, ◌≡◌, None, Some, refl, ap, ◌∙◌}
 use Rattle.lp_timers.proofs.MarkLemmas.{has_is, has_number}
 use Rattle.lp_timers.proofs.moments.Moments.has.Goals as goal
 

@@ -1,4 +1,4 @@
-use Rattle.std.proofs.Common.{◌≡◌, true, false, ap, sym, ◌∙◌, refl}
+use Rattle.std.proofs.Common.{◌≡◌, true, false, ap, sym, ◌∙◌}
 use Rattle.lp_timers.specs.Lines.{has_line}
 use Rattle.lp_timers.proofs.MarkLemmas.{has_is, has_number, set_is_next}
 use Rattle.lp_timers.proofs.moments.Moments.put.Goals as goal

@@ -3,7 +3,7 @@ use Rattle.std.specs.Map.{lookup}
 use Rattle.std.specs.BTreeMap.{is_at}
 use Rattle.lp_timers.specs.Lines.{is_of, lines_cut, lines_without, same_kind, AreBelow, AreRising}
 use Rattle.lp_timers.specs.Marked.{mark_cmp, mark_of}
-use Rattle.lp_timers.specs.Marks.{number_of, AreApart, HasNone, IsAlone, Putting}
+use Rattle.lp_timers.specs.Marks.{number_of, AreApart, HasNone, IsAlone}
 use Rattle.lp_timers.specs.Tree.{lines_of}
 use Rattle.lp_timers.proofs.MarkLemmas.{all_kept, apart_kept, cut_is_without, mark_is, none_of, number_alone, number_without, rising_kept, without_none}
 use Rattle.lp_timers.proofs.moments.Moments.remove.Goals as goal

@@ -1,4 +1,4 @@
-use Rattle.std.proofs.Common.{◌≡◌, ap, sym, ◌∙◌}
+use Rattle.std.proofs.Common.{ap, sym, ◌∙◌}
 use Rattle.lp_timers.proofs.MarkLemmas.{next_none, set_is_next}
 use Rattle.lp_timers.proofs.moments.Moments.set.Goals as goal
 

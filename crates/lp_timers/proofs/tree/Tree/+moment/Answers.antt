@@ -1,4 +1,4 @@
-use Rattle.std.proofs.Common.{◌≡◌, ◌∷◌, ◌++◌, arith, length, ap, subst, sym, ◌∙◌, length-append, refl}
+use Rattle.std.proofs.Common.{◌≡◌, ◌∷◌, ◌++◌, arith, length, ap, subst, ◌∙◌, length-append, refl}
 use Rattle.lp_timers.specs.Tree.{lines_of}
 use Rattle.lp_timers.specs.Lines.{AreRising}
 use Rattle.lp_timers.proofs.LineLemmas.{around, moment_left, moment_right, moment_here}

@@ -1,4 +1,4 @@
-use Rattle.std.proofs.Common.{◌≡◌, ◌∷◌, ◌++◌, [], ap, subst, sym, ◌∙◌, append-nil, refl}
+use Rattle.std.proofs.Common.{◌≡◌, ◌∷◌, ◌++◌, [], subst, sym, append-nil, refl}
 use Rattle.lp_timers.specs.Tree.{lines_of, KnowsSoonest}
 use Rattle.lp_timers.specs.Lines.{AreFrom, due_objects}
 use Rattle.lp_timers.proofs.LineLemmas.{due_none}

@@ -1,4 +1,4 @@
-use Rattle.std.proofs.Common.{refl, subst}
+use Rattle.std.proofs.Common.{subst}
 use Rattle.lp_timers.specs.Tree.{KnowsSoonest}
 use Rattle.lp_timers.proofs.tree.Tree.soonest.Goals as goal
 
