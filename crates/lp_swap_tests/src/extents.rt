@@ -54,24 +54,56 @@ impl Plain {
     }
 }
 
+fn extent(place: u64, len: u64) -> Extent {
+    Extent { place, len }
+}
+
+// Takes out of the list the one with this number, or else the last.
+fn pick(left: &mut Vec<Extent>, number: u64) -> Option<Extent> {
+    let last = left.len().checked_sub(1)?;
+    let i = (number as usize).min(last);
+    Some(left.remove(i))
+}
+
 // The order with this number of the five extents that were taken.
 fn order(alloc: Global, number: u64) -> Result<Vec<Extent>, AllocError> {
-    let mut left = Vec::new(alloc);
-    let mut place = 0u64;
-    for len in [3u64, 1, 4, 2, 5] {
-        left.push(Extent { place, len })?;
-        place = place.wrapping_add(len);
-    }
-    let mut out = Vec::new(alloc);
+    let mut left = vec![in alloc;
+        extent(0, 3),
+        extent(3, 1),
+        extent(4, 4),
+        extent(8, 2),
+        extent(10, 5),
+    ]?;
+    let mut picked = Vec::new(alloc);
     let mut rest = number;
     for _ in 0..5u8 {
-        if let Some(last) = left.len().checked_sub(1) {
-            let i = ((rest % 5) as usize).min(last);
-            rest /= 5;
-            out.push(left.remove(i))?;
+        if let Some(e) = pick(&mut left, rest % 5) {
+            picked.push(e)?;
+        }
+        rest /= 5;
+    }
+    Ok(picked)
+}
+
+// Takes room here and there, and answers whether it is the same.
+fn take_same(room: &mut Extents, plain: &mut Plain, lens: &[u64]) -> Result<bool, ExtentFault> {
+    for len in lens {
+        if room.take(*len)? != plain.take(*len) {
+            return Ok(false);
         }
     }
-    Ok(out)
+    Ok(true)
+}
+
+// Gives extents back here and there, if they are taken.
+fn give_all(room: &mut Extents, plain: &mut Plain, es: &[Extent]) -> bool {
+    for e in es {
+        if !give_back(room, *e) {
+            return false;
+        }
+        plain.set(*e, false);
+    }
+    true
 }
 
 // Gives back the first `back` of an order, and then takes what fits here or there.
@@ -81,23 +113,12 @@ fn try_order(alloc: Global, number: u64, back: usize, len: u64) -> Result<bool, 
         taken: [false; 64],
         end: 0,
     };
-    for n in [3u64, 1, 4, 2, 5] {
-        if room.take(n)? != plain.take(n) {
-            return Ok(false);
-        }
-    }
-    for e in order(alloc, number)?.iter().take(back) {
-        if !give_back(&mut room, *e) {
-            return Ok(false);
-        }
-        plain.set(*e, false);
-    }
-    for n in [len, 1, 2, len] {
-        if room.take(n)? != plain.take(n) {
-            return Ok(false);
-        }
-    }
-    Ok(true)
+    let es = order(alloc, number)?;
+    let back = back.min(es.len());
+    let taken = take_same(&mut room, &mut plain, &[3, 1, 4, 2, 5])?;
+    let given = give_all(&mut room, &mut plain, &es[..back]);
+    let again = take_same(&mut room, &mut plain, &[len, 1, 2, len])?;
+    Ok(taken && given && again)
 }
 
 // Orders by numbers in the base of five: among them each of the 120 orders of five extents.
@@ -113,26 +134,22 @@ fn room_is_given_back_in_every_order(rt: HostRuntime) -> Result<(), Fail> {
     Ok(())
 }
 
+fn takes(room: &mut Extents, len: u64) -> Result<u64, ExtentFault> {
+    room.take(len)
+}
+
 #[test]
 fn the_end_is_at_two_to_the_fortieth(rt: HostRuntime) -> Result<(), Fail> {
     let mut room = Extents::new(rt.alloc());
-    assert_eq!(rt; room.take(1099511627777), Err(ExtentFault::Full));
-    assert_eq!(rt; room.take(1099511627775), Ok(0));
-    assert_eq!(rt; room.take(2), Err(ExtentFault::Full));
-    assert_eq!(rt; room.take(1), Ok(1099511627775));
-    assert_eq!(rt; room.take(1), Err(ExtentFault::Full));
-    assert_eq!(rt; room.take(0), Ok(1099511627776));
-    assert!(rt;
-        give_back(
-            &mut room,
-            Extent {
-                place: 0,
-                len: 1099511627775
-            }
-        )
-    );
-    assert_eq!(rt; room.take(1099511627776), Err(ExtentFault::Full));
-    assert_eq!(rt; room.take(1099511627775), Ok(0));
+    assert_eq!(rt; takes(&mut room, 1099511627777), Err(ExtentFault::Full));
+    assert_eq!(rt; takes(&mut room, 1099511627775), Ok(0));
+    assert_eq!(rt; takes(&mut room, 2), Err(ExtentFault::Full));
+    assert_eq!(rt; takes(&mut room, 1), Ok(1099511627775));
+    assert_eq!(rt; takes(&mut room, 1), Err(ExtentFault::Full));
+    assert_eq!(rt; takes(&mut room, 0), Ok(1099511627776));
+    assert!(rt; give_back(&mut room, extent(0, 1099511627775)));
+    assert_eq!(rt; takes(&mut room, 1099511627776), Err(ExtentFault::Full));
+    assert_eq!(rt; takes(&mut room, 1099511627775), Ok(0));
     room.law();
     Ok(())
 }

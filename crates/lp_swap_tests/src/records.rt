@@ -140,17 +140,35 @@ fn a_ticket_has_the_digest(rt: HostRuntime) -> Result<(), Fail> {
     Ok(())
 }
 
+// Whether bytes are kept since the write failed.
+fn is_kept(swapper: &mut Swapper, swap: &mut MemSwap, bytes: &[u8]) -> Result<bool, Fail> {
+    Ok(matches!(swapper.out(swap, bytes)?, OutAnswer::KeptFault))
+}
+
 // A write that fails keeps the bytes, and their room is free again.
 #[test]
 fn a_failed_write_keeps_the_bytes(rt: HostRuntime) -> Result<(), Fail> {
     let mut swap = file(rt.alloc(), &[], &[1], &[])?;
     let mut swapper = Swapper::new(rt.alloc());
-    assert!(rt; swapper.out(&mut swap, b"abc")? == OutAnswer::KeptFault);
-    let Some(t) = ticket(swapper.out(&mut swap, b"abc")?) else {
+    assert!(rt; is_kept(&mut swapper, &mut swap, b"abc")?);
+    let Some(t) = goes_out(&mut swapper, &mut swap, b"abc")? else {
         panic!(rt; "kept");
     };
-    assert_eq!(rt; (t.place, t.len), (0, 3));
+    assert!(rt; is_at(&t, 0, 3));
     Ok(())
+}
+
+// Whether a look is told that the read failed.
+fn cannot_look(swapper: &Swapper, swap: &mut MemSwap, t: &Ticket) -> bool {
+    matches!(swapper.look(swap, t), Err(BackFault::ReadFault))
+}
+
+// Whether a look shows that these bytes stand there in place of what went out.
+fn looks_changed(swapper: &Swapper, swap: &mut MemSwap, t: &Ticket, bytes: &[u8]) -> bool {
+    match swapper.look(swap, t) {
+        Err(BackFault::Changed { found }) => found.as_slice() == bytes,
+        _ => false,
+    }
 }
 
 // Read 1 fails, read 2 lies, and read 3 gives what went out; the room is given back by that alone.
@@ -158,12 +176,11 @@ fn a_failed_write_keeps_the_bytes(rt: HostRuntime) -> Result<(), Fail> {
 fn a_fault_is_shown_with_what_was_found(rt: HostRuntime) -> Result<(), Fail> {
     let mut swap = file(rt.alloc(), &[1], &[], &[(2, 0)])?;
     let mut swapper = Swapper::new(rt.alloc());
-    let Some(t) = ticket(swapper.out(&mut swap, b"abc")?) else {
+    let Some(t) = goes_out(&mut swapper, &mut swap, b"abc")? else {
         panic!(rt; "kept");
     };
-    assert!(rt; swapper.look(&mut swap, &t) == Err(BackFault::ReadFault));
-    let found = Octets::from_vec(Vec::from_slice(rt.alloc(), &[158, 98, 99])?);
-    assert!(rt; swapper.look(&mut swap, &t) == Err(BackFault::Changed { found }));
+    assert!(rt; cannot_look(&swapper, &mut swap, &t));
+    assert!(rt; looks_changed(&swapper, &mut swap, &t, &[158, 98, 99]));
     assert!(rt; comes_back(&mut swapper, &mut swap, &t, b"abc"));
     assert!(rt; !swapper.is_out(&t));
     Ok(())
