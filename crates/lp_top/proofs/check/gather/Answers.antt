@@ -10,7 +10,6 @@ use Rattle.lp_top.proofs.Going.{read-whole}
 use Rattle.lp_top.proofs.Checking.{ends_gathering, gathering_fresh, goes_after_item, files_same}
 use Rattle.lp_top.proofs.check.gather.Goals as goal
 
-
 pub returns-in-Err-clause-end : goal.returns-in-Err-clause-end
 returns-in-Err-clause-end g c = λ b h.
     let i = c.loop-item.invariant.gathering in

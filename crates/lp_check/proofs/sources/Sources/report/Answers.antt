@@ -19,12 +19,12 @@ loop-path-preserved c =
     elim c.match-branch-2.branch [
       | in-Some+in_ok-put_fault w ↦ record {
         told = subst (λ n. IsTold store (take (at + 1) paths) c.match-branch-2.out.items n) (sym w.faults-is)
-        (told_fault_more store paths at path c.loop-path.out.items c.match-branch-2.out.items c.loop-path.faults w.in-Some.fault lt is c.loop-path.invariant.told (subst (IsFound store path) w.in-Some.is found) (ap (λ v. v.items) w.out-is ∙ w.in_ok-put_fault.ensures));
+            (told_fault_more store paths at path c.loop-path.out.items c.match-branch-2.out.items c.loop-path.faults w.in-Some.fault lt is c.loop-path.invariant.told (subst (IsFound store path) w.in-Some.is found) (ap (λ v. v.items) w.out-is ∙ w.in_ok-put_fault.ensures));
         few = omega (arith, c.loop-path.invariant.few, w.faults-is);
       }
       | in_default w ↦ record {
         told = subst (λ n. IsTold store (take (at + 1) paths) c.match-branch-2.out.items n) (sym w.faults-is)
-        (told_more store paths at path c.match-branch-2.out.items c.loop-path.faults lt is (subst (λ v. IsTold store (take at paths) v.items c.loop-path.faults) (sym w.out-is) c.loop-path.invariant.told) (subst (IsFound store path) w.in_default.is found));
+            (told_more store paths at path c.match-branch-2.out.items c.loop-path.faults lt is (subst (λ v. IsTold store (take at paths) v.items c.loop-path.faults) (sym w.out-is) c.loop-path.invariant.told) (subst (IsFound store path) w.in_default.is found));
         few = omega (arith, c.loop-path.invariant.few, w.faults-is);
       }
     ]
