@@ -2,6 +2,7 @@
 ghost use Rattle.std.specs.Prelude.{◌≡◌};
 ghost use Rattle.lp_save.specs.declared.fault.SaveFault.TheVariants.{NoMemory};
 
+use lp_cells::fault::CellFault;
 use std::alloc::{AllocError, AllocFailed};
 use thiserror::Error;
 
@@ -50,4 +51,67 @@ pub enum FaultKind {
     TooLong,
     /// Arrays and mappings lie more than 100 levels deep in one another.
     TooNested,
+}
+
+/// Why a line is not read.
+#[derive(Debug, PartialEq, Eq, Drop)]
+pub(crate) enum ReadFault {
+    /// Memory ran out.
+    NoMemory,
+    /// The line is faulty.
+    Wrong(FaultKind),
+}
+
+impl From<AllocError> for ReadFault {
+    ghost from_gives = { λ _ e. e ≡ ReadFault.NoMemory };
+
+    fn from(_e: AllocError) -> ReadFault {
+        ReadFault::NoMemory
+    }
+}
+
+impl<T: Drop> From<AllocFailed<T>> for ReadFault {
+    ghost from_gives = { λ _ e. e ≡ ReadFault.NoMemory };
+
+    fn from(_e: AllocFailed<T>) -> ReadFault {
+        ReadFault::NoMemory
+    }
+}
+
+/// Why a text is not restored.
+#[derive(Debug, PartialEq, Eq, Drop, Error)]
+pub enum RestoreFault {
+    /// Memory ran out.
+    #[error("out of memory")]
+    NoMemory,
+    /// The first faulty line, from 1, and what is wrong at its leftmost fault.
+    #[error("faulty line {line}")]
+    Line {
+        /// The number of the line.
+        line: u64,
+        /// What is wrong.
+        kind: FaultKind,
+    },
+}
+
+impl From<AllocError> for RestoreFault {
+    ghost from_gives = { λ _ e. e ≡ RestoreFault.NoMemory };
+
+    fn from(_e: AllocError) -> RestoreFault {
+        RestoreFault::NoMemory
+    }
+}
+
+impl<T: Drop> From<AllocFailed<T>> for RestoreFault {
+    ghost from_gives = { λ _ e. e ≡ RestoreFault.NoMemory };
+
+    fn from(_e: AllocFailed<T>) -> RestoreFault {
+        RestoreFault::NoMemory
+    }
+}
+
+impl From<CellFault> for RestoreFault {
+    fn from(_e: CellFault) -> RestoreFault {
+        RestoreFault::NoMemory
+    }
 }

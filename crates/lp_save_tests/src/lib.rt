@@ -7,3 +7,5 @@
 mod lines;
 #[cfg(test)]
 mod records;
+#[cfg(test)]
+mod saved;

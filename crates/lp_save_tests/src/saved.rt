@@ -3,7 +3,7 @@ ghost use Rattle.std.specs.Prelude.{All, IsTrue};
 ghost use Rattle.lp_cells.specs.Cells.{IsPairThere, IsThere};
 
 use lp_cells::cells::Cells;
-use lp_save::{SaveFault, save_text};
+use lp_save::{FaultKind, RestoreFault, SaveFault, restore_text, save_text};
 use lp_values::id::{CellId, ObjId};
 use lp_values::text::Text;
 use lp_values::value::{Living, Value};
@@ -184,4 +184,120 @@ fn a_hundred_levels_are_saved(rt: HostRuntime) -> Result<(), Fail> {
     let fault = save_text(alloc, vars.as_slice(), &world.cells, &Even).err();
     assert_eq!(rt; fault, Some(SaveFault::TooNested));
     Ok(())
+}
+
+/// Names in order, each a variable.
+fn names(alloc: Global, of: &[&str]) -> Result<Vec<Text>, Fail> {
+    let mut all = Vec::new(alloc);
+    for name in of {
+        all.push(Text::from_str(alloc, name)?)?;
+    }
+    Ok(all)
+}
+
+// The text is restored for variables `v` and `w`, and saved again.
+fn restores_as(rt: &impl Abort, alloc: Global, text: &str, want: &str) -> Result<(), Fail> {
+    let mut world = World::new(alloc);
+    let _ = world.array(rt, Vec::new(alloc))?;
+    let values = restore_text(alloc, text.as_bytes(), names(alloc, &["v", "w"])?.as_slice(), &mut world.cells)?;
+    let mut vars = Vec::new(alloc);
+    for (i, v) in values.into_iter().enumerate() {
+        let name = if i == 0 { "v" } else { "w" };
+        if let Some(v) = v {
+            vars.push((Text::from_str(alloc, name)?, v))?;
+        }
+    }
+    assert!(rt; world.has_values(vars.as_slice()));
+    let saved = save_text(alloc, vars.as_slice(), &world.cells, &Even)?.into_vec();
+    let saved = String::from_utf8(saved)?;
+    assert_eq!(rt; saved.as_str(), want);
+    Ok(())
+}
+
+fn is_faulty(rt: &impl Abort, alloc: Global, text: &[u8], line: u64, kind: FaultKind) -> Result<(), Fail> {
+    let mut world = World::new(alloc);
+    let fault = restore_text(alloc, text, names(alloc, &["v", "w"])?.as_slice(), &mut world.cells).err();
+    assert_eq!(rt; fault, Some(RestoreFault::Line { line, kind }));
+    Ok(())
+}
+
+#[test]
+fn what_was_saved_is_restored(rt: HostRuntime) -> Result<(), Fail> {
+    let alloc = rt.alloc();
+    for text in [
+        "#2:0\n",
+        "#2:0\nv 1\nw -5\n",
+        "#2:0\nv \"a\\n\\r\\t\\\\\\\"é'\"\nw 0\n",
+        "#2:0\nv ({1,\"a\",})\n",
+        "#2:0\nv ({<1>=({0,}),<1>,})\n",
+        "#2:0\nv <1>=({<1>,})\n",
+        "#2:0\nv ({<1>=({<2>=({<2>,}),5,}),<2>,<1>,})\nw <1>\n",
+        "#2:0\nv ([1:\"a\",0:8,])\nw ([])\n",
+        "#2:0\nv -9223372036854775808\nw 9223372036854775807\n",
+        "#2:0\nv ([<1>=([<1>:<1>,]):({}),])\n",
+    ] {
+        restores_as(&rt, alloc, text, text)?;
+    }
+    restores_as(&rt, alloc, "", "#2:0\n")?;
+    restores_as(&rt, alloc, "w 3\nx 4\nv 5\nv 6\n", "#2:0\nv 5\nw 3\n")?;
+    restores_as(&rt, alloc, "#0:07\nv ([1:2,3:4,1:5,])\n", "#2:0\nv ([1:5,3:4,])\n")?;
+    restores_as(&rt, alloc, "#2:2\nv 1\n", "#2:0\nv 1\n")
+}
+
+#[test]
+fn faulty_lines_are_told(rt: HostRuntime) -> Result<(), Fail> {
+    let alloc = rt.alloc();
+    is_faulty(&rt, alloc, b"#2:0\nv 7\nw \"ab\n", 3, FaultKind::BadValue)?;
+    is_faulty(&rt, alloc, b"#2:0\nv <1>\n", 2, FaultKind::BadShare)?;
+    is_faulty(&rt, alloc, b"#2:0\nv <2>=({})\n", 2, FaultKind::BadShare)?;
+    is_faulty(&rt, alloc, b"#2:0\nv <1>=7\n", 2, FaultKind::BadShare)?;
+    is_faulty(&rt, alloc, b"#2:0\nv <01>\n", 2, FaultKind::BadValue)?;
+    is_faulty(&rt, alloc, b"#2:0\nv -0\n", 2, FaultKind::BadValue)?;
+    is_faulty(&rt, alloc, b"#2:0\nv 01\n", 2, FaultKind::BadValue)?;
+    is_faulty(&rt, alloc, b"#2:0\nv 9223372036854775808\n", 2, FaultKind::BadValue)?;
+    is_faulty(&rt, alloc, b"#2:0\nv 1 \n", 2, FaultKind::BadValue)?;
+    is_faulty(&rt, alloc, b"#2:0\nv \"\xff\"\n", 2, FaultKind::BadValue)?;
+    is_faulty(&rt, alloc, b"#2:0\n\nv 1\n", 2, FaultKind::BadName)?;
+    is_faulty(&rt, alloc, b"#2:0\n1 1\n", 2, FaultKind::BadName)?;
+    is_faulty(&rt, alloc, b"#3:0\nv 1\n", 1, FaultKind::BadHeader)?;
+    is_faulty(&rt, alloc, b"#2:\nv 1\n", 1, FaultKind::BadHeader)?;
+    is_faulty(&rt, alloc, b"v 1\n#2:0\n", 2, FaultKind::BadName)
+}
+
+#[test]
+fn every_cut_is_restored_or_faulty(rt: HostRuntime) -> Result<(), Fail> {
+    let alloc = rt.alloc();
+    let text = b"#2:0\nv ({1,\"a\",})\n";
+    for n in 0..=text.len() {
+        let mut world = World::new(alloc);
+        let got = restore_text(alloc, &text[..n], names(alloc, &["v"])?.as_slice(), &mut world.cells);
+        match got {
+            Ok(_) => assert!(rt; n == 0 || n == 5 || n == 18, "{n}"),
+            Err(RestoreFault::Line { line, .. }) => assert_eq!(rt; line, if n < 5 { 1 } else { 2 }, "{n}"),
+            Err(RestoreFault::NoMemory) => assert!(rt; false),
+        }
+    }
+    Ok(())
+}
+
+#[test]
+fn a_hundred_levels_are_restored(rt: HostRuntime) -> Result<(), Fail> {
+    let alloc = rt.alloc();
+    let mut text = String::from_str(alloc, "v ")?;
+    let mut end = String::from_str(alloc, "")?;
+    for _ in 0..100 {
+        text.push_str("({")?;
+        end.push_str(",})")?;
+    }
+    let mut deeper = text.clone()?;
+    text.push_str("0")?;
+    text.push_str(end.as_str())?;
+    text.push_str("\n")?;
+    deeper.push_str("({0,})")?;
+    deeper.push_str(end.as_str())?;
+    deeper.push_str("\n")?;
+    let mut want = String::from_str(alloc, "#2:0\n")?;
+    want.push_str(text.as_str())?;
+    restores_as(&rt, alloc, text.as_str(), want.as_str())?;
+    is_faulty(&rt, alloc, deeper.as_bytes(), 1, FaultKind::TooNested)
 }

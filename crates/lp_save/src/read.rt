@@ -1,0 +1,385 @@
+//! Reading values.
+ghost use Rattle.std.specs.Prelude.{◌≡◌, ◌≤◌, ◌^◌, Some, None, IfOk, IfErr, SomeIff, codes, drop, length, true, false};
+ghost use Rattle.lp_cells.specs.Cells.{with_cell, content_set, is_array};
+ghost use Rattle.lp_text.specs.Scans.{digits_number};
+ghost use Rattle.lp_save.specs.Reading.{array_filled, cell_at, items_at, mapping_filled, or_wrong, pairs_at, text_at, text_value, value_at};
+ghost use Rattle.lp_save.specs.SaveText.{begins, cell_begun, digits_at, int_read, left, needed, next_cell, number_read, value_of_cell};
+ghost use Rattle.lp_save.specs.States.{Answers};
+
+use crate::fault::{FaultKind, ReadFault};
+use lp_cells::cells::Cells;
+use lp_cells::content::{Content, Items};
+use lp_cells::pairs::Pairs;
+use lp_text::scan::{digit_count, magnitude};
+use lp_values::id::CellId;
+use lp_values::limits::{MAX_CODE_POINTS, MAX_ITEMS};
+use lp_values::text::Text;
+use lp_values::value::Value;
+use std::alloc::{AllocError, Global};
+use std::marker::Model;
+
+/// How deep arrays and mappings may lie in one another.
+const LEVELS: u64 = 100;
+
+/// What is left of a line, the cells that have numbers, and the new cells. A contract sees the cells
+/// that were there with the new ones behind them.
+#[derive(Drop)]
+pub(crate) struct Reader<'a> {
+    alloc: Global,
+    line: Vec<char>,
+    at: usize,
+    shared: Vec<CellId>,
+    cells: &'a Cells,
+    first: u64,
+    made: Vec<Option<Content>>,
+}
+
+impl<'a> Model for Reader<'a> {
+    ghost use Rattle.std.specs.Prelude.{◌≡◌, ◌≤◌, ◌++◌, drop, length};
+    ghost use Rattle.lp_save.specs.SaveText.{Rest};
+
+    ghost Value = { Rest };
+
+    ghost view = { λ r. record { text = drop r.at r.line.items; shared = r.shared.items; cells = r.cells.now ++ r.made.items } };
+
+    ghost invariant = { λ r. (r.at ≤ length r.line.items) × (r.first ≡ length r.cells.now) };
+}
+
+impl<'a> Reader<'a> {
+    /// Nothing is read yet. Takes no memory.
+    pub(crate) fn new(alloc: Global, cells: &'a Cells, first: CellId) -> Reader<'a> {
+        Reader {
+            alloc,
+            line: Vec::new(alloc),
+            at: 0,
+            shared: Vec::new(alloc),
+            cells,
+            first: first.0,
+            made: Vec::new(alloc),
+        }
+    }
+
+    /// The new cells, to keep.
+    pub(crate) fn into_made(self) -> Vec<Option<Content>> {
+        self.made
+    }
+
+    /// Reads a line: a name, a space and a value.
+    pub(crate) fn read_line(&mut self, line: Vec<char>) -> Result<(Text, Value), ReadFault> {
+        let name_len = name_len(line.as_slice());
+        if name_len >= line.len() || !is_name(&line[..name_len]) {
+            return Err(ReadFault::Wrong(FaultKind::BadName));
+        }
+        let name = Text::from_slice(self.alloc, &line[..name_len])?;
+        let steps = 3 + line.len() as u64 + line.len() as u64;
+        self.line = line;
+        self.at = name_len + 1;
+        let v = self.read_value(steps, LEVELS)?;
+        if self.at < self.line.len() {
+            return Err(ReadFault::Wrong(FaultKind::BadValue));
+        }
+        Ok((name, v))
+    }
+
+    /// What is left of the line.
+    fn rest(&self) -> &[char]
+        ensures { result.now ≡ self.now.text }
+    {
+        &self.line[self.at..]
+    }
+
+    /// Whether a mark stands next.
+    fn begins(&self, mark: &[char]) -> bool
+        ensures value { result ≡ begins mark.now self.now }
+        ensures within { result ≡ true → length mark.now ≤ length self.now.text }
+    {
+        self.rest().starts_with(mark)
+    }
+
+    /// Passes code points.
+    fn skip(&mut self, n: usize)
+        requires { n ≤ length self.old.text }
+        ensures { self.new ≡ left (drop n self.old.text) self.old }
+    {
+        self.at += n;
+    }
+
+    /// Passes a mark that must stand next.
+    fn need(&mut self, mark: &[char]) -> Result<(), ReadFault>
+        ensures { Answers (λ _. tt) result (or_wrong FaultKind.BadValue (needed mark.now self.old)) self.new }
+    {
+        if !self.begins(mark) {
+            return Err(ReadFault::Wrong(FaultKind::BadValue));
+        }
+        self.skip(mark.len());
+        Ok(())
+    }
+
+    /// Reads a number in decimal, without a leading zero, and gives it where it is at most 2^63.
+    fn read_number(&mut self) -> Result<Option<u64>, ReadFault>
+        ensures ok { IfOk result (λ n. (number_read self.old ≡ Some (digits_number (digits_at self.old.text), self.new)) × SomeIff n (digits_number (digits_at self.old.text) ≤ 2 ^ 63) (digits_number (digits_at self.old.text))) }
+        ensures err { IfErr result (λ e. (e ≡ ReadFault.Wrong FaultKind.BadValue) × (number_read self.old ≡ None)) }
+    {
+        let count = digit_count(self.rest());
+        let digits = &self.rest()[..count];
+        if count == 0 || (count > 1 && digits[0] == '0') {
+            return Err(ReadFault::Wrong(FaultKind::BadValue));
+        }
+        let number = magnitude(digits);
+        self.skip(count);
+        Ok(number)
+    }
+
+    /// Reads an integer in its range. `-0` is none.
+    fn read_int(&mut self) -> Result<Value, ReadFault>
+        ensures { Answers (λ v. v) result (or_wrong FaultKind.BadValue (int_read self.old)) self.new }
+    {
+        let negative = self.begins(&['-']);
+        if negative {
+            self.skip(1);
+        }
+        match self.read_number()? {
+            Some(n) => match signed(negative, n) {
+                Some(n) => Ok(Value::Int(n)),
+                None => Err(ReadFault::Wrong(FaultKind::BadValue)),
+            },
+            None => Err(ReadFault::Wrong(FaultKind::BadValue)),
+        }
+    }
+
+    /// Reads a text behind its first `"`.
+    fn read_text(&mut self) -> Result<Value, ReadFault>
+        ensures { Answers (λ v. v) result (text_value (text_at [] false self.old.text) self.old) self.new }
+    {
+        let (points, used) = quoted(self.alloc, self.rest())?;
+        self.skip(used);
+        Ok(Value::Str(Text::from_vec(self.alloc, points)?))
+    }
+
+    /// The place of a new cell among the new cells.
+    fn place(&self, c: CellId) -> usize {
+        c.0.saturating_sub(self.first) as usize
+    }
+
+    /// A new cell begins, empty for now.
+    fn begin_cell(&mut self, is_shared: bool, content: Content) -> Result<CellId, AllocError>
+    {
+        let c = CellId(self.first + self.made.len() as u64);
+        if is_shared {
+            self.shared.push(c)?;
+        }
+        self.skip(2);
+        self.made.push(Some(content))?;
+        Ok(c)
+    }
+
+    /// Puts into a new cell what it holds.
+    fn fill(&mut self, c: CellId, content: Content)
+    {
+        let place = self.place(c);
+        if place < self.made.len() {
+            self.made[place] = Some(content);
+        }
+    }
+
+    /// The value that names a new cell.
+    fn named(&self, c: CellId) -> Value
+        ensures { value_of_cell c self.now ≡ Some (result, self.now) }
+    {
+        match self.made.get(self.place(c)) {
+            Some(Some(Content::Array(_))) => Value::Arr(c),
+            _ => Value::Map(c),
+        }
+    }
+
+    /// Reads the number of a shared cell behind its `<`, and the cell where it is a new one.
+    fn read_share(&mut self, steps: u64, levels: u64) -> Result<Value, ReadFault>
+    {
+        let number = self.read_number()?;
+        self.need(&['>'])?;
+        let number = match number {
+            Some(n) if 0 < n && n <= self.shared.len() as u64 + 1 => n,
+            _ => return Err(ReadFault::Wrong(FaultKind::BadShare)),
+        };
+        if self.begins(&['=']) {
+            if number != self.shared.len() as u64 + 1 {
+                return Err(ReadFault::Wrong(FaultKind::BadShare));
+            }
+            self.skip(1);
+            return self.read_cell(steps, levels, true);
+        }
+        match self.shared.get(number as usize - 1) {
+            Some(c) => Ok(self.named(*c)),
+            None => Err(ReadFault::Wrong(FaultKind::BadShare)),
+        }
+    }
+
+    /// Reads a value. `steps` bounds the parts that are still read, and `levels` the arrays and mappings
+    /// that may lie in one another.
+    fn read_value(&mut self, steps: u64, levels: u64) -> Result<Value, ReadFault>
+        ensures { Answers (λ v. v) result (value_at steps levels self.old) self.new }
+    {
+        if steps == 0 {
+            return Err(ReadFault::Wrong(FaultKind::BadValue));
+        }
+        if self.begins(&['<']) {
+            self.skip(1);
+            return self.read_share(steps - 1, levels);
+        }
+        if self.begins(&['(', '{']) || self.begins(&['(', '[']) {
+            return self.read_cell(steps - 1, levels, false);
+        }
+        if self.begins(&['"']) {
+            self.skip(1);
+            return self.read_text();
+        }
+        self.read_int()
+    }
+
+    /// Reads an array or a mapping, which gets the next number where it is shared.
+    fn read_cell(&mut self, steps: u64, levels: u64, is_shared: bool) -> Result<Value, ReadFault>
+        ensures { Answers (λ v. v) result (cell_at steps levels is_shared self.old) self.new }
+    {
+        if steps == 0 {
+            return Err(ReadFault::Wrong(FaultKind::BadValue));
+        }
+        let is_array = self.begins(&['(', '{']);
+        if !is_array && !self.begins(&['(', '[']) {
+            return Err(ReadFault::Wrong(FaultKind::BadShare));
+        }
+        if levels == 0 {
+            return Err(ReadFault::Wrong(FaultKind::TooNested));
+        }
+        if is_array {
+            let c = self.begin_cell(is_shared, Content::Array(Items::from_vec(Vec::new(self.alloc))))?;
+            let items = self.read_items(steps - 1, levels - 1)?;
+            self.fill(c, Content::Array(Items::from_vec(items)));
+            Ok(Value::Arr(c))
+        } else {
+            let c = self.begin_cell(is_shared, Content::Mapping(Pairs::new(self.alloc)))?;
+            let pairs = self.read_pairs(steps - 1, levels - 1)?;
+            self.fill(c, Content::Mapping(pairs));
+            Ok(Value::Map(c))
+        }
+    }
+
+    /// Reads the items of an array behind its `({`, and its `})`.
+    fn read_items(&mut self, steps: u64, levels: u64) -> Result<Vec<Value>, ReadFault>
+        ensures { Answers (λ vs. vs.items) result (items_at steps levels [] self.old) self.new }
+    {
+        let mut items = Vec::new(self.alloc);
+        for i in 0..steps {
+            if self.begins(&['}', ')']) {
+                self.skip(2);
+                return Ok(items);
+            }
+            let v = self.read_value(steps - 1 - i, levels)?;
+            if items.len() >= MAX_ITEMS {
+                return Err(ReadFault::Wrong(FaultKind::TooLong));
+            }
+            self.need(&[','])?;
+            items.push(v)?;
+        }
+        Err(ReadFault::Wrong(FaultKind::BadValue))
+    }
+
+    /// Reads the pairs of a mapping behind its `([`, and its `])`.
+    fn read_pairs(&mut self, steps: u64, levels: u64) -> Result<Pairs, ReadFault>
+        ensures { Answers (λ ps. ps) result (pairs_at steps levels [] self.old) self.new }
+    {
+        let mut pairs = Pairs::new(self.alloc);
+        for i in 0..steps {
+            if self.begins(&[']', ')']) {
+                self.skip(2);
+                return Ok(pairs);
+            }
+            let key = self.read_value(steps - 1 - i, levels)?;
+            self.need(&[':'])?;
+            let v = self.read_value(steps - 1 - i, levels)?;
+            pairs.put(key, v)?;
+            if pairs.len() > MAX_ITEMS {
+                return Err(ReadFault::Wrong(FaultKind::TooLong));
+            }
+            self.need(&[','])?;
+        }
+        Err(ReadFault::Wrong(FaultKind::BadValue))
+    }
+}
+
+/// The text up to its `"`, and how many code points it takes with that.
+fn quoted(alloc: Global, text: &[char]) -> Result<(Vec<char>, usize), ReadFault> {
+    let mut points = Vec::new(alloc);
+    let mut escapes = false;
+    for (i, c) in text.iter().enumerate() {
+        if !escapes && *c == '"' {
+            return Ok((points, i + 1));
+        }
+        if !escapes && *c == '\\' {
+            escapes = true;
+        } else {
+            add_point(&mut points, if escapes { escaped(*c) } else { plain(*c) })?;
+            escapes = false;
+        }
+    }
+    Err(ReadFault::Wrong(FaultKind::BadValue))
+}
+
+/// Adds a code point to a text that has room.
+fn add_point(points: &mut Vec<char>, point: Option<char>) -> Result<(), ReadFault> {
+    match point {
+        None => Err(ReadFault::Wrong(FaultKind::BadValue)),
+        Some(_) if points.len() >= MAX_CODE_POINTS => Err(ReadFault::Wrong(FaultKind::TooLong)),
+        Some(c) => Ok(points.push(c)?),
+    }
+}
+
+/// The code point that stands behind a backslash as this one.
+fn escaped(c: char) -> Option<char> {
+    match c {
+        'n' => Some('\n'),
+        'r' => Some('\r'),
+        't' => Some('\t'),
+        '\\' | '"' => Some(c),
+        _ => None,
+    }
+}
+
+/// A code point that stands for itself.
+fn plain(c: char) -> Option<char> {
+    match c {
+        '\r' | '\t' => None,
+        _ => Some(c),
+    }
+}
+
+/// The integer of a sign and a number, if it is in range; `-0` is none.
+fn signed(negative: bool, n: u64) -> Option<i64> {
+    if negative {
+        return match n {
+            0 => None,
+            9223372036854775808 => Some(i64::MIN),
+            _ => Some(-(n as i64)),
+        };
+    }
+    if n < 9223372036854775808 { Some(n as i64) } else { None }
+}
+
+/// How long the name is: up to the first space.
+fn name_len(line: &[char]) -> usize {
+    line.iter().position(|c| *c == ' ').unwrap_or(line.len())
+}
+
+/// Whether a text is a name: a letter or `_`, and then letters, digits or `_`.
+fn is_name(text: &[char]) -> bool {
+    match text {
+        [first, rest @ ..] => {
+            is_letter(*first) && rest.iter().all(|c| is_letter(*c) || c.is_ascii_digit())
+        }
+        [] => false,
+    }
+}
+
+/// Whether a code point is a letter or `_`.
+fn is_letter(c: char) -> bool {
+    c.is_ascii_alphabetic() || c == '_'
+}
