@@ -3,7 +3,7 @@ use Rattle.std.proofs.Common.{◌≡◌, ℕ, zero, suc, ◌+◌, ◌<◌, ◌�
 use Rattle.std.specs.Prelude.{codes, chars, nat_eq, nat_lt, slice_index}
 use Rattle.std.specs.List.{before_first}
 use Rattle.std.specs.Str.Lossy.{utf8_valid_len}
-use Rattle.std.proofs.lemmas.Bool.{cases_Bool, cond_both, cond-true, cond-false, ltb-true, ltb-false, lt-ltb, le-ltb}
+use Rattle.std.proofs.lemmas.Bool.{cases_Bool, cond_both, cond-true, cond-false, ltb-true, ltb-false, lt-ltb, le-ltb, ne_eqb}
 use Rattle.indexmap.specs.IndexMap.{insert_entry}
 use Rattle.lp_values.specs.Limits.{max_code_points, max_items}
 use Rattle.lp_values.specs.Read.{value_eq}
@@ -63,7 +63,7 @@ none_if : {A : Type 0} (b : Bool) (m n : Option A) → m ≡ None → n ≡ None
 none_if true m n h e = h
 none_if false m n h e = e
 
-none_escaped : {A : Type 0} (o : Option ℕ) (f : ℕ → Option A) → ((d : ℕ) → f d ≡ None) → elim o [ Some d ↦ f d | None ↦ None ] ≡ None
+none_escaped : {A : Type 0} (o : Option ℕ) (f : ℕ → Option A) → ((d : ℕ) → f d ≡ None) → ◌≡◌ {A = Option A} (elim o [ Some d ↦ f d | None ↦ None ]) None
 none_escaped None f h = refl
 none_escaped (Some d) f h = h d
 
@@ -292,7 +292,8 @@ all_same : (ls : List (List ℕ)) (r : Rest) → forget_lines (lines_from ls r) 
 all_same [] r = refl
 all_same ([] ∷ []) r = refl
 all_same ((c ∷ cs) ∷ []) r =
-    cond_both (nat_eq c 35) (FaultyAt 1 BadHeader) (last_at 1 [] (c ∷ cs) r) (λ x. forget_lines x ≡ Faulty 1) (λ e. refl) (λ e. last_same 1 [] (c ∷ cs) r)
+    let last : cond (nat_eq (length (c ∷ cs)) 0) (Read [] r.cells) (Faulty 1) ≡ Faulty 1 = cond-false (nat_eq (length (c ∷ cs)) 0) (Read [] r.cells) (Faulty 1) (ne_eqb (length (c ∷ cs)) 0 (λ e. omega arith)) in
+    cond_both (nat_eq c 35) (FaultyAt 1 BadHeader) (last_at 1 [] (c ∷ cs) r) (λ x. forget_lines x ≡ Faulty 1) (λ e. refl) (λ e. last_same 1 [] (c ∷ cs) r ∙ last) ∙ sym last
 all_same (l ∷ m ∷ ls) r =
     lines_if (nat_eq (slice_index l 0) 35) (cond (is_header l) (lines_at 2 [] (m ∷ ls) r) (FaultyAt 1 BadHeader)) (lines_at 1 [] (l ∷ m ∷ ls) r) (cond (is_header l) (lines_read 2 [] (m ∷ ls) r) (Faulty 1)) (lines_read 1 [] (l ∷ m ∷ ls) r)
     (lines_if (is_header l) (lines_at 2 [] (m ∷ ls) r) (FaultyAt 1 BadHeader) (lines_read 2 [] (m ∷ ls) r) (Faulty 1) (lines_same 2 [] (m ∷ ls) r) refl) (lines_same 1 [] (l ∷ m ∷ ls) r)

@@ -167,7 +167,7 @@ pub over_pair : (live : ObjId → Bool) (f : Walk → Value → Walk) (old now m
     → GoesOver old new (λ w. fold f w (flat_map both (pairs_there live (take (i + 1) ps))))
 over_pair live f old now mid new ps i p is before key value = λ w s.
     let all : flat_map both (pairs_there live (take (i + 1) ps)) ≡ flat_map both (pairs_there live (take i ps)) ++ p.0 ∷ p.1 ∷ [] =
-      ap (flat_map both) (there_more live ps i ∙ ap (λ y. pairs_there live (take i ps) ++ y) (sym is)) ∙ flat_map-append both (pairs_there live (take i ps)) (p ∷ []) in
+    ap (flat_map both) (there_more live ps i ∙ ap (λ y. pairs_there live (take i ps) ++ y) (sym is)) ∙ flat_map-append both (pairs_there live (take i ps)) (p ∷ []) in
     subst (λ y. Stands new (fold f w y)) (sym all)
     (subst (Stands new) (sym (fold-append f w (flat_map both (pairs_there live (take i ps))) (p.0 ∷ p.1 ∷ []))) (value _ (key _ (before w s))))
 

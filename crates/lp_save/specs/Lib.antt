@@ -1,3 +1,4 @@
+pub mod Desks
 pub mod Reading
 pub mod SaveText
 pub mod States

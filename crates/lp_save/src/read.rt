@@ -1,10 +1,11 @@
 //! Reading values.
-ghost use Rattle.std.specs.Prelude.{◌≡◌, ◌≤◌, ◌^◌, Some, None, IfOk, IfErr, SomeIff, codes, drop, length, true, false};
-ghost use Rattle.lp_cells.specs.Cells.{with_cell, content_set, is_array};
-ghost use Rattle.lp_text.specs.Scans.{digits_number};
-ghost use Rattle.lp_save.specs.Reading.{array_filled, cell_at, items_at, mapping_filled, or_wrong, pairs_at, text_at, text_value, value_at};
-ghost use Rattle.lp_save.specs.SaveText.{begins, cell_begun, digits_at, int_read, left, needed, next_cell, number_read, value_of_cell};
-ghost use Rattle.lp_save.specs.States.{Answers};
+ghost use Rattle.std.specs.Prelude.{◌≡◌, ℕ, ◌≤◌, ◌<◌, ◌+◌, ◌-◌, ◌^◌, ◌&&◌, Some, None, IfOk, IfErr, OnOk, IsTrue, SomeIff, [], codes, drop, length, take, nat_eq, slice_get, true, false, is_some, if◌then◌else◌};
+ghost use Rattle.std.specs.List.{list_all, before_first};
+ghost use Rattle.std.specs.Char.{is_ascii_digit};
+ghost use Rattle.lp_text.specs.Scans.{digits_number, signed as signed_int};
+ghost use Rattle.lp_save.specs.Desks.{AddsPoint, Answers, GivesText, cell_of, desk_begun, desk_filled, desk_left, plain_point, rest_of};
+ghost use Rattle.lp_save.specs.Reading.{TextFound, and_then, cell_at, items_at, line_at, numbered_at, or_wrong, pairs_at, share_at, text_at, text_value, value_at};
+ghost use Rattle.lp_save.specs.SaveText.{begins, digits_at, escaped as escaped_point, int_read, is_letter, is_variable_name, left, needed, number_read, value_of_cell};
 
 use crate::fault::{FaultKind, ReadFault};
 use lp_cells::cells::Cells;
@@ -21,33 +22,36 @@ use std::marker::Model;
 /// How deep arrays and mappings may lie in one another.
 const LEVELS: u64 = 100;
 
-/// What is left of a line, the cells that have numbers, and the new cells. A contract sees the cells
-/// that were there with the new ones behind them.
+/// What is left of a line, the new cells that have numbers, by their places, and the new cells. Their
+/// serials follow those of the cells that were there.
 #[derive(Drop)]
 pub(crate) struct Reader<'a> {
     alloc: Global,
     line: Vec<char>,
     at: usize,
-    shared: Vec<CellId>,
+    shared: Vec<usize>,
     cells: &'a Cells,
     first: u64,
     made: Vec<Option<Content>>,
 }
 
 impl<'a> Model for Reader<'a> {
-    ghost use Rattle.std.specs.Prelude.{◌≡◌, ◌≤◌, ◌++◌, drop, length};
-    ghost use Rattle.lp_save.specs.SaveText.{Rest};
+    ghost use Rattle.std.specs.Prelude.{◌≡◌, ◌≤◌, drop, length};
+    ghost use Rattle.lp_save.specs.Desks.{Desk};
 
-    ghost Value = { Rest };
+    ghost Value = { Desk };
 
-    ghost view = { λ r. record { text = drop r.at r.line.items; shared = r.shared.items; cells = r.cells.now ++ r.made.items } };
+    ghost view = { λ r. record { base = r.cells.now; text = drop r.at r.line.items; shared = r.shared.items; made = r.made.items } };
 
     ghost invariant = { λ r. (r.at ≤ length r.line.items) × (r.first ≡ length r.cells.now) };
 }
 
 impl<'a> Reader<'a> {
     /// Nothing is read yet. Takes no memory.
-    pub(crate) fn new(alloc: Global, cells: &'a Cells, first: CellId) -> Reader<'a> {
+    pub(crate) fn new(alloc: Global, cells: &'a Cells, first: CellId) -> Reader<'a>
+        requires { first.0 ≡ length cells.now }
+        ensures { result ≡ record { base = cells.now; text = []; shared = []; made = [] } }
+    {
         Reader {
             alloc,
             line: Vec::new(alloc),
@@ -60,12 +64,16 @@ impl<'a> Reader<'a> {
     }
 
     /// The new cells, to keep.
-    pub(crate) fn into_made(self) -> Vec<Option<Content>> {
+    pub(crate) fn into_made(self) -> Vec<Option<Content>>
+        ensures { result.items ≡ self.made }
+    {
         self.made
     }
 
     /// Reads a line: a name, a space and a value.
-    pub(crate) fn read_line(&mut self, line: Vec<char>) -> Result<(Text, Value), ReadFault> {
+    pub(crate) fn read_line(&mut self, line: Vec<char>) -> Result<(Text, Value), ReadFault>
+        ensures { Answers (λ x. record { name = x.0; value = x.1 }) result self.old self.new (line_at line.items (rest_of self.old)) }
+    {
         let name_len = name_len(line.as_slice());
         if name_len >= line.len() || !is_name(&line[..name_len]) {
             return Err(ReadFault::Wrong(FaultKind::BadName));
@@ -90,8 +98,8 @@ impl<'a> Reader<'a> {
 
     /// Whether a mark stands next.
     fn begins(&self, mark: &[char]) -> bool
-        ensures value { result ≡ begins mark.now self.now }
-        ensures within { result ≡ true → length mark.now ≤ length self.now.text }
+        ensures value { result ≡ begins mark.now (rest_of self.now) }
+        ensures within { IsTrue result → length mark.now ≤ length self.now.text }
     {
         self.rest().starts_with(mark)
     }
@@ -99,14 +107,14 @@ impl<'a> Reader<'a> {
     /// Passes code points.
     fn skip(&mut self, n: usize)
         requires { n ≤ length self.old.text }
-        ensures { self.new ≡ left (drop n self.old.text) self.old }
+        ensures { self.new ≡ desk_left (drop n self.old.text) self.old }
     {
         self.at += n;
     }
 
     /// Passes a mark that must stand next.
     fn need(&mut self, mark: &[char]) -> Result<(), ReadFault>
-        ensures { Answers (λ _. tt) result (or_wrong FaultKind.BadValue (needed mark.now self.old)) self.new }
+        ensures { Answers (λ _. tt) result self.old self.new (or_wrong FaultKind.BadValue (needed mark.now (rest_of self.old))) }
     {
         if !self.begins(mark) {
             return Err(ReadFault::Wrong(FaultKind::BadValue));
@@ -117,8 +125,8 @@ impl<'a> Reader<'a> {
 
     /// Reads a number in decimal, without a leading zero, and gives it where it is at most 2^63.
     fn read_number(&mut self) -> Result<Option<u64>, ReadFault>
-        ensures ok { IfOk result (λ n. (number_read self.old ≡ Some (digits_number (digits_at self.old.text), self.new)) × SomeIff n (digits_number (digits_at self.old.text) ≤ 2 ^ 63) (digits_number (digits_at self.old.text))) }
-        ensures err { IfErr result (λ e. (e ≡ ReadFault.Wrong FaultKind.BadValue) × (number_read self.old ≡ None)) }
+        ensures ok { IfOk result (λ n. (number_read (rest_of self.old) ≡ Some (digits_number (digits_at self.old.text), rest_of self.new)) × SomeIff n (digits_number (digits_at self.old.text) ≤ 2 ^ 63) (digits_number (digits_at self.old.text)) × (self.new.base ≡ self.old.base)) }
+        ensures err { IfErr result (λ e. (e ≡ ReadFault.Wrong FaultKind.BadValue) × (number_read (rest_of self.old) ≡ None)) }
     {
         let count = digit_count(self.rest());
         let digits = &self.rest()[..count];
@@ -132,7 +140,7 @@ impl<'a> Reader<'a> {
 
     /// Reads an integer in its range. `-0` is none.
     fn read_int(&mut self) -> Result<Value, ReadFault>
-        ensures { Answers (λ v. v) result (or_wrong FaultKind.BadValue (int_read self.old)) self.new }
+        ensures { Answers (λ v. v) result self.old self.new (or_wrong FaultKind.BadValue (int_read (rest_of self.old))) }
     {
         let negative = self.begins(&['-']);
         if negative {
@@ -149,75 +157,91 @@ impl<'a> Reader<'a> {
 
     /// Reads a text behind its first `"`.
     fn read_text(&mut self) -> Result<Value, ReadFault>
-        ensures { Answers (λ v. v) result (text_value (text_at [] false self.old.text) self.old) self.new }
+        ensures { Answers (λ v. v) result self.old self.new (text_value (text_at [] false self.old.text) (rest_of self.old)) }
     {
         let (points, used) = quoted(self.alloc, self.rest())?;
         self.skip(used);
         Ok(Value::Str(Text::from_vec(self.alloc, points)?))
     }
 
-    /// The place of a new cell among the new cells.
-    fn place(&self, c: CellId) -> usize {
-        c.0.saturating_sub(self.first) as usize
-    }
-
-    /// A new cell begins, empty for now.
-    fn begin_cell(&mut self, is_shared: bool, content: Content) -> Result<CellId, AllocError>
+    /// A new cell begins behind a mark of two code points, empty for now. Gives its place among the new cells.
+    fn begin_cell(&mut self, is_shared: bool, content: Content) -> Result<usize, AllocError>
+        requires { 2 ≤ length self.old.text }
+        ensures { IfOk result (λ i. (i ≡ length self.old.made) × (self.new ≡ desk_begun is_shared (drop 2 self.old.text) content self.old)) }
     {
-        let c = CellId(self.first + self.made.len() as u64);
+        let place = self.made.len();
         if is_shared {
-            self.shared.push(c)?;
+            self.shared.push(place)?;
         }
         self.skip(2);
         self.made.push(Some(content))?;
-        Ok(c)
+        Ok(place)
     }
 
     /// Puts into a new cell what it holds.
-    fn fill(&mut self, c: CellId, content: Content)
+    fn fill(&mut self, place: usize, content: Content)
+        ensures { self.new ≡ desk_filled place content self.old }
     {
-        let place = self.place(c);
         if place < self.made.len() {
             self.made[place] = Some(content);
         }
     }
 
-    /// The value that names a new cell.
-    fn named(&self, c: CellId) -> Value
-        ensures { value_of_cell c self.now ≡ Some (result, self.now) }
+    /// The cell at a place among the new cells.
+    fn cell(&self, place: usize) -> CellId
+        ensures { result ≡ cell_of self.now.base place }
     {
-        match self.made.get(self.place(c)) {
-            Some(Some(Content::Array(_))) => Value::Arr(c),
-            _ => Value::Map(c),
+        CellId(self.first + place as u64)
+    }
+
+    /// The value that names a new cell.
+    fn named(&self, place: usize) -> Value
+        ensures { value_of_cell (cell_of self.now.base place) (rest_of self.now) ≡ Some (result, rest_of self.now) }
+    {
+        match self.made.get(place) {
+            Some(Some(Content::Array(_))) => Value::Arr(self.cell(place)),
+            _ => Value::Map(self.cell(place)),
         }
     }
 
     /// Reads the number of a shared cell behind its `<`, and the cell where it is a new one.
+    #[cycle(read)]
     fn read_share(&mut self, steps: u64, levels: u64) -> Result<Value, ReadFault>
+        ensures { Answers (λ v. v) result self.old self.new (share_at (λ r. cell_at steps levels true r) (rest_of self.old)) }
     {
         let number = self.read_number()?;
         self.need(&['>'])?;
+        self.read_numbered(number, steps, levels)
+    }
+
+    /// Reads what stands behind the number of a shared cell: the cell, where it is a new one.
+    #[cycle(read)]
+    fn read_numbered(&mut self, number: Option<u64>, steps: u64, levels: u64) -> Result<Value, ReadFault>
+        ensures { (k : ℕ) → SomeIff number (k ≤ 2 ^ 63) k → Answers (λ v. v) result self.old self.new (numbered_at (λ r. cell_at steps levels true r) k (rest_of self.old)) }
+    {
+        let last = self.shared.len() as u64;
         let number = match number {
-            Some(n) if 0 < n && n <= self.shared.len() as u64 + 1 => n,
+            Some(n) if 0 < n && n <= last + 1 => n,
             _ => return Err(ReadFault::Wrong(FaultKind::BadShare)),
         };
         if self.begins(&['=']) {
-            if number != self.shared.len() as u64 + 1 {
+            if number <= last {
                 return Err(ReadFault::Wrong(FaultKind::BadShare));
             }
             self.skip(1);
             return self.read_cell(steps, levels, true);
         }
-        match self.shared.get(number as usize - 1) {
-            Some(c) => Ok(self.named(*c)),
-            None => Err(ReadFault::Wrong(FaultKind::BadShare)),
+        if number > last {
+            return Err(ReadFault::Wrong(FaultKind::BadShare));
         }
+        Ok(self.named(self.shared[number as usize - 1]))
     }
 
     /// Reads a value. `steps` bounds the parts that are still read, and `levels` the arrays and mappings
     /// that may lie in one another.
+    #[cycle(read)]
     fn read_value(&mut self, steps: u64, levels: u64) -> Result<Value, ReadFault>
-        ensures { Answers (λ v. v) result (value_at steps levels self.old) self.new }
+        ensures { Answers (λ v. v) result self.old self.new (value_at steps levels (rest_of self.old)) }
     {
         if steps == 0 {
             return Err(ReadFault::Wrong(FaultKind::BadValue));
@@ -237,8 +261,9 @@ impl<'a> Reader<'a> {
     }
 
     /// Reads an array or a mapping, which gets the next number where it is shared.
+    #[cycle(read)]
     fn read_cell(&mut self, steps: u64, levels: u64, is_shared: bool) -> Result<Value, ReadFault>
-        ensures { Answers (λ v. v) result (cell_at steps levels is_shared self.old) self.new }
+        ensures { Answers (λ v. v) result self.old self.new (cell_at steps levels is_shared (rest_of self.old)) }
     {
         if steps == 0 {
             return Err(ReadFault::Wrong(FaultKind::BadValue));
@@ -250,22 +275,42 @@ impl<'a> Reader<'a> {
         if levels == 0 {
             return Err(ReadFault::Wrong(FaultKind::TooNested));
         }
-        if is_array {
-            let c = self.begin_cell(is_shared, Content::Array(Items::from_vec(Vec::new(self.alloc))))?;
-            let items = self.read_items(steps - 1, levels - 1)?;
-            self.fill(c, Content::Array(Items::from_vec(items)));
-            Ok(Value::Arr(c))
-        } else {
-            let c = self.begin_cell(is_shared, Content::Mapping(Pairs::new(self.alloc)))?;
-            let pairs = self.read_pairs(steps - 1, levels - 1)?;
-            self.fill(c, Content::Mapping(pairs));
-            Ok(Value::Map(c))
-        }
+        if is_array { self.read_array(steps, levels, is_shared) } else { self.read_mapping(steps, levels, is_shared) }
+    }
+
+    /// Reads an array.
+    #[cycle(read)]
+    fn read_array(&mut self, steps: u64, levels: u64, is_shared: bool) -> Result<Value, ReadFault>
+        requires some { (0 < steps) × (0 < levels) }
+        requires begins { begins (codes "({") (rest_of self.old) ≡ true }
+        requires mark { 2 ≤ length self.old.text }
+        ensures { Answers (λ v. v) result self.old self.new (cell_at steps levels is_shared (rest_of self.old)) }
+    {
+        let place = self.begin_cell(is_shared, Content::Array(Items::from_vec(Vec::new(self.alloc))))?;
+        let items = self.read_items(steps - 1, levels - 1)?;
+        self.fill(place, Content::Array(Items::from_vec(items)));
+        Ok(Value::Arr(self.cell(place)))
+    }
+
+    /// Reads a mapping.
+    #[cycle(read)]
+    fn read_mapping(&mut self, steps: u64, levels: u64, is_shared: bool) -> Result<Value, ReadFault>
+        requires some { (0 < steps) × (0 < levels) }
+        requires no_array { begins (codes "({") (rest_of self.old) ≡ false }
+        requires begins { begins (codes "([") (rest_of self.old) ≡ true }
+        requires mark { 2 ≤ length self.old.text }
+        ensures { Answers (λ v. v) result self.old self.new (cell_at steps levels is_shared (rest_of self.old)) }
+    {
+        let place = self.begin_cell(is_shared, Content::Mapping(Pairs::new(self.alloc)))?;
+        let pairs = self.read_pairs(steps - 1, levels - 1)?;
+        self.fill(place, Content::Mapping(pairs));
+        Ok(Value::Map(self.cell(place)))
     }
 
     /// Reads the items of an array behind its `({`, and its `})`.
+    #[cycle(read)]
     fn read_items(&mut self, steps: u64, levels: u64) -> Result<Vec<Value>, ReadFault>
-        ensures { Answers (λ vs. vs.items) result (items_at steps levels [] self.old) self.new }
+        ensures { Answers (λ vs. vs.items) result self.old self.new (items_at steps levels [] (rest_of self.old)) }
     {
         let mut items = Vec::new(self.alloc);
         for i in 0..steps {
@@ -284,8 +329,9 @@ impl<'a> Reader<'a> {
     }
 
     /// Reads the pairs of a mapping behind its `([`, and its `])`.
+    #[cycle(read)]
     fn read_pairs(&mut self, steps: u64, levels: u64) -> Result<Pairs, ReadFault>
-        ensures { Answers (λ ps. ps) result (pairs_at steps levels [] self.old) self.new }
+        ensures { Answers (λ ps. ps) result self.old self.new (pairs_at steps levels [] (rest_of self.old)) }
     {
         let mut pairs = Pairs::new(self.alloc);
         for i in 0..steps {
@@ -307,7 +353,9 @@ impl<'a> Reader<'a> {
 }
 
 /// The text up to its `"`, and how many code points it takes with that.
-fn quoted(alloc: Global, text: &[char]) -> Result<(Vec<char>, usize), ReadFault> {
+fn quoted(alloc: Global, text: &[char]) -> Result<(Vec<char>, usize), ReadFault>
+    ensures { GivesText result text.now (text_at [] false text.now) }
+{
     let mut points = Vec::new(alloc);
     let mut escapes = false;
     for (i, c) in text.iter().enumerate() {
@@ -325,7 +373,9 @@ fn quoted(alloc: Global, text: &[char]) -> Result<(Vec<char>, usize), ReadFault>
 }
 
 /// Adds a code point to a text that has room.
-fn add_point(points: &mut Vec<char>, point: Option<char>) -> Result<(), ReadFault> {
+fn add_point(points: &mut Vec<char>, point: Option<char>) -> Result<(), ReadFault>
+    ensures { AddsPoint result points.old.items points.new.items point }
+{
     match point {
         None => Err(ReadFault::Wrong(FaultKind::BadValue)),
         Some(_) if points.len() >= MAX_CODE_POINTS => Err(ReadFault::Wrong(FaultKind::TooLong)),
@@ -334,7 +384,9 @@ fn add_point(points: &mut Vec<char>, point: Option<char>) -> Result<(), ReadFaul
 }
 
 /// The code point that stands behind a backslash as this one.
-fn escaped(c: char) -> Option<char> {
+fn escaped(c: char) -> Option<char>
+    ensures { result ≡ escaped_point c }
+{
     match c {
         'n' => Some('\n'),
         'r' => Some('\r'),
@@ -345,7 +397,9 @@ fn escaped(c: char) -> Option<char> {
 }
 
 /// A code point that stands for itself.
-fn plain(c: char) -> Option<char> {
+fn plain(c: char) -> Option<char>
+    ensures { result ≡ plain_point c }
+{
     match c {
         '\r' | '\t' => None,
         _ => Some(c),
@@ -353,7 +407,10 @@ fn plain(c: char) -> Option<char> {
 }
 
 /// The integer of a sign and a number, if it is in range; `-0` is none.
-fn signed(negative: bool, n: u64) -> Option<i64> {
+fn signed(negative: bool, n: u64) -> Option<i64>
+    requires { n ≤ 2 ^ 63 }
+    ensures { result ≡ (if negative && nat_eq n 0 then None else signed_int negative n) }
+{
     if negative {
         return match n {
             0 => None,
@@ -365,12 +422,16 @@ fn signed(negative: bool, n: u64) -> Option<i64> {
 }
 
 /// How long the name is: up to the first space.
-fn name_len(line: &[char]) -> usize {
+fn name_len(line: &[char]) -> usize
+    ensures { result ≡ length (before_first (λ c. nat_eq c 32) line.now) }
+{
     line.iter().position(|c| *c == ' ').unwrap_or(line.len())
 }
 
 /// Whether a text is a name: a letter or `_`, and then letters, digits or `_`.
-fn is_name(text: &[char]) -> bool {
+fn is_name(text: &[char]) -> bool
+    ensures { result ≡ is_variable_name text.now }
+{
     match text {
         [first, rest @ ..] => {
             is_letter(*first) && rest.iter().all(|c| is_letter(*c) || c.is_ascii_digit())
@@ -380,6 +441,8 @@ fn is_name(text: &[char]) -> bool {
 }
 
 /// Whether a code point is a letter or `_`.
-fn is_letter(c: char) -> bool {
+fn is_letter(c: char) -> bool
+    ensures { result ≡ is_letter c }
+{
     c.is_ascii_alphabetic() || c == '_'
 }
