@@ -1,10 +1,10 @@
 //! Saved text.
-ghost use Rattle.std.specs.Prelude.{All, IfOk, IsTrue};
+ghost use Rattle.std.specs.Prelude.{All, IsTrue};
 ghost use Rattle.lp_cells.specs.Cells.{IsPairThere, IsThere};
 
 use lp_cells::cells::Cells;
 use lp_save::{SaveFault, save_text};
-use lp_values::id::ObjId;
+use lp_values::id::{CellId, ObjId};
 use lp_values::text::Text;
 use lp_values::value::{Living, Value};
 use std::alloc::Global;
@@ -95,52 +95,25 @@ impl World {
         self.array(rt, items)
     }
 
-    /// A new array of one item.
-    fn array_of(&mut self, rt: &impl Abort, item: Value) -> Result<Value, Fail> {
-        let mut items = Vec::new(self.alloc);
-        items.push(item)?;
-        self.array(rt, items)
-    }
-
-    /// Arrays that lie so many levels deep in one another.
-    fn nested(&mut self, rt: &impl Abort, levels: u64) -> Result<Value, Fail> {
-        let mut v = Value::Int(0);
-        for _ in 0..levels {
-            v = self.array_of(rt, v)?;
-        }
-        Ok(v)
-    }
-
-    /// Puts an array into itself, as its first item.
-    fn put_itself(&mut self, rt: &impl Abort, v: &Value) -> Result<(), Fail> {
-        if let Value::Arr(c) = v {
-            assert!(rt; self.cells.is_there(&Value::Arr(*c)));
-            self.cells.set(*c, 0, Value::Arr(*c))?;
-        }
+    /// Writes an item of an array.
+    fn set(&mut self, rt: &impl Abort, c: CellId, i: u64, v: Value) -> Result<(), Fail> {
+        assert!(rt; self.cells.is_there(&Value::Arr(c)));
+        assert!(rt; self.cells.is_there(&v));
+        self.cells.set(c, i, v)?;
         Ok(())
-    }
-
-    /// A variable `v` and a variable `w` that is 0.
-    fn variables(&self, rt: &impl Abort, value: Value) -> Result<Vec<(Text, Value)>, Fail>
-        ensures { IfOk result (λ v. All (λ p. IsThere self.now p.1) v.items) }
-    {
-        let mut vars = Vec::new(self.alloc);
-        vars.push((Text::from_str(self.alloc, "v")?, value))?;
-        vars.push((Text::from_str(self.alloc, "w")?, Value::Int(0)))?;
-        assert!(rt; self.has_values(vars.as_slice()));
-        Ok(vars)
     }
 
     /// The text of a variable `v` and a variable `w` that is 0.
     fn saved(&self, rt: &impl Abort, value: Value) -> Result<Vec<u8>, Fail> {
-        let vars = self.variables(rt, value)?;
+        let vars = Vec::from_array(
+            self.alloc,
+            [
+                (Text::from_str(self.alloc, "v")?, value),
+                (Text::from_str(self.alloc, "w")?, Value::Int(0)),
+            ],
+        )?;
+        assert!(rt; self.has_values(vars.as_slice()));
         Ok(save_text(self.alloc, vars.as_slice(), &self.cells, &Even)?.into_vec())
-    }
-
-    /// Why a variable `v` and a variable `w` that is 0 are not saved, if they are not.
-    fn fault(&self, rt: &impl Abort, value: Value) -> Result<Option<SaveFault>, Fail> {
-        let vars = self.variables(rt, value)?;
-        Ok(save_text(self.alloc, vars.as_slice(), &self.cells, &Even).err())
     }
 
     /// The text of a variable `v` and a variable `w` that is 0 is this.
@@ -153,79 +126,29 @@ impl World {
 }
 
 #[test]
-fn integers_are_spelled(rt: HostRuntime) -> Result<(), Fail> {
-    let world = World::new(rt.alloc());
-    world.saves(&rt, Value::Int(-12), "#2:0\nv -12\nw 0\n")
-}
-
-#[test]
-fn objects_are_zero(rt: HostRuntime) -> Result<(), Fail> {
-    let world = World::new(rt.alloc());
-    world.saves(&rt, Value::Obj(ObjId(2)), "#2:0\nv 0\nw 0\n")
-}
-
-#[test]
-fn texts_are_spelled(rt: HostRuntime) -> Result<(), Fail> {
+fn values_are_spelled(rt: HostRuntime) -> Result<(), Fail> {
     let alloc = rt.alloc();
-    let world = World::new(alloc);
+    let mut world = World::new(alloc);
+    world.saves(&rt, Value::Int(-12), "#2:0\nv -12\nw 0\n")?;
+    world.saves(&rt, Value::Obj(ObjId(2)), "#2:0\nv 0\nw 0\n")?;
     let text = Text::from_str(alloc, "a\n\r\t\\\"é'")?;
     world.saves(
         &rt,
         Value::Str(text),
         "#2:0\nv \"a\\n\\r\\t\\\\\\\"é'\"\nw 0\n",
-    )
-}
-
-// A key that is a destructed object is not there.
-#[test]
-fn mappings_are_spelled(rt: HostRuntime) -> Result<(), Fail> {
-    let alloc = rt.alloc();
-    let mut world = World::new(alloc);
-    let mut pairs = Vec::new(alloc);
-    pairs.push((Value::Int(1), Value::Int(2)))?;
-    pairs.push((Value::Obj(ObjId(3)), Value::Int(7)))?;
-    pairs.push((Value::Obj(ObjId(4)), Value::Int(8)))?;
+    )?;
+    let empty = world.array(&rt, Vec::new(alloc))?;
+    world.saves(&rt, empty, "#2:0\nv ({})\nw 0\n")?;
+    let pairs = Vec::from_array(
+        alloc,
+        [
+            (Value::Int(1), Value::Str(Text::from_str(alloc, "a")?)),
+            (Value::Obj(ObjId(3)), Value::Int(7)),
+            (Value::Obj(ObjId(4)), Value::Int(8)),
+        ],
+    )?;
     let map = world.mapping(&rt, pairs)?;
-    world.saves(&rt, map, "#2:0\nv ([1:2,0:8,])\nw 0\n")
-}
-
-// An array of an object that occurs twice.
-#[test]
-fn shared_arrays_are_spelled_once(rt: HostRuntime) -> Result<(), Fail> {
-    let alloc = rt.alloc();
-    let mut world = World::new(alloc);
-    let x = world.array_of(&rt, Value::Obj(ObjId(2)))?;
-    let mut twice = Vec::new(alloc);
-    twice.push(x.copy()?)?;
-    twice.push(x)?;
-    let v = world.array(&rt, twice)?;
-    world.saves(&rt, v, "#2:0\nv ({<1>=({0,}),<1>,})\nw 0\n")
-}
-
-// An array whose one item is itself.
-#[test]
-fn arrays_inside_themselves_are_spelled(rt: HostRuntime) -> Result<(), Fail> {
-    let mut world = World::new(rt.alloc());
-    let v = world.array_of(&rt, Value::Int(0))?;
-    world.put_itself(&rt, &v)?;
-    world.saves(&rt, v, "#2:0\nv <1>=({<1>,})\nw 0\n")
-}
-
-#[test]
-fn a_hundred_levels_are_saved(rt: HostRuntime) -> Result<(), Fail> {
-    let mut world = World::new(rt.alloc());
-    let v = world.nested(&rt, 100)?;
-    let text = world.saved(&rt, v)?;
-    assert_eq!(rt; text.len(), 5 + 2 + 500 + 1 + 1 + 4);
-    Ok(())
-}
-
-#[test]
-fn more_levels_are_not_saved(rt: HostRuntime) -> Result<(), Fail> {
-    let mut world = World::new(rt.alloc());
-    let v = world.nested(&rt, 101)?;
-    assert_eq!(rt; world.fault(&rt, v)?, Some(SaveFault::TooNested));
-    Ok(())
+    world.saves(&rt, map, "#2:0\nv ([1:\"a\",0:8,])\nw 0\n")
 }
 
 #[test]
@@ -238,6 +161,50 @@ fn no_variables_give_the_first_line(rt: HostRuntime) -> Result<(), Fail> {
     Ok(())
 }
 
+// An array that occurs twice, and one inside itself.
+#[test]
+fn shared_cells_are_spelled_once(rt: HostRuntime) -> Result<(), Fail> {
+    let alloc = rt.alloc();
+    let mut world = World::new(alloc);
+    let x = world.array(&rt, Vec::from_array(alloc, [Value::Obj(ObjId(2))])?)?;
+    let twice = Vec::from_array(alloc, [x.copy()?, x])?;
+    let v = world.array(&rt, twice)?;
+    world.saves(&rt, v, "#2:0\nv ({<1>=({0,}),<1>,})\nw 0\n")?;
+    let zero = world.array(&rt, Vec::from_array(alloc, [Value::Int(0)])?)?;
+    if let Value::Arr(c) = zero {
+        world.set(&rt, c, 0, Value::Arr(c))?;
+    }
+    world.saves(&rt, zero.copy()?, "#2:0\nv <1>=({<1>,})\nw 0\n")?;
+    let inner = world.array(&rt, Vec::from_array(alloc, [zero.copy()?, Value::Int(5)])?)?;
+    let both = Vec::from_array(alloc, [inner.copy()?, zero, inner])?;
+    let v = world.array(&rt, both)?;
+    world.saves(
+        &rt,
+        v,
+        "#2:0\nv ({<1>=({<2>=({<2>,}),5,}),<2>,<1>,})\nw 0\n",
+    )
+}
+
+// Arrays 100 deep in one another are saved, and 101 are not.
+#[test]
+fn a_hundred_levels_are_saved(rt: HostRuntime) -> Result<(), Fail> {
+    let alloc = rt.alloc();
+    let mut world = World::new(alloc);
+    let mut v = Value::Int(0);
+    for _ in 0..100 {
+        v = world.array(&rt, Vec::from_array(alloc, [v])?)?;
+    }
+    let text = world.saved(&rt, v.copy()?)?;
+    assert_eq!(rt; text.len(), 5 + 2 + 500 + 1 + 1 + 4);
+    v = world.array(&rt, Vec::from_array(alloc, [v])?)?;
+    let vars = Vec::from_array(alloc, [(Text::from_str(alloc, "v")?, v)])?;
+    assert!(rt; world.has_values(vars.as_slice()));
+    let fault = save_text(alloc, vars.as_slice(), &world.cells, &Even).err();
+    assert_eq!(rt; fault, Some(SaveFault::TooNested));
+    Ok(())
+}
+
+// The largest array, and ten of them in one.
 #[test]
 fn ten_thousand_values_are_saved(rt: HostRuntime) -> Result<(), Fail> {
     let mut world = World::new(rt.alloc());
@@ -247,7 +214,6 @@ fn ten_thousand_values_are_saved(rt: HostRuntime) -> Result<(), Fail> {
     Ok(())
 }
 
-// Ten arrays of ten thousand values.
 #[test]
 fn a_hundred_thousand_values_are_saved(rt: HostRuntime) -> Result<(), Fail> {
     let alloc = rt.alloc();
