@@ -161,7 +161,7 @@ fn several_files(rt: HostRuntime) -> Result<(), Fail> {
 #[test]
 fn events_are_not_run(rt: HostRuntime) -> Result<(), Fail> {
     let items =
-        "connect 1\nline 1 2\nhi\ntick 5\nreload /x.c 5\nint (\n\nswap /secure/master\ngone 1\nend\n";
+        "connect 1\nline 1 2\nhi\ntick 5\nreload /x.c 6\nint (\n\nswap /secure/master\ngone 1\nend\n";
     let text = script(&rt, HELLO, items)?;
     assert!(rt; ends_well(&rt, text.as_bytes(), 0, b"1 files, 0 faults\n")?);
     Ok(())
