@@ -94,6 +94,21 @@ impl Cells {
         Ok(self.new_cell(Content::Mapping(pairs))?)
     }
 
+    /// New cells, whose serials follow those that are there, in their order. A place may be empty; each
+    /// content is taken as it stands. Gives the serial of the first one; of none, that of the cell that is
+    /// made next, and then it takes no memory. After an error nothing has changed.
+    pub fn add_all(&mut self, slots: Vec<Option<Content>>) -> Result<CellId, CellFault>
+        ensures made { IfOk result (λ c. c.0 ≡ length self.old) }
+        ensures ok { OnOk result (self.new ≡ self.old ++ slots.items) }
+        ensures err { IfErr result (λ e. (e ≡ CellFault.NoMemory) × (self.new ≡ self.old)) }
+        ensures stay { KeepsThere self.old self.new }
+    {
+        let first = self.slots.len() as u64;
+        let mut slots = slots;
+        self.slots.append(&mut slots)?;
+        Ok(CellId(first))
+    }
+
     /// Whether the array or mapping that a value names is there. Takes no memory.
     pub fn is_there(&self, v: &Value) -> bool
         ensures { IsTrue result ↔ IsThere self.now v.now }
