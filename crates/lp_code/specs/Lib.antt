@@ -1,3 +1,4 @@
+pub mod Names
 pub mod Owners
 pub mod Inside
 pub mod Programs

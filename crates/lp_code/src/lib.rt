@@ -3,6 +3,7 @@
 
 pub mod listed;
 pub mod name;
+pub mod names;
 pub mod program;
 pub mod slots;
 pub mod steps;

@@ -28,7 +28,7 @@ impl Model for Slots {
 }
 
 /// A name is noted with its place, where it was not noted before.
-fn note(
+pub(crate) fn note(
     alloc: Global,
     places: &mut HashMap<String, usize>,
     name: &str,
