@@ -21,7 +21,7 @@ use Rattle.lp_preproc.specs.declared.state.Use.{Use}
 use Rattle.lp_preproc.specs.declared.state.Group.{Group}
 use Rattle.lp_preproc.specs.declared.state.Stage.{Stage}
 use Rattle.lp_preproc.specs.declared.state.Stage.TheVariants.{Waiting, Live, Done}
-use Rattle.lp_preproc.specs.declared.state.Arguments.{Arguments}
+use Rattle.lp_preproc.specs.Arguments.{Arguments}
 use Rattle.lp_preproc.specs.declared.state.Reading.{Reading}
 use Rattle.lp_preproc.specs.declared.state.Reading.TheVariants.{Plain, Named, Within}
 use Rattle.lp_preproc.specs.declared.state.Part.{Part}
