@@ -12,19 +12,20 @@ use Rattle.lp_lexer.specs.declared.LexFault.TheVariants as lexes
 use Rattle.lp_tree.specs.declared.pragma.Pragmas.{Pragmas}
 use Rattle.lp_preproc.specs.declared.reader.Reader.{Reader}
 use Rattle.lp_preproc.specs.declared.row.Row.{Row}
+use Rattle.lp_preproc.specs.declared.state.Group.{Group}
 use Rattle.lp_preproc.specs.declared.state.Use.{Use}
 use Rattle.lp_preproc.specs.declared.state.Purpose.TheVariants as purposes
 use Rattle.lp_preproc.specs.declared.stop.Stop.{Stop}
 use Rattle.lp_preproc.specs.declared.stop.Stop.TheVariants.{NoMemory, At}
 use Rattle.lp_preproc.specs.declared.word.Word.{Word}
 use Rattle.lp_preproc.specs.Macros.{Table}
-use Rattle.lp_preproc.specs.State.{Setting, State, apart, begin, Next, Goes, Ends, Reads as ReadsFile}
+use Rattle.lp_preproc.specs.State.{Setting, State, Open, apart, begin, Next, Goes, Ends, Reads as ReadsFile}
 use Rattle.lp_preproc.specs.Uses.{used, expanded, ended}
 use Rattle.lp_preproc.specs.Conditions.{HasValue}
 use Rattle.lp_preproc.specs.Directives.{in_condition}
 use Rattle.lp_preproc.specs.Directives as lines
 use Rattle.lp_preproc.specs.Paths.{stays, went, asked, lexed, tested}
-use Rattle.lp_preproc.specs.Expansion.{Outcome, Whole, Faulty, LeadsTo, ends, fails, goes, asks, asks_fault, reads, reads_fault, tests, tests_fault, next, from_waiting, opening_bytes, compiled, line_at}
+use Rattle.lp_preproc.specs.Expansion.{Outcome, Whole, Faulty, LeadsTo, ends, fails, goes, asks, asks_fault, reads, reads_fault, tests, tests_fault, next, closed, from_file, from_files, from_waiting, opening_bytes, compiled, line_at}
 use Rattle.lp_preproc.specs.Steps.{state_of, Branches, IsDecided, Does, Reads, Leads, Reaches, Turns, Finishes, ComesOut, Expanding, Expands, Runs, in_list, stop_of, turned}
 
 -- what comes later leads on
@@ -41,6 +42,9 @@ further (went g) l = went (further g l)
 further (asked i g) l = asked i (further g l)
 further (lexed i g) l = lexed i (further g l)
 further (tested v g) l = tested v (further g l)
+
+pub leads_same : (c : Setting) (n m : Next) → n ≡ m → Leads c n m
+leads_same c n m e = subst (λ x. Leads c n x) e stays
 
 -- a call that went on
 pub turn_went : (c : Setting) (n : Next) (s : State) → n ≡ Goes s → Leads c n (Goes s)
@@ -123,6 +127,18 @@ pub does_turns : (c : Setting) (n : Next) (r : Result (Unit {0}) Stop) (q : Resu
 does_turns c n (Ok u) q s e f = subst (λ x. Turns c n x s) (sym f) (subst (λ m. Leads c m (Goes s)) (sym e) stays)
 does_turns c n (Err NoMemory) q s e f = subst (λ x. Turns c n x s) (sym f) e
 does_turns c n (Err (At kind line)) q s e f = subst (λ x. Turns c n x s) (sym f) (subst (λ m. LeadsTo c m (Faulty kind line)) (sym e) fails)
+
+-- a line of a file that is taken out, whatever stood in its place
+closed_same : (s : State) (fs os : List Open) (o : Open) (gs : List Group) → closed (record s { files = fs }) o os gs ≡ closed s o os gs
+closed_same s fs os o [] = refl
+closed_same s fs os o (g ∷ gs) = refl
+
+file_same : (c : Setting) (s : State) (fs os : List Open) (o : Open) (ts : List Token) → from_file c (record s { files = fs }) o os ts ≡ from_file c s o os ts
+file_same c s fs os o [] = closed_same s fs os o o.groups
+file_same c s fs os o (t ∷ ts) = refl
+
+pub turn_file : (c : Setting) (s : State) (fs os : List Open) (o : Open) (r : Result Bool Stop) (t : State) → Turns c (from_file c (record s { files = os }) o os o.left) r t → fs ≡ o ∷ os → Turns c (from_files c s fs) r t
+turn_file c s fs os o r t h e = subst (λ gs. Turns c (from_files c s gs) r t) (sym e) (subst (λ n. Turns c n r t) (file_same c s os os o o.left) h)
 
 -- what a turn's end says of the whole
 pub run_failed : (c : Setting) (n : Next) (s t : State) (x : Stop) → Leads c n (Goes s) → Turns c (next c s) (Err x) t → Runs c n (Err x) t

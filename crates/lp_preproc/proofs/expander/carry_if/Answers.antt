@@ -12,7 +12,7 @@ returns-in_ok-push-in-Ok-2 c = λ c' i.
     let k = beside (c.args.source ∷ e.files) e.pragmas in
     let f : State → Bool → Next = λ s b. with_groups s (begun b ∷ c.args.source.groups) in
     let back : List Open → Next = λ fs. Goes (state_of c.holds.new.reader (macros_in e.table) (beside fs e.pragmas)) in
-    branch_went c' _ (state_of c.holds.new.reader (macros_in e.table) (beside c.push-2.new.self e.pragmas)) (f (state_of c.holds.new.reader (macros_in e.table) k)) c.in-Ok.holds (c.in-Ok.ensures c' i k f)
+    branch_went c' _ _ (f (state_of c.holds.new.reader (macros_in e.table) k)) c.in-Ok.holds (c.in-Ok.ensures c' i k f)
     (ap back (sym (c.in_ok-push-in-Ok-2.ensures.ok ∙ ap (λ gs. grouped c.args.source gs ∷ e.files) (c.in_ok-push-in-Ok.ensures.ok ∙ ap (λ g. g ∷ c.args.source.groups) c.begun.ensures))))
 
 pub returns-in-Err : goal.returns-in-Err

@@ -23,7 +23,7 @@ returns-in_ok-push-in-Ok-2 c = λ c' i o e.
     let f : State → Bool → Next = λ s b. with_groups s (record g { stage = stage_if b } ∷ gs) in
     let back : List Open → Next = λ fs. Goes (state_of c.holds.new.reader (macros_in x.table) (beside fs x.pragmas)) in
     rw (sym c.bad_place.ensures ∙ ap option_copied c.in_default.is)
-    (branch_went c' _ (state_of c.holds.new.reader (macros_in x.table) (beside c.push-2.new.self x.pragmas)) (f (state_of c.holds.new.reader (macros_in x.table) k)) c.in-Ok.holds (c.in-Ok.ensures c' i k f)
+    (branch_went c' _ _ (f (state_of c.holds.new.reader (macros_in x.table) k)) c.in-Ok.holds (c.in-Ok.ensures c' i k f)
     (ap back (sym (c.in_ok-push-in-Ok-2.ensures.ok
     ∙ ap (λ ps. grouped c.args.source ps ∷ x.files) (c.in_ok-push-in-Ok.ensures.ok ∙ ap (λ (t : Stage). record g { stage = t } ∷ gs) c.stage_if.ensures)
     ∙ ap (λ q. grouped q (record g { stage = stage_if c.in-Ok.holds } ∷ gs) ∷ x.files) e))))

@@ -1,9 +1,9 @@
-use Rattle.std.proofs.Common.{[], refl, sym, subst, arith, Err, None}
+use Rattle.std.proofs.Common.{[], refl, sym, subst, arith, Err, None, rules}
 use Rattle.lp_preproc.specs.Tables.{macros_in}
 use Rattle.lp_preproc.specs.Expansion.{next}
 use Rattle.lp_preproc.specs.Steps.{Does, Leads, Reaches, Turns, Finishes, in_list, state_of}
 use Rattle.lp_preproc.specs.Uses.{expanded, used, ended, put_back, result_words}
-use Rattle.lp_preproc.proofs.Leading.{turn_went, turn_failed, turn_used, turn_used_failed, turn_finishes, list_failed, list_ended, list_next, does_reaches, expands_failed, argument_next, argument_failed, use_deep, next_end}
+use Rattle.lp_preproc.proofs.Leading.{leads_same, turn_went, turn_failed, turn_used, turn_used_failed, turn_finishes, list_failed, list_ended, list_next, does_reaches, expands_failed, argument_next, argument_failed, use_deep, next_end}
 use Rattle.lp_preproc.proofs.Following.{turn_falls}
 use Rattle.lp_preproc.specs.State.{Setting, no_pragmas}
 use Rattle.lp_preproc.proofs.list.+words.Goals as goal
@@ -55,6 +55,12 @@ expand_list-turns-smaller t c =
     let c' : Setting = record { files = λ p. None; path = c.args.place.now } in
     turn_falls c.law_falls.ensures c' (state_of c.turns.reader (macros_in c.args.table.now) (in_list c.args.least no_pragmas)) (state_of c.turn.new.reader (macros_in c.args.table.now) (in_list c.args.least no_pragmas))
     ((rw c.in-Ok-false.field-0-test at c.in-Ok-false.ensures) c' refl no_pragmas)
+
+pub expand_list-turns-init : goal.expand_list-turns-init
+expand_list-turns-init t c = λ c' i p. leads_same c' _ _ (search rules)
+
+pub expand_arguments-args-2-init : goal.expand_arguments-args-2-init
+expand_arguments-args-2-init t c = λ c' i u k. leads_same c' _ _ (search rules)
 
 pub expand_use-returns-then-depth-ge-DEEPEST : goal.expand_use-returns-then-depth-ge-DEEPEST
 expand_use-returns-then-depth-ge-DEEPEST t c = λ c' i k e.
