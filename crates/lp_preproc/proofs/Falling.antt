@@ -1,8 +1,6 @@
 -- Each word of an expansion leaves less to do.
-use Rattle.std.proofs.Common.{◌≡◌, ℕ, ℤ, ◌+◌, ◌-◌, ◌*◌, ◌≤◌, ◌<◌, Bool, true, false, List, [], ◌∷◌, ◌++◌, length, length-append, Option, None, Some, refl, arith}
+use Rattle.std.proofs.Common.{◌≡◌, ℕ, ◌+◌, ◌-◌, ◌*◌, ◌≤◌, ◌<◌, Bool, true, false, List, [], ◌∷◌, ◌++◌, length, length-append, Option, None, Some, refl, arith}
 use Rattle.std.specs.Prelude.{nat_lt, nat_le, ◌==◌, if◌then◌else◌, reverse}
-use Rattle.lp_tree.specs.declared.fault.FaultKind.{FaultKind}
-use Rattle.lp_tree.specs.declared.token.Token.{Token}
 use Rattle.lp_preproc.specs.declared.macros.Macro.{Macro}
 use Rattle.lp_preproc.specs.declared.word.Word.{Word}
 use Rattle.lp_preproc.specs.declared.state.Use.{Use}
@@ -15,8 +13,8 @@ use Rattle.lp_preproc.specs.declared.state.Purpose.{Purpose}
 use Rattle.lp_preproc.specs.declared.state.Purpose.TheVariants as purposes
 use Rattle.lp_preproc.specs.Macros.{Table, macro_of, among}
 use Rattle.lp_preproc.specs.declared.source.Open.{Open}
-use Rattle.lp_preproc.specs.State.{Setting, State, Next, Goes, Ends, Fails, Asks, Reads, Tests}
-use Rattle.lp_preproc.specs.Falls.{level_of, level, room, left_in, held, light, weight, Falls, goes, ends, fails, asks, reads, tests}
+use Rattle.lp_preproc.specs.State.{Setting, State, Next, Goes}
+use Rattle.lp_preproc.specs.Falls.{level_of, level, room, left_in, held, light, Falls, goes, ends, fails, asks}
 use Rattle.lp_preproc.specs.Uses
 
 -- what was put in stands, and what is left is less

@@ -2,7 +2,7 @@
 use Rattle.std.proofs.Common.{ℕ, ◌≤◌, ◌<◌, arith}
 use Rattle.lp_preproc.specs.Expansion.{Outcome, Whole, Faulty, LeadsTo, next}
 use Rattle.lp_preproc.specs.Expansion as to
-use Rattle.lp_preproc.specs.Falls.{level, weight, IsLess, Falls, goes, ends, fails, asks, reads, tests}
+use Rattle.lp_preproc.specs.Falls.{weight, IsLess, Falls, goes, ends, fails, asks, reads, tests}
 use Rattle.lp_preproc.specs.Paths.{Leads, stays, went, asked, lexed, tested}
 use Rattle.lp_preproc.specs.State.{Setting, State, Next, Goes}
 

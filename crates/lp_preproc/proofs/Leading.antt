@@ -128,7 +128,7 @@ does_turns c n (Ok u) q s e f = subst (λ x. Turns c n x s) (sym f) (subst (λ m
 does_turns c n (Err NoMemory) q s e f = subst (λ x. Turns c n x s) (sym f) e
 does_turns c n (Err (At kind line)) q s e f = subst (λ x. Turns c n x s) (sym f) (subst (λ m. LeadsTo c m (Faulty kind line)) (sym e) fails)
 
--- a line of a file that is taken out, whatever stood in its place
+-- what the innermost file does next, when it was taken out of the open files
 closed_same : (s : State) (fs os : List Open) (o : Open) (gs : List Group) → closed (record s { files = fs }) o os gs ≡ closed s o os gs
 closed_same s fs os o [] = refl
 closed_same s fs os o (g ∷ gs) = refl

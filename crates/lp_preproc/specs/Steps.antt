@@ -28,7 +28,7 @@ use Rattle.lp_preproc.specs.declared.state.Group.{Group}
 use Rattle.lp_preproc.specs.declared.state.Purpose.{Purpose}
 use Rattle.lp_preproc.specs.declared.state.Reading.TheVariants.{Plain}
 use Rattle.lp_preproc.specs.declared.row.Row.{Row}
-use Rattle.lp_preproc.specs.Expansion.{line_at, Outcome, Whole, Faulty, LeadsTo}
+use Rattle.lp_preproc.specs.Expansion.{line_at, Whole, Faulty, LeadsTo}
 use Rattle.lp_preproc.specs.declared.state.Use.{Use}
 use Rattle.lp_preproc.specs.Uses.{expanded, used, Asked}
 pub use Rattle.lp_preproc.specs.Paths.{Leads}
