@@ -9,7 +9,8 @@ use Rattle.lp_preproc.specs.declared.stop.Stop.{Stop}
 use Rattle.lp_preproc.specs.declared.stop.Stop.TheVariants.{NoMemory, At}
 use Rattle.lp_preproc.specs.State.{Setting, State, Goes, Reads}
 use Rattle.lp_preproc.specs.Directives.{include_bytes, included}
-use Rattle.lp_preproc.specs.Expansion.{Faulty, LeadsTo, fails, reads, reads_fault}
+use Rattle.lp_preproc.specs.Expansion.{Faulty, LeadsTo, fails, reads_fault}
+use Rattle.lp_preproc.specs.Paths.{stays, lexed}
 use Rattle.lp_preproc.specs.Steps.{IsLexing, Leads, Reaches}
 
 pub include_deep : (c : Setting) (s : State) (path : List ℕ) (line : ℕ) (bytes : List ℕ) → 32 < length s.files → LeadsTo c (include_bytes s path line (Some bytes)) (Faulty IncludeDepth line)
@@ -41,8 +42,8 @@ include_small s path line bytes d p h =
 -- a file with these tokens is open
 pub include_read : (c : Setting) (s t : State) (path : List ℕ) (line : ℕ) (bytes : List ℕ) (ts : List Token) → length s.files ≤ 32 → s.put_in < 1000000 → length bytes ≤ most_bytes
     → IsLexed bytes ts → t ≡ record s { files = included path line ts ∷ s.files; put_in = s.put_in + 1 } → Leads c (include_bytes s path line (Some bytes)) (Goes t)
-include_read c s t path line bytes ts d p h l e o g =
-    subst (λ n. LeadsTo c n o) (sym (include_small s path line bytes d p h)) (reads l (subst (λ u. LeadsTo c (Goes u) o) e g))
+include_read c s t path line bytes ts d p h l e =
+    subst (λ n. Leads c n (Goes t)) (sym (include_small s path line bytes d p h)) (lexed l (subst (λ u. Leads c (Goes u) (Goes t)) e stays))
 
 -- a file without tokens
 pub include_failed : (c : Setting) (s t : State) (path : List ℕ) (line : ℕ) (bytes : List ℕ) (x : Stop) → length s.files ≤ 32 → s.put_in < 1000000 → length bytes ≤ most_bytes

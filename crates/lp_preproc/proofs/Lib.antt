@@ -1,5 +1,8 @@
 pub mod Answering
 pub mod ConditionLemmas
+pub mod Falling
+pub mod FallingLines
+pub mod Following
 pub mod IncludeLemmas
 pub mod Leading
 pub mod Lexing

@@ -1,10 +1,13 @@
+pub mod Arguments
 pub mod Conditions
 pub mod Directives
 pub mod Expansion
+pub mod Falls
 pub mod Macros
 pub mod NameTrees
 pub mod Names
 pub mod Outs
+pub mod Paths
 pub mod Places
 pub mod Stacks
 pub mod State

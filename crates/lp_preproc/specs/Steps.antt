@@ -1,5 +1,5 @@
 -- What the code's functions do.
-use Rattle.std.specs.Prelude.{◌≡◌, ℕ, ℤ, pos, Vec, not, ◌≤◌, ◌<◌, length, List, [], ◌∷◌, reverse, Bool, true, false, Option, Some, None, Result, Ok, Err, chars}
+use Rattle.std.specs.Prelude.{◌≡◌, ℕ, ℤ, pos, Vec, not, ◌≤◌, ◌<◌, length, List, [], ◌∷◌, reverse, Bool, true, false, Option, Some, None, Result, Ok, Err}
 use Rattle.std.specs.Ordering.{int_eq}
 use Rattle.std.specs.declared.alloc.Global.{Global}
 use Rattle.lp_tree.specs.declared.fault.FaultKind.TheVariants.{Lex, BadDirective}
@@ -20,7 +20,6 @@ use Rattle.lp_preproc.specs.declared.fault.PreFault.{PreFault}
 use Rattle.lp_preproc.specs.declared.fault.PreFault.TheVariants as pre
 use Rattle.lp_preproc.specs.Macros.{Table}
 use Rattle.lp_preproc.specs.declared.expander.Expander.{Expander}
-use Rattle.lp_preproc.specs.declared.place.Place.{Place}
 use Rattle.lp_preproc.specs.declared.reading.Read.{Read}
 use Rattle.lp_preproc.specs.declared.reading.Read.TheVariants.{Went, Used}
 use Rattle.lp_preproc.specs.State.{Setting, Open, State, Next, Goes, Ends, Fails}
@@ -29,9 +28,10 @@ use Rattle.lp_preproc.specs.declared.state.Group.{Group}
 use Rattle.lp_preproc.specs.declared.state.Purpose.{Purpose}
 use Rattle.lp_preproc.specs.declared.state.Reading.TheVariants.{Plain}
 use Rattle.lp_preproc.specs.declared.row.Row.{Row}
-use Rattle.lp_preproc.specs.Expansion.{line_at, Outcome, Whole, Faulty, LeadsTo}
+use Rattle.lp_preproc.specs.Expansion.{line_at, Whole, Faulty, LeadsTo}
 use Rattle.lp_preproc.specs.declared.state.Use.{Use}
-use Rattle.lp_preproc.specs.Uses.{expanded, used, folder, Asked}
+use Rattle.lp_preproc.specs.Uses.{expanded, used, Asked}
+pub use Rattle.lp_preproc.specs.Paths.{Leads}
 
 -- what stands beside the words that are read
 pub record Standing : Type 0 where
@@ -56,10 +56,9 @@ Reads c n (Ok (Used u args)) s = n ≡ used c u s args
 Reads c n (Err NoMemory) s = Unit {0}
 Reads c n (Err (At kind line)) s = n ≡ Fails kind line
 
--- the path of the compiled file and its folder, as texts
-pub record IsOf (p : Place) (c : Setting) : Type 0 where
-  pub path : p.path ≡ chars c.path
-  pub folder_text : p.folder ≡ folder (chars c.path)
+-- the path of the compiled file
+abbrev pub IsOf : List ℕ → Setting → Type 0
+IsOf p c = p ≡ c.path
 
 -- the answer of `defined`, and the words behind it
 abbrev pub asked_with : List Word → Bool → Asked
@@ -75,10 +74,6 @@ Finishes n (Ok true) s = n ≡ Ends s
 Finishes n (Ok false) s = n ≡ Goes s
 Finishes n (Err NoMemory) s = Unit {0}
 Finishes n (Err (At kind line)) s = n ≡ Fails kind line
-
--- what is next leads where this state leads
-abbrev pub Leads : Setting → Next → Next → Type 0
-Leads c n m = (o : Outcome) → LeadsTo c m o → LeadsTo c n o
 
 -- the answer of a call that does all of what is next, up to a state
 abbrev pub Reaches : Setting → Next → Result (Unit {0}) Stop → State → Type 0
@@ -160,7 +155,7 @@ stop_of bytes lexes.NoMemory = NoMemory
 stop_of bytes (lexes.At at kind) = At Lex (line_at bytes at)
 
 -- the files and the path of a setting
-pub record IsIn (fs : Store) (p : Place) (c : Setting) : Type 0 where
+pub record IsIn (fs : Store) (p : List ℕ) (c : Setting) : Type 0 where
   pub files : c.files ≡ file_at fs
   pub place : IsOf p c
 

@@ -9,7 +9,7 @@ use Rattle.lp_preproc.specs.declared.macros.Body.{Body}
 use Rattle.lp_preproc.specs.declared.macros.Body.TheVariants.{Tokens, File, Line, Folder}
 use Rattle.lp_preproc.specs.declared.word.Word.{Word}
 use Rattle.lp_preproc.specs.declared.state.Use.{Use}
-use Rattle.lp_preproc.specs.declared.state.Arguments.{Arguments}
+use Rattle.lp_preproc.specs.Arguments.{Arguments}
 use Rattle.lp_preproc.specs.declared.state.Reading.{Reading}
 use Rattle.lp_preproc.specs.declared.state.Reading.TheVariants.{Plain, Named, Within}
 use Rattle.lp_preproc.specs.declared.state.Part.{Part}

@@ -7,10 +7,9 @@ ghost use Rattle.lp_tree.specs.declared.token.Token.{Token as Tok};
 ghost use Rattle.lp_preproc.specs.Expansion.{IsExpansion, IsFault, IsFaultUnlessMemory, IsFirstFault, IsUnlessMemory, came_out, compiled, last_line, line_at, opening, opening_bytes, setting};
 ghost use Rattle.lp_preproc.specs.Macros.{predefined};
 ghost use Rattle.lp_preproc.specs.State.{Goes, Setting, begin};
-ghost use Rattle.lp_preproc.specs.Steps.{Expanding, IsFaultOf, IsIn, IsOf, stop_of, whole_of};
+ghost use Rattle.lp_preproc.specs.Steps.{Expanding, IsFaultOf, IsIn, stop_of, whole_of};
 ghost use Rattle.lp_preproc.specs.Tables.{macros_in};
 
-use crate::bytes::text_folder;
 use crate::expander::{Expander, MOST_BYTES, run};
 use crate::fault::{Expanded, PreFault};
 use crate::law::law_one_outcome;
@@ -32,7 +31,6 @@ use lp_tree::fault::{Fault, FaultKind};
 use lp_tree::path::FilePath;
 use lp_tree::pragma::Pragmas;
 use lp_tree::token::{Token, TokenKind};
-use lp_values::text::code_points;
 use std::alloc::{AllocError, Global};
 
 // The line of a byte.
@@ -217,18 +215,6 @@ fn expand_bytes(
     }
 }
 
-// A path and its folder, as texts.
-fn place_of(alloc: Global, path: &str) -> Result<Place, AllocError>
-    ensures { IfOk result (λ p. (c : Setting) → path.now ≡ c.path → IsOf p c) }
-{
-    let text = code_points(alloc, path)?;
-    let folder = Vec::from_slice(alloc, text_folder(text.as_slice()))?;
-    Ok(Place {
-        path: Chars::from_vec(alloc, text)?,
-        folder: Chars::from_vec(alloc, folder)?,
-    })
-}
-
 // The expansion of a file, as words.
 fn expand_words(alloc: Global, files: &Store, path: &str) -> Result<(Row<Word>, Pragmas), Stop>
     ensures { Expanding (setting files.now path.now) (opening (setting files.now path.now)) result }
@@ -236,7 +222,7 @@ fn expand_words(alloc: Global, files: &Store, path: &str) -> Result<(Row<Word>, 
     let Some(bytes) = files.read(path) else {
         return Err(Stop::At(FaultKind::NoFile, 0));
     };
-    let place = place_of(alloc, path)?;
+    let place = Place::new(alloc, path)?;
     let own = Row::from_vec(Vec::from_slice(alloc, path.as_bytes())?);
     expand_bytes(alloc, files, &place, own, bytes)
 }

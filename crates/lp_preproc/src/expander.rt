@@ -16,6 +16,7 @@ use crate::condition::holds;
 use crate::conditionals::{begun, else_line, endif, ifdef, ifndef, stage_if};
 use crate::definitions::{define, said, undefine, with_pragmas};
 use crate::directive::Directive;
+use crate::law::law_falls;
 use crate::list::{expand_word, take_waiting};
 use crate::place::Place;
 use crate::reader::{MOST_PUT_IN, Reader};
@@ -613,13 +614,13 @@ fn turn(alloc: Global, files: &Store, place: &Place, expander: &mut Expander) ->
 pub fn run(alloc: Global, files: &Store, place: &Place, expander: &mut Expander) -> Result<(), Stop>
     ensures { (c : Setting) → IsIn files.now place.now c → Runs c (Goes (whole_of expander.old)) result (whole_of expander.new) }
 {
-    'turns: for _ in 0..u64::MAX {
+    'turns: loop {
+        // Each turn leaves less to do.
+        law_falls();
         match turn(alloc, files, place, expander) {
             Ok(true) => return Ok(()),
             Ok(false) => {}
             Err(stop) => return Err(stop),
         }
     }
-    // So many turns are never made.
-    Err(Stop::NoMemory)
 }

@@ -1,6 +1,7 @@
 //! The expansion of a file: includes, conditionals and macros.
 #![tactic(auto)]
 
+pub mod arguments;
 pub mod bytes;
 pub mod compiled;
 pub mod condition;

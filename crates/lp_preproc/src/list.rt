@@ -9,6 +9,7 @@ ghost use Rattle.lp_preproc.specs.Tables.{macros_in};
 ghost use Rattle.lp_preproc.specs.Uses.{expanded, read, used};
 ghost use Rattle.lp_preproc.specs.declared.state.Use.{Use as AnyUse};
 
+use crate::law::law_falls;
 use crate::out::Out;
 use crate::place::Place;
 use crate::reader::Reader;
@@ -47,7 +48,9 @@ pub fn expand_list(
         out: Out::new(alloc),
         put_in,
     };
-    'turns: for _ in 0..u64::MAX {
+    'turns: loop {
+        // Each turn leaves less to do.
+        law_falls();
         match turn(alloc, place, table, &mut reader, least) {
             Ok(true) => {
                 let out = reader.out.into_row(alloc)?;
@@ -57,8 +60,6 @@ pub fn expand_list(
             Err(stop) => return Err(stop),
         }
     }
-    // So many turns are never made.
-    Err(Stop::NoMemory)
 }
 
 /// The first word that waits.

@@ -1,20 +1,21 @@
 //! What a word does that comes next.
-ghost use Rattle.std.specs.Prelude.{◌≡◌, ◌++◌, ◌∷◌, [], IfOk, OnOk, ◌+◌, List};
+ghost use Rattle.std.specs.Prelude.{◌≡◌, ◌++◌, ◌∷◌, [], IfOk, OnOk, ◌+◌, ◌-◌, ◌<◌, List};
 ghost use Rattle.std.specs.Option.{option_copied, option_map};
 ghost use Rattle.lp_preproc.specs.declared.word.Word.{Word as AnyWord};
 ghost use Rattle.lp_preproc.specs.Macros.{Table as AnyTable};
-ghost use Rattle.lp_preproc.specs.State.{Setting};
+ghost use Rattle.lp_preproc.specs.State.{Goes, Setting};
 ghost use Rattle.lp_preproc.specs.Steps.{asked_with, Finishes, IsAsked, Reads, Standing, state_of};
 ghost use Rattle.lp_preproc.specs.Tables.{macros_in};
-ghost use Rattle.lp_preproc.specs.Uses.{argument_word, asked, asked_name, asked_within, end_by, ended, is_defined_word, name_of, read, read_by, read_defined, read_plain, truth, close_within, closed, comma_within, emit, given, is_close, is_open, part_of, read_name, read_named, read_within, use_macro, within_by};
+ghost use Rattle.lp_preproc.specs.Uses.{all_of, argument_word, asked, asked_name, asked_within, end_by, ended, is_defined_word, name_of, read, read_by, read_defined, read_plain, truth, close_within, closed, comma_within, emit, given, is_close, is_open, part_of, read_name, read_named, read_within, use_macro, within_by};
 
+use crate::arguments::Arguments;
 use crate::macros::Macro;
 use crate::params::{Distinct, Params};
 use crate::reader::{Reader, emit};
 use crate::result::same_name;
 use crate::row::Row;
 use crate::stack::Stack;
-use crate::state::{Arguments, Part, Purpose, Reading, Use};
+use crate::state::{Part, Purpose, Reading, Use};
 use crate::stop::Stop;
 use crate::table::Table;
 use crate::word::Word;
@@ -130,26 +131,11 @@ fn read_named(alloc: Global, reader: &mut Reader, usage: Use, word: Word) -> Res
     ensures { (c : Setting) (ms : AnyTable) (k : Standing) → Reads c (read_named (state_of reader.old ms k) usage word) result (state_of reader.new ms k) }
 {
     if is_open(&word.kind) {
-        let arguments = Arguments {
-            usage,
-            nested: 0,
-            whole: Row::new(alloc),
-            current: Row::new(alloc),
-        };
-        set_reading(reader, Reading::Within(arguments));
+        set_reading(reader, Reading::Within(Arguments::new(alloc, usage)));
         return Ok(Read::Went);
     }
     put_off(reader, word)?;
     out(alloc, reader, name_of_use(usage))
-}
-
-// The arguments as far as they go, the present one too.
-fn all_of(whole: Row<Row<Word>>, current: Row<Word>) -> Result<Row<Row<Word>>, AllocError>
-    ensures { IfOk result (λ r. r ≡ whole ++ current ∷ []) }
-{
-    let mut all = whole;
-    all.push(current)?;
-    Ok(all)
 }
 
 // The arguments that a use has.
@@ -175,25 +161,43 @@ fn close(alloc: Global, reader: &mut Reader, usage: Use, args: Row<Row<Word>>) -
     Ok(Read::Used(usage, args))
 }
 
-// A word of an argument, within so many parentheses.
-fn argument_word(
-    reader: &mut Reader,
-    arguments: Arguments,
-    nested: u32,
-    word: Word,
-) -> Result<Read, Stop>
-    ensures { (c : Setting) (ms : AnyTable) (k : Standing) → Reads c (argument_word (state_of reader.old ms k) arguments nested word) result (state_of reader.new ms k) }
+// A word of an argument, within as many parentheses as before.
+fn same_within(reader: &mut Reader, arguments: Arguments, word: Word) -> Result<Read, Stop>
+    ensures { (c : Setting) (ms : AnyTable) (k : Standing) → Reads c (argument_word (state_of reader.old ms k) arguments arguments.nested word) result (state_of reader.new ms k) }
 {
-    let mut current = arguments.current;
-    current.push(word)?;
-    let more = Arguments {
-        usage: arguments.usage,
-        nested,
-        whole: arguments.whole,
-        current,
-    };
-    set_reading(reader, Reading::Within(more));
+    let mut arguments = arguments;
+    arguments.push(word)?;
+    set_reading(reader, Reading::Within(arguments));
     Ok(Read::Went)
+}
+
+// One pair of parentheses more within an argument.
+fn open_within(reader: &mut Reader, arguments: Arguments, word: Word) -> Result<Read, Stop>
+    ensures { (c : Setting) (ms : AnyTable) (k : Standing) → Reads c (argument_word (state_of reader.old ms k) arguments (arguments.nested + 1) word) result (state_of reader.new ms k) }
+{
+    let mut arguments = arguments;
+    arguments.open(word)?;
+    set_reading(reader, Reading::Within(arguments));
+    Ok(Read::Went)
+}
+
+// One pair of parentheses less within an argument.
+fn inner_close(reader: &mut Reader, arguments: Arguments, word: Word) -> Result<Read, Stop>
+    requires { 0 < arguments.nested }
+    ensures { (c : Setting) (ms : AnyTable) (k : Standing) → Reads c (argument_word (state_of reader.old ms k) arguments (arguments.nested - 1) word) result (state_of reader.new ms k) }
+{
+    let mut arguments = arguments;
+    arguments.close(word)?;
+    set_reading(reader, Reading::Within(arguments));
+    Ok(Read::Went)
+}
+
+// The arguments are whole.
+fn finish(alloc: Global, reader: &mut Reader, arguments: Arguments) -> Result<Read, Stop>
+    ensures { (c : Setting) (ms : AnyTable) (k : Standing) → Reads c (closed c (state_of reader.old ms k) arguments.usage (given arguments.usage.params (all_of arguments))) result (state_of reader.new ms k) }
+{
+    let (usage, args) = arguments.finish()?;
+    close(alloc, reader, usage, args)
 }
 
 // The `)` of a use, or of a pair of parentheses within an argument.
@@ -205,15 +209,24 @@ fn close_within(
 ) -> Result<Read, Stop>
     ensures { (c : Setting) (ms : AnyTable) (k : Standing) → Reads c (close_within c (state_of reader.old ms k) arguments arguments.nested word) result (state_of reader.new ms k) }
 {
-    if arguments.nested > 0 {
-        let nested = arguments.nested - 1;
-        return argument_word(reader, arguments, nested, word);
+    if arguments.nested() > 0 {
+        return inner_close(reader, arguments, word);
     }
-    let args = all_of(arguments.whole, arguments.current)?;
-    close(alloc, reader, arguments.usage, args)
+    finish(alloc, reader, arguments)
 }
 
-// A comma, which parts arguments or stands within one.
+// Another argument begins.
+fn next_argument(alloc: Global, reader: &mut Reader, arguments: Arguments) -> Result<Read, Stop>
+    requires { arguments.nested ≡ 0 }
+    ensures { (c : Setting) (ms : AnyTable) (k : Standing) → Reads c (Goes (record (state_of reader.old ms k) { reading = Reading.Within (record arguments { whole = all_of arguments; current = [] }) })) result (state_of reader.new ms k) }
+{
+    let mut arguments = arguments;
+    arguments.part(alloc)?;
+    set_reading(reader, Reading::Within(arguments));
+    Ok(Read::Went)
+}
+
+// A comma parts arguments, or stands within one.
 fn comma_within(
     alloc: Global,
     reader: &mut Reader,
@@ -222,29 +235,10 @@ fn comma_within(
 ) -> Result<Read, Stop>
     ensures { (c : Setting) (ms : AnyTable) (k : Standing) → Reads c (comma_within (state_of reader.old ms k) arguments arguments.nested word) result (state_of reader.new ms k) }
 {
-    if arguments.nested > 0 {
-        let nested = arguments.nested;
-        return argument_word(reader, arguments, nested, word);
+    if arguments.nested() > 0 {
+        return same_within(reader, arguments, word);
     }
-    let next = Arguments {
-        usage: arguments.usage,
-        nested: 0,
-        whole: all_of(arguments.whole, arguments.current)?,
-        current: Row::new(alloc),
-    };
-    set_reading(reader, Reading::Within(next));
-    Ok(Read::Went)
-}
-
-// One pair of parentheses more within an argument.
-fn open_within(reader: &mut Reader, arguments: Arguments, word: Word) -> Result<Read, Stop>
-    ensures { (c : Setting) (ms : AnyTable) (k : Standing) → Reads c (argument_word (state_of reader.old ms k) arguments (arguments.nested + 1) word) result (state_of reader.new ms k) }
-{
-    // So many words are never in memory.
-    let Some(nested) = arguments.nested.checked_add(1) else {
-        return Err(Stop::NoMemory);
-    };
-    argument_word(reader, arguments, nested, word)
+    next_argument(alloc, reader, arguments)
 }
 
 // A word of a use's arguments, which is this to them.
@@ -263,14 +257,6 @@ fn within_by(
         Part::Opens => open_within(reader, arguments, word),
         Part::Other => same_within(reader, arguments, word),
     }
-}
-
-// Another word of an argument.
-fn same_within(reader: &mut Reader, arguments: Arguments, word: Word) -> Result<Read, Stop>
-    ensures { (c : Setting) (ms : AnyTable) (k : Standing) → Reads c (argument_word (state_of reader.old ms k) arguments arguments.nested word) result (state_of reader.new ms k) }
-{
-    let nested = arguments.nested;
-    argument_word(reader, arguments, nested, word)
 }
 
 // What a word is to the arguments of a use.
@@ -448,10 +434,7 @@ fn end_by(alloc: Global, reader: &mut Reader, reading: Reading) -> Result<bool, 
             emit(alloc, reader, usage.word)?;
             Ok(false)
         }
-        Reading::Within(arguments) => Err(Stop::At(
-            FaultKind::MacroArgs,
-            arguments.usage.word.line,
-        )),
+        Reading::Within(arguments) => Err(Stop::At(FaultKind::MacroArgs, arguments.line())),
     }
 }
 

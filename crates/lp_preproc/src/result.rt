@@ -174,9 +174,9 @@ fn tokens_of(alloc: Global, place: &Place, word: &Word, body: &Body) -> Result<K
 {
     match body {
         Body::Tokens(kinds) => kinds.copy(),
-        Body::File => single(alloc, TokenKind::Text(place.path.copy()?)),
+        Body::File => single(alloc, TokenKind::Text(place.path().copy()?)),
         Body::Line => single(alloc, TokenKind::Int(word.line as i64)),
-        Body::Folder => single(alloc, TokenKind::Text(place.folder.copy()?)),
+        Body::Folder => single(alloc, TokenKind::Text(place.folder().copy()?)),
     }
 }
 

@@ -1,7 +1,7 @@
 //! What the expansion of a file keeps.
+use crate::arguments::Arguments;
 use crate::macros::Body;
 use crate::params::Params;
-use crate::row::Row;
 use crate::word::Word;
 
 /// How far a conditional has come.
@@ -35,19 +35,6 @@ pub struct Use {
     pub params: Params,
     /// Its body.
     pub body: Body,
-}
-
-/// The arguments of a use, as far as they were read.
-#[derive(Drop)]
-pub struct Arguments {
-    /// The use to which they belong.
-    pub usage: Use,
-    /// How many parentheses are open within them.
-    pub nested: u32,
-    /// The arguments that are whole.
-    pub whole: Row<Row<Word>>,
-    /// The words of the present one.
-    pub current: Row<Word>,
 }
 
 /// What is being read.

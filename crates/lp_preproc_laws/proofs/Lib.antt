@@ -1,5 +1,3 @@
 pub mod Decision
 pub mod Ends
-pub mod Less
-pub mod Lines
 pub mod Unsigned

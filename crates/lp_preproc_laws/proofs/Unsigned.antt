@@ -1,6 +1,6 @@
 -- No integer that comes out of an expansion is negative: each is that of a token, a line, or a truth.
-use Rattle.std.proofs.Common.{◌≡◌, ℕ, ℤ, pos, ◌+◌, ◌-◌, ◌||◌, List, [], ◌∷◌, ◌++◌, Bool, true, false, Option, Some, None, subst, if◌then◌else◌, length, ◌==◌, ◌&&◌, refl, sym, chars, codes}
-use Rattle.std.specs.Prelude.{⊤, map, reverse, nat_lt, nat_le, not, take}
+use Rattle.std.proofs.Common.{◌≡◌, ℕ, ℤ, pos, ◌+◌, ◌-◌, ◌||◌, List, [], ◌∷◌, ◌++◌, Bool, true, false, Option, Some, None, subst, if◌then◌else◌, length, ◌==◌, ◌&&◌, refl, sym, codes}
+use Rattle.std.specs.Prelude.{⊤, map, reverse, nat_lt, nat_le, not}
 use Rattle.std.specs.Ordering.{int_eq}
 use Rattle.std.proofs.lemmas.Grind.{reverse_onto}
 use Rattle.std.proofs.lemmas.List.Elements.{All-nil, All-cons, All-head, All-tail}
@@ -21,7 +21,7 @@ use Rattle.lp_preproc.specs.declared.state.Use.{Use}
 use Rattle.lp_preproc.specs.declared.state.Group.{Group}
 use Rattle.lp_preproc.specs.declared.state.Stage.{Stage}
 use Rattle.lp_preproc.specs.declared.state.Stage.TheVariants.{Waiting, Live, Done}
-use Rattle.lp_preproc.specs.declared.state.Arguments.{Arguments}
+use Rattle.lp_preproc.specs.Arguments.{Arguments}
 use Rattle.lp_preproc.specs.declared.state.Reading.{Reading}
 use Rattle.lp_preproc.specs.declared.state.Reading.TheVariants.{Plain, Named, Within}
 use Rattle.lp_preproc.specs.declared.state.Part.{Part}
@@ -31,10 +31,10 @@ use Rattle.lp_preproc.specs.declared.state.Purpose.TheVariants as purposes
 use Rattle.lp_preproc.specs.declared.directive.Directive.{Directive}
 use Rattle.lp_preproc.specs.declared.directive.Directive.TheVariants as says
 use Rattle.lp_preproc.specs.Macros.{Table, same_name, among, macro_of, is_defined, with_macro, without, same_macro, plain, no_macros, predefined}
-use Rattle.lp_preproc.specs.State.{Setting, State, apart, begin, Next, Goes, Ends, Fails, Asks, Reads, Tests, line_or, skips}
-use Rattle.lp_preproc.specs.Uses.{one_more, lone_text, with_text, last_text, text_after, out_by, comes_out, emit, text_of, name_of, put, put_argument, put_words, argument_of, argument_at, filled, folder, tokens_of, put_back, hidden_in, result_words, depth_of, expanded, used, use_macro, read_name, Asked, asked_name, asked_within, asked, truth, read_defined, is_defined_word, read_plain, read_named, all_of, given, closed as closed_use, argument_word, close_within, comma_within, within_by, read_within, part_of, read_by, read, end_by, ended, is_open, is_close, is_comma, deepest, most_tokens, longest_text, most_put_in}
-use Rattle.lp_preproc.specs.Directives.{rest_of_line, next_lines, is_hash, is_bad, first_bad, said, behind, one_name, in_first, with_groups, stage_if, begun, begun_inside, in_condition, tested, if_name, unless_bad, elif_waiting, elif, stage_else, has_rest, else_line, endif, bytes_of, path_of, included, include_bytes, include, Parameters, new_name, more_parameters, parameters, is_directly_behind, kinds, with_parameters, definition, defined, define_name, define, undefine, with_pragmas, skipped, carried_out, directive, most_included}
-use Rattle.lp_preproc.specs.Expansion.{word_of, past, closed as closed_file, token, directive_line, from_file, from_files, from_waiting, next, Outcome, Whole, Faulty, LeadsTo, ends, fails, goes, asks, asks_fault, reads, reads_fault, tests, tests_fault, last_line, compiled, opening_bytes, opening_found, opening, came_out, came_out_of, IsExpansion}
+use Rattle.lp_preproc.specs.State.{Setting, State, begin, Next, Goes, Ends, Fails, Asks, Reads, Tests, line_or, skips}
+use Rattle.lp_preproc.specs.Uses.{one_more, with_text, last_text, text_after, out_by, comes_out, emit, text_of, name_of, put_argument, put_words, argument_of, argument_at, filled, folder, tokens_of, put_back, result_words, depth_of, expanded, used, use_macro, read_name, Asked, asked_name, asked_within, asked, truth, read_defined, is_defined_word, read_plain, read_named, all_of, given, closed as closed_use, argument_word, within_by, part_of, read_by, read, end_by, ended, is_open, is_close, is_comma, deepest, most_tokens, longest_text, most_put_in}
+use Rattle.lp_preproc.specs.Directives.{rest_of_line, next_lines, is_hash, is_bad, first_bad, said, behind, one_name, in_first, with_groups, stage_if, begun, begun_inside, in_condition, tested, if_name, unless_bad, elif_waiting, elif, stage_else, has_rest, else_line, endif, bytes_of, path_of, included, include_bytes, include, Parameters, new_name, more_parameters, parameters, kinds, with_parameters, definition, defined, define_name, define, undefine, skipped, carried_out, directive, most_included}
+use Rattle.lp_preproc.specs.Expansion.{word_of, past, closed as closed_file, token, directive_line, from_file, from_files, from_waiting, next, Outcome, Whole, Faulty, LeadsTo, ends, fails, goes, asks, asks_fault, reads, reads_fault, tests, tests_fault, compiled, opening_bytes, opening_found, came_out, IsExpansion}
 
 -- ---- What has no negative integer
 

@@ -13,4 +13,4 @@ returns c =
     let s = setting c.args.files.now c.args.path.now in
     let found : Some c.in-Some.bytes.now ≡ file_at c.args.files.now c.args.path.now = sym (ap (option_map (λ b. b.now)) c.in-Some.is) ∙ c.read.ensures in
     subst (λ b. Expanding s (opening_found s b) c.expand_bytes.result) found
-    (c.expand_bytes.ensures s (record { files = refl; place = c.in_ok-place.ensures s refl }) (search rules))
+    (c.expand_bytes.ensures s (record { files = refl; place = c.in_ok-place.ensures }) (search rules))

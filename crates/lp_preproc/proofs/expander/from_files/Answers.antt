@@ -3,8 +3,11 @@ use Rattle.lp_preproc.specs.Tables.{macros_in}
 use Rattle.lp_preproc.specs.Expansion.{from_files}
 use Rattle.lp_preproc.specs.Uses.{ended}
 use Rattle.lp_preproc.specs.Steps.{Turns, beside, state_of, whole_of}
-use Rattle.lp_preproc.proofs.Leading.{turn_finishes}
+use Rattle.lp_preproc.proofs.Leading.{turn_file, turn_finishes}
 use Rattle.lp_preproc.proofs.expander.from_files.Goals as goal
+
+pub returns-in-Some : goal.returns-in-Some
+returns-in-Some c = λ c' i. turn_file c' (whole_of c.args.expander.now) c.args.expander.now.files c.pop.new.self c.in-Some.source c.from_file.result (whole_of c.from_file.new.expander) (c.from_file.ensures c' i) c.in-Some.ensures
 
 pub returns-in-None : goal.returns-in-None
 returns-in-None c = λ c' i.

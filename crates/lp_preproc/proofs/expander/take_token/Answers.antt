@@ -1,9 +1,15 @@
-use Rattle.std.proofs.Common.{refl, sym, ◌∙◌, subst}
+use Rattle.std.proofs.Common.{ap, refl, sym, ◌∙◌, subst}
 use Rattle.lp_preproc.specs.Tables.{macros_in}
 use Rattle.lp_preproc.specs.Expansion.{fails, word_of}
-use Rattle.lp_preproc.specs.Steps.{Turns, beside, state_of}
+use Rattle.lp_preproc.specs.Steps.{Turns, beside, state_of, whole_of}
+use Rattle.lp_preproc.specs.State.{Goes}
+use Rattle.lp_preproc.proofs.Leading.{leads_same}
 use Rattle.lp_preproc.specs.Uses.{read}
 use Rattle.lp_preproc.proofs.expander.take_token.Goals as goal
+
+pub returns-then-skips : goal.returns-then-skips
+returns-then-skips c = λ c' i. rw (sym c.skips.ensures ∙ c.if-skips.true)
+    (leads_same c' _ _ (ap (λ fs. Goes (record (whole_of c.args.expander.now) { files = fs })) (sym c.in_ok-push.ensures.ok)))
 
 pub returns-then-is_bad : goal.returns-then-is_bad
 returns-then-is_bad c = λ c' i. rw (sym c.skips.ensures ∙ c.if-skips.false) (rw (sym c.is_bad.ensures ∙ c.if-is_bad.true) (rw c.line_of.ensures fails))

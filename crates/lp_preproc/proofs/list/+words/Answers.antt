@@ -1,17 +1,20 @@
-use Rattle.std.proofs.Common.{[], refl, sym, subst, arith, Err}
+use Rattle.std.proofs.Common.{[], refl, sym, subst, arith, Err, None, rules}
 use Rattle.lp_preproc.specs.Tables.{macros_in}
-use Rattle.lp_preproc.specs.Expansion.{LeadsTo, next}
+use Rattle.lp_preproc.specs.Expansion.{next}
 use Rattle.lp_preproc.specs.Steps.{Does, Leads, Reaches, Turns, Finishes, in_list, state_of}
 use Rattle.lp_preproc.specs.Uses.{expanded, used, ended, put_back, result_words}
-use Rattle.lp_preproc.proofs.Leading.{turn_went, turn_failed, turn_used, turn_used_failed, turn_finishes, list_failed, list_ended, list_next, does_reaches, expands_failed, argument_next, argument_failed, use_deep, next_end}
+use Rattle.lp_preproc.proofs.Leading.{leads_same, turn_went, turn_failed, turn_used, turn_used_failed, turn_finishes, list_failed, list_ended, list_next, does_reaches, expands_failed, argument_next, argument_failed, use_deep, next_end}
+use Rattle.lp_preproc.proofs.Following.{turn_falls}
+use Rattle.lp_preproc.specs.State.{Setting, no_pragmas}
 use Rattle.lp_preproc.proofs.list.+words.Goals as goal
 
 pub expand_arguments-args-2-preserved : goal.expand_arguments-args-2-preserved
-expand_arguments-args-2-preserved t c = λ c' i u k o h.
-    argument_next c' u c.args.depth _ (state_of c.args-2.reader (macros_in c.args.table.now) k) c.args-2.done c.pop.new.self c.in-Some.words (c.in-Ok.out, c.in-Ok.put_in)
-    (subst (λ l. Leads c' (expanded c' u c.args.depth (state_of c.args.reader.now (macros_in c.args.table.now) k) [] c.args.args) (expanded c' u c.args.depth (state_of c.args-2.reader (macros_in c.args.table.now) k) c.args-2.done l)) c.in-Some.ensures (c.args-2.invariant c' i u k))
-    (c.in-Ok.ensures c' i k.pragmas) o
-    (subst (λ d. LeadsTo c' (expanded c' u c.args.depth (state_of (record c.args-2.reader { put_in = c.in-Ok.put_in }) (macros_in c.args.table.now) k) d c.pop.new.self) o) c.in_ok-push-in-Ok.ensures.ok h)
+expand_arguments-args-2-preserved t c = λ c' i u k.
+    let n = expanded c' u c.args.depth (state_of c.args.reader.now (macros_in c.args.table.now) k) [] c.args.args in
+    subst (λ d. Leads c' n (expanded c' u c.args.depth (state_of (record c.args-2.reader { put_in = c.in-Ok.put_in }) (macros_in c.args.table.now) k) d c.pop.new.self)) (sym c.in_ok-push-in-Ok.ensures.ok)
+    (argument_next c' u c.args.depth n (state_of c.args-2.reader (macros_in c.args.table.now) k) c.args-2.done c.pop.new.self c.in-Some.words (c.in-Ok.out, c.in-Ok.put_in)
+    (subst (λ l. Leads c' n (expanded c' u c.args.depth (state_of c.args-2.reader (macros_in c.args.table.now) k) c.args-2.done l)) c.in-Some.ensures (c.args-2.invariant c' i u k))
+    (c.in-Ok.ensures c' i k.pragmas))
 
 pub expand_arguments-returns-in-Err : goal.expand_arguments-returns-in-Err
 expand_arguments-returns-in-Err t c = λ c' i u k.
@@ -46,6 +49,18 @@ pub expand_list-turns-preserved : goal.expand_list-turns-preserved
 expand_list-turns-preserved t c = λ c' i p.
     list_next c' _ (state_of c.turns.reader (macros_in c.args.table.now) (in_list c.args.least p)) (state_of c.turn.new.reader (macros_in c.args.table.now) (in_list c.args.least p)) (c.turns.invariant c' i p)
     ((rw c.in-Ok-false.field-0-test at c.in-Ok-false.ensures) c' i p)
+
+pub expand_list-turns-smaller : goal.expand_list-turns-smaller
+expand_list-turns-smaller t c =
+    let c' : Setting = record { files = λ p. None; path = c.args.place.now } in
+    turn_falls c.law_falls.ensures c' (state_of c.turns.reader (macros_in c.args.table.now) (in_list c.args.least no_pragmas)) (state_of c.turn.new.reader (macros_in c.args.table.now) (in_list c.args.least no_pragmas))
+    ((rw c.in-Ok-false.field-0-test at c.in-Ok-false.ensures) c' refl no_pragmas)
+
+pub expand_list-turns-init : goal.expand_list-turns-init
+expand_list-turns-init t c = λ c' i p. leads_same c' _ _ (search rules)
+
+pub expand_arguments-args-2-init : goal.expand_arguments-args-2-init
+expand_arguments-args-2-init t c = λ c' i u k. leads_same c' _ _ (search rules)
 
 pub expand_use-returns-then-depth-ge-DEEPEST : goal.expand_use-returns-then-depth-ge-DEEPEST
 expand_use-returns-then-depth-ge-DEEPEST t c = λ c' i k e.

@@ -2,7 +2,8 @@ use Rattle.std.proofs.Common.{◌+◌, ◌*◌, ◌-◌, [], length}
 use Rattle.lp_tree.specs.declared.pragma.Pragmas.{Pragmas}
 use Rattle.lp_preproc.specs.Tables.{macros_in}
 use Rattle.lp_preproc.specs.declared.state.Use.{Use}
-use Rattle.lp_preproc.specs.State.{Setting, Goes}
+use Rattle.lp_preproc.specs.State.{Setting, Goes, no_pragmas}
+use Rattle.lp_preproc.specs.Falls.{weight}
 use Rattle.lp_preproc.specs.Steps.{IsOf, Leads, Standing, in_list, listed, state_of}
 use Rattle.lp_preproc.specs.Uses.{expanded}
 use Rattle.lp_preproc.proofs.list.+words.Given as goal
@@ -33,3 +34,6 @@ decreases-expand_arguments-args-2 l = length l.left
 
 abbrev pub invariant-expand_list-turns : goal.invariant-expand_list-turns
 invariant-expand_list-turns l = (c : Setting) → IsOf l.place c → (p : Pragmas) → Leads c (Goes (listed l.fn.purpose l.least l.fn.words (macros_in l.table) p l.fn.put_in)) (Goes (state_of l.reader (macros_in l.table) (in_list l.least p)))
+
+abbrev pub decreases-expand_list-turns : goal.decreases-expand_list-turns
+decreases-expand_list-turns l = weight (state_of l.reader (macros_in l.table) (in_list l.least no_pragmas))

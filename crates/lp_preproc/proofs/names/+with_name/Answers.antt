@@ -1,6 +1,6 @@
-use Rattle.std.proofs.Common.{◌≡◌, ◌∷◌, ◌++◌, IfOk, refl, sym, ◌∙◌, subst}
+use Rattle.std.proofs.Common.{◌≡◌, ◌∷◌, ◌++◌, IfOk, refl, subst}
 use Rattle.std.specs.declared.cmp.Ordering.TheVariants.{Less, Equal, Greater}
-use Rattle.lp_preproc.specs.Names.{order, with_name}
+use Rattle.lp_preproc.specs.Names.{order}
 use Rattle.lp_preproc.specs.NameTrees.{names_in, AreInOrder}
 use Rattle.lp_preproc.proofs.NameOrder.{front, back, with_left, with_right, with_middle}
 use Rattle.lp_preproc.proofs.names.+with_name.Goals as goal

@@ -1,6 +1,5 @@
 use Rattle.std.proofs.Common.{◌≡◌, ◌∷◌, ◌++◌, IfOk, refl, subst}
 use Rattle.lp_preproc.specs.NameTrees.{names_in}
-use Rattle.lp_preproc.specs.Names.{with_names}
 use Rattle.lp_preproc.proofs.NameOrder.{with_all}
 use Rattle.lp_preproc.proofs.names.+with_tree.Goals as goal
 
