@@ -1,11 +1,10 @@
-use Rattle.std.proofs.Common.{◌≡◌, true, false, sym, subst, ◌∙◌, ◌∷◌, rules}
+use Rattle.std.proofs.Common.{sym, subst, ◌∷◌, rules}
 use Rattle.lp_tree.specs.declared.fault.FaultKind.TheVariants.{StrayElse}
 use Rattle.lp_preproc.specs.State.{State}
 use Rattle.lp_preproc.specs.Directives.{elif}
 use Rattle.lp_preproc.specs.Expansion.{Faulty, LeadsTo, fails}
 use Rattle.lp_preproc.specs.Steps.{whole_of}
 use Rattle.lp_preproc.proofs.Leading.{leads_same}
-use Rattle.lp_preproc.proofs.expander.take_elif.Goals.{in-Waiting, in_default-matches}
 use Rattle.lp_preproc.proofs.expander.take_elif.Goals as goal
 
 pub returns-in_default : goal.returns-in_default
@@ -18,8 +17,5 @@ returns-then-group c = λ c' i.
     let s : State = record (whole_of c.args.expander.now) { files = c.args.source ∷ c.args.expander.now.files } in
     subst (λ gs. LeadsTo c' (elif s c.args.source.included gs c.args.rest.now c.args.line) (Faulty StrayElse c.args.line)) (sym c.in-Some.ensures) (rw c.if-group.true fails)
 
-different : true ≡ false → ⊥
-different e = cc
-
 pub returns : goal.returns
-returns c = λ c' i. elim c.match-matches.branch [ in-Waiting w ↦ absurd (different (sym w.matches-is ∙ c.if-matches.false)) | in_default-matches w ↦ leads_same c' _ _ (search rules) ]
+returns c = λ c' i. leads_same c' _ _ (search rules)
