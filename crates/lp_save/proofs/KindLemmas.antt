@@ -1,9 +1,9 @@
 -- Reading with what is wrong tells else what reading without it tells.
-use Rattle.std.proofs.Common.{◌≡◌, ℕ, zero, suc, ◌+◌, ◌<◌, ◌≤◌, Bool, true, false, cond, ◌||◌, ◌&&◌, List, [], ◌∷◌, ◌++◌, length, drop, take, Option, Some, None, refl, sym, ap, subst, ◌∙◌, arith, length-append, inl, inr}
+use Rattle.std.proofs.Common.{◌≡◌, ℕ, zero, suc, ◌+◌, ◌<◌, ◌≤◌, Bool, true, false, cond, ◌||◌, ◌&&◌, List, [], ◌∷◌, ◌++◌, length, drop, take, Option, Some, None, refl, sym, ap, ◌∙◌, arith, length-append}
 use Rattle.std.specs.Prelude.{codes, chars, nat_eq, nat_lt, slice_index}
 use Rattle.std.specs.List.{before_first}
 use Rattle.std.specs.Str.Lossy.{utf8_valid_len}
-use Rattle.std.proofs.lemmas.Bool.{cases_Bool, cond_both, cond-true, cond-false, ltb-true, ltb-false, lt-ltb, le-ltb, ne_eqb}
+use Rattle.std.proofs.lemmas.Bool.{cond_both, cond-true, cond-false, ltb-true, ltb-false, lt-ltb, le-ltb, ne_eqb}
 use Rattle.indexmap.specs.IndexMap.{insert_entry}
 use Rattle.lp_values.specs.Limits.{max_code_points, max_items}
 use Rattle.lp_values.specs.Read.{value_eq}
@@ -15,7 +15,7 @@ use Rattle.lp_cells.specs.Cells.{Store}
 use Rattle.lp_text.specs.Pieces.{pieces}
 use Rattle.lp_save.specs.declared.fault.FaultKind.{FaultKind}
 use Rattle.lp_save.specs.declared.fault.FaultKind.TheVariants.{BadHeader, BadName, BadValue, BadShare, TooLong, TooNested}
-use Rattle.lp_save.specs.SaveText.{Line, Lines, Read, Faulty, Reading, Rest, Restored, array_done, as_text, all_lines, begins, cell_begun, cell_read, escaped, int_read, is_header, is_variable_name, items_read, left, line_of, line_read, lines_read, mapping_done, max_saved_levels, named, needed, next_cell, number_read, pairs_read, restored_from, restored_text, shared_cell, text_read, then_read, value_of_cell, value_read, whole}
+use Rattle.lp_save.specs.SaveText.{Line, Lines, Read, Faulty, Reading, Rest, array_done, as_text, all_lines, begins, cell_begun, cell_read, escaped, int_read, is_header, is_variable_name, items_read, left, line_of, line_read, lines_read, mapping_done, max_saved_levels, named, needed, next_cell, number_read, pairs_read, restored_from, restored_text, shared_cell, text_read, then_read, value_of_cell, value_read, whole}
 use Rattle.lp_save.specs.Reading.{Found, Done, Wrong, TextFound, Text, NoText, LinesFound, AllLines, FaultyAt, and_then, array_filled, bytes_at, cell_at, items_at, last_at, line_at, lines_at, lines_from, mapping_filled, nothing_behind, or_wrong, outcome, outcome_of, pairs_at, spoilt, text_at, text_value, value_at, without_kind}
 
 -- but for what is wrong

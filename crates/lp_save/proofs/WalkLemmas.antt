@@ -1,5 +1,5 @@
 -- Cells that are met, and values that are gone over.
-use Rattle.std.proofs.Common.{◌≡◌, ℕ, zero, suc, ◌+◌, ◌-◌, ◌<◌, ◌≤◌, Bool, true, false, cond, ◌||◌, eqb, List, [], ◌∷◌, ◌++◌, length, get_or, take, drop, append-nil, unwrap_or, Option, Some, None, refl, sym, ap, subst, ◌∙◌, arith, inl, inr}
+use Rattle.std.proofs.Common.{◌≡◌, ℕ, zero, suc, ◌+◌, ◌-◌, ◌<◌, ◌≤◌, Bool, true, false, cond, ◌||◌, eqb, List, [], ◌∷◌, ◌++◌, length, get_or, take, append-nil, unwrap_or, Some, None, refl, sym, ap, subst, ◌∙◌, arith, inl, inr}
 use Rattle.std.specs.Prelude.{encode_utf8_all, filter, if◌then◌else◌, map}
 use Rattle.std.specs.List.{flat_map, fold, list_any}
 use Rattle.std.proofs.lemmas.Bool.{cases_Bool, cond-true, cond-false, eqb-true, true≢false}
@@ -9,7 +9,7 @@ use Rattle.std.proofs.lemmas.Grind.{fold-append}
 use Rattle.lp_values.specs.declared.id.CellId.{CellId}
 use Rattle.lp_values.specs.declared.id.ObjId.{ObjId}
 use Rattle.lp_values.specs.declared.value.Value.{Value}
-use Rattle.lp_values.specs.declared.value.Value.TheVariants.{Int, Str, Arr, Map, Obj}
+use Rattle.lp_values.specs.declared.value.Value.TheVariants.{Arr, Map}
 use Rattle.lp_cells.specs.Cells.{Store, items_at, items_of, pairs_at, stored_pairs}
 use Rattle.lp_cells.specs.Mapping.{pair_there, pairs_there}
 use Rattle.std.specs.Prelude.{slice_get}
@@ -17,7 +17,7 @@ use Rattle.std.specs.Option.{option_to_list}
 use Rattle.std.proofs.lemmas.List.Elements.{filter-append}
 use Rattle.std.proofs.lemmas.Grind.{flat_map-append}
 use Rattle.lp_save.specs.declared.walk.Walker.{Walker}
-use Rattle.lp_save.specs.SaveText.{Walk, is_among, cell_in, inner, met_first, met_again, met_deep, saved_text, shared_in, text_spelt, walk_of, walked}
+use Rattle.lp_save.specs.SaveText.{Walk, is_among, saved_text, shared_in, text_spelt, walk_of, walked}
 use Rattle.lp_save.specs.States.{Stands, GoesOver, both, met_at, is_entered}
 
 or_false : (b : Bool) → (b || false) ≡ b

@@ -1,3 +1,5 @@
+pub mod Desks
+pub mod Names
 pub mod Reading
 pub mod SaveText
 pub mod States

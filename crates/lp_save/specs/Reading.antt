@@ -60,6 +60,19 @@ array_filled c vs r = record r { cells = content_set r.cells c (content.Array vs
 abbrev pub mapping_filled : CellId → List (Value × Value) → Rest → Rest
 mapping_filled c ps r = record r { cells = content_set r.cells c (content.Mapping ps) }
 
+-- the value that names the shared cell with a number, from 1
+abbrev pub shared_at : ℕ → Rest → Found Value
+shared_at k r = and_then (or_wrong BadShare (shared_cell k r)) (λ c r. or_wrong BadShare (value_of_cell c r))
+
+-- the number of a shared cell behind its `<`, and what reads the cell where it is a new one
+abbrev pub numbered_at : (Rest → Found Value) → ℕ → Rest → Found Value
+numbered_at cell k r =
+    if begins (codes "=") r then (if nat_eq k (length r.shared + 1) then cell (left (drop 1 r.text) r) else Wrong BadShare)
+    else shared_at k r
+
+abbrev pub share_at : (Rest → Found Value) → Rest → Found Value
+share_at cell r = and_then (or_wrong BadValue (number_read r)) (λ k r. and_then (or_wrong BadValue (needed (codes ">") r)) (λ x r. numbered_at cell k r))
+
 -- A value, by the mark that it begins with; cells may lie so many levels deep. Each step reads something, so that the length bounds the steps.
 -- An array is too long where an item ends that is one too many, and a mapping where such a pair ends. Numbers of shared cells are wrong where none
 -- has that number yet, where a new one is not the next, and where no array or mapping follows it.
@@ -67,10 +80,7 @@ abbrev mutual
   pub value_at : ℕ → ℕ → Rest → Found Value
   value_at zero levels r = Wrong BadValue
   value_at (suc n) levels r =
-      if begins (codes "<") r then
-      and_then (or_wrong BadValue (number_read (left (drop 1 r.text) r))) (λ k r. and_then (or_wrong BadValue (needed (codes ">") r)) (λ x r.
-      if begins (codes "=") r then (if nat_eq k (length r.shared + 1) then cell_at n levels true (left (drop 1 r.text) r) else Wrong BadShare)
-      else and_then (or_wrong BadShare (shared_cell k r)) (λ c r. or_wrong BadShare (value_of_cell c r))))
+      if begins (codes "<") r then share_at (λ x. cell_at n levels true x) (left (drop 1 r.text) r)
       else (if begins (codes "({") r || begins (codes "([") r then cell_at n levels false r
       else (if begins (codes "\"") r then text_value (text_at [] false (drop 1 r.text)) r else or_wrong BadValue (int_read r)))
 

@@ -8,4 +8,6 @@ mod lines;
 #[cfg(test)]
 mod records;
 #[cfg(test)]
+mod restored;
+#[cfg(test)]
 mod saved;

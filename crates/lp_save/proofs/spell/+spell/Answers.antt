@@ -1,4 +1,4 @@
-use Rattle.std.proofs.Common.{◌≡◌, ◌∷◌, [], ◌-◌, true, false, sym, ◌∙◌, arith}
+use Rattle.std.proofs.Common.{sym, ◌∙◌, arith}
 use Rattle.std.specs.Prelude.{codes}
 use Rattle.lp_values.specs.declared.value.Value.{Value}
 use Rattle.lp_save.specs.SaveText.{Spelt, add, spelt}

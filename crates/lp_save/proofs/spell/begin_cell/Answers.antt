@@ -1,4 +1,4 @@
-use Rattle.std.proofs.Common.{◌≡◌, ◌++◌, ap, ◌∙◌}
+use Rattle.std.proofs.Common.{◌++◌, ap, ◌∙◌}
 use Rattle.std.specs.Prelude.{codes}
 use Rattle.lp_save.specs.SaveText.{share_number}
 use Rattle.lp_save.proofs.SpellLemmas.{on_ok_both, begun_number}

@@ -1,7 +1,7 @@
-use Rattle.std.proofs.Common.{◌≡◌, ◌∷◌, [], true, false, sym, ◌∙◌, arith}
+use Rattle.std.proofs.Common.{sym, ◌∙◌, arith}
 use Rattle.lp_values.specs.declared.value.Value.{Value}
 use Rattle.lp_save.specs.SaveText.{walked}
-use Rattle.lp_save.specs.States.{met_at, is_entered}
+use Rattle.lp_save.specs.States.{met_at}
 use Rattle.lp_save.proofs.WalkLemmas.{entered_array, entered_mapping, skipped_array, skipped_mapping, over_more, over_all, over_pair, over_no_pair, over_all_pairs}
 use Rattle.lp_save.proofs.walk.+walk.Goals as goal
 use Rattle.lp_save.proofs.walk.+walk.Goals.{walk_pairs-in-Some+in_ok-walk+in_ok-walk-2, walk_pairs-in_default}
