@@ -1,0 +1,4 @@
+pub mod Compose
+pub mod Meanings
+pub mod Nodes
+pub mod Trees

@@ -1,0 +1,6 @@
+//! The code of expressions.
+#![tactic(auto)]
+
+pub mod draft;
+pub mod expr;
+pub mod names;
