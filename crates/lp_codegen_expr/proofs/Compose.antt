@@ -5,8 +5,8 @@ use Rattle.std.proofs.lemmas.List.{length-set, append-nil}
 use Rattle.std.proofs.lemmas.Bool.{cases_lt}
 use Rattle.lp_instr.specs.declared.instr.Instr.{Instr}
 use Rattle.lp_isa.specs.Translates.{Line, Then}
-use Rattle.lp_codegen_expr.specs.declared.draft.Draft.{Draft}
-use Rattle.lp_codegen_expr.specs.declared.draft.Draft.TheVariants.{Done, Break, Continue}
+use Rattle.lp_codegen_expr.specs.declared.code.Draft.{Draft}
+use Rattle.lp_codegen_expr.specs.declared.code.Draft.TheVariants.{Done, Break, Continue}
 use Rattle.lp_codegen_expr.specs.Names.{Plan, Lays}
 use Rattle.lp_codegen_expr.specs.Drafts.{Sketch, grown, filled, HasText, Around, Has, resolved, Form, Adds, line, after}
 
@@ -228,11 +228,11 @@ with_text {l} {old} {mid} {new} i t k h e =
     let kept : Adds l K old mid = record {
       longer = omega arith;
       same = λ p x. ap (λ c. slice_get c p) h.code;
-      more_texts = h.longer;
-      texts = h.kept;
+      more_texts = h.texts.longer;
+      texts = h.texts.kept;
       more_switches = let q = ap length h.switches in omega arith;
       switches = λ p x. ap (λ c. slice_get c p) h.switches;
-      makes = λ a r. (r.texts k h.within ∙ h.there, n);
+      makes = λ a r. (r.texts k h.texts.within ∙ h.texts.there, n);
     } in
     adds_then l K (line (i k ∷ [])) (λ a from to. (k : ℕ) × (slice_get a.code.texts k ≡ Some t) × Line a.code (i k ∷ []) from to) old mid new kept (one_adds (i k) e)
     (λ a p q. (k, p.0, subst (λ m. Line a.code (i k ∷ []) m (length new.code)) p.1 q))

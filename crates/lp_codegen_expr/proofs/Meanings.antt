@@ -12,11 +12,11 @@ use Rattle.lp_language.specs.Resolve.{Heritage, or_else, row, version_of, variab
 use Rattle.lp_language.specs.Scope.{Names, slot_of, slot_from, Slot, OfLocal, OfGlobal, OfNothing, as_global, local_or, slot, Callee, AFunction, ASimul, AnEfun, Nobody, as_efun, callee}
 use Rattle.lp_instr.specs.Code.{Code, or_none, parent_row}
 use Rattle.lp_isa.specs.Translates.{Reads, Writes, Calls, CallsParent, Line}
-use Rattle.lp_codegen_expr.specs.declared.names.Variable.{Variable}
-use Rattle.lp_codegen_expr.specs.declared.names.Variable.TheVariants as variables
-use Rattle.lp_codegen_expr.specs.declared.names.Called.{Called}
-use Rattle.lp_codegen_expr.specs.declared.names.Called.TheVariants as called
-use Rattle.lp_codegen_expr.specs.Names.{Plan, Lays, beside, global_in, a_global, a_local, variable_in_scope, efun_in, an_efun, a_simul, a_row, callee_in, parent_with_in, parent_called_in, slot_in, row_in}
+use Rattle.lp_codegen_expr.specs.declared.scope.Variable.{Variable}
+use Rattle.lp_codegen_expr.specs.declared.scope.Variable.TheVariants as variables
+use Rattle.lp_codegen_expr.specs.declared.scope.Called.{Called}
+use Rattle.lp_codegen_expr.specs.declared.scope.Called.TheVariants as called
+use Rattle.lp_codegen_expr.specs.Names.{Plan, Lays, beside, global_in, a_global, a_local, variable_in_scope, an_efun, a_simul, a_row, callee_in, parent_with_in, parent_called_in, slot_in, row_in}
 use Rattle.lp_codegen_expr.specs.Drafts.{Sketch, Around, Form, Adds, line, of_read, of_write_slot, of_call, of_efun_call, of_parent_call}
 use Rattle.lp_codegen_expr.proofs.Compose.{by_layout, reform}
 
@@ -30,7 +30,7 @@ both true false e = absurd cc
 both false c e = absurd cc
 
 -- a name that was found stands there
-same_name : (xs ys : List ℕ) → is_name xs ys ≡ true → xs ≡ ys
+pub same_name : (xs ys : List ℕ) → is_name xs ys ≡ true → xs ≡ ys
 same_name [] [] e = refl
 same_name [] (y ∷ ys) e = absurd cc
 same_name (x ∷ xs) [] e = absurd cc
@@ -86,10 +86,9 @@ call_meant (Some r) s e = refl
 
 callee_same : (l : Plan) (h : Heritage) (code : Code) (w : List ℕ) → Lays l h code → callee_meant (callee_in l w) ≡ callee h w
 callee_same l h code w r =
-    call_meant (slot_of l.rows w) (slot_of l.simuls w) (efun_in l w)
-    ∙ ap (λ b. if b then AFunction else if is_some (slot_of l.simuls w) then ASimul else as_efun (efun_in l w)) (r.functions w)
-    ∙ ap (λ b. if is_some (row h w) then AFunction else if b then ASimul else as_efun (efun_in l w)) (r.simuls w)
-    ∙ ap (λ e. if is_some (row h w) then AFunction else if list_any (is_name w) (version_of h).simuls then ASimul else as_efun e) (r.efuns w)
+    call_meant (slot_of l.rows w) (slot_of l.simuls w) (efun_named w)
+    ∙ ap (λ b. if b then AFunction else if is_some (slot_of l.simuls w) then ASimul else as_efun (efun_named w)) (r.functions w)
+    ∙ ap (λ b. if is_some (row h w) then AFunction else if b then ASimul else as_efun (efun_named w)) (r.simuls w)
 
 abbrev row_number : Called → Option ℕ
 row_number (called.Row k) = Some k
@@ -108,11 +107,11 @@ call_adds {l} w n v e h = by_layout (λ a from to. Calls a.code (callee_meant v)
 
 pub row_adds : {l : Plan} {old new : Sketch} (w : List ℕ) (n k : ℕ) → called.Row k ≡ callee_in l w → Adds l (line (CallSlot k n ∷ [])) old new → Adds l (of_call w n) old new
 row_adds {l} w n k e h =
-    let found : slot_of l.rows w ≡ Some k = sym (row_known (slot_of l.rows w) (slot_of l.simuls w) (efun_in l w)) ∙ sym (ap row_number e) in
+    let found : slot_of l.rows w ≡ Some k = sym (row_known (slot_of l.rows w) (slot_of l.simuls w) (efun_named w)) ∙ sym (ap row_number e) in
     call_adds w n (called.Row k) e (by_layout (line (CallSlot k n ∷ [])) (λ a from to. Calls a.code AFunction w n from to) (λ a r from to p. (k, ap (λ xs. slice_get xs k) r.rows ∙ name_there l.rows w k found, p)) h)
 
-pub efun_adds : {l : Plan} {old new : Sketch} (w : List ℕ) (n : ℕ) (e : Efun) → efun_in l w ≡ Some e → Adds l (line (CallEfun e n ∷ [])) old new → Adds l (of_efun_call w n) old new
-efun_adds {l} w n e f h = by_layout (line (CallEfun e n ∷ [])) (of_efun_call w n) (λ a r from to p. subst (λ o. Calls a.code (as_efun o) w n from to) (sym f ∙ r.efuns w) p) h
+pub efun_adds : {l : Plan} {old new : Sketch} (w : List ℕ) (n : ℕ) (e : Efun) → efun_named w ≡ Some e → Adds l (line (CallEfun e n ∷ [])) old new → Adds l (of_efun_call w n) old new
+efun_adds {l} w n e f h = by_layout (line (CallEfun e n ∷ [])) (of_efun_call w n) (λ a r from to p. subst (λ o. Calls a.code (as_efun o) w n from to) (sym f) p) h
 
 -- the row of a parent
 parent_there : (o : Option (List (List ℕ))) (w : List ℕ) (k : ℕ) → slot_in o w ≡ Some k → slice_get (or_none o) k ≡ Some w

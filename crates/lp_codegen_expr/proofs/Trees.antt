@@ -18,8 +18,8 @@ use Rattle.lp_tree.specs.declared.operator.AssignOp.{AssignOp}
 use Rattle.lp_tree.specs.declared.operator.AssignOp.TheVariants as sets
 use Rattle.lp_instr.specs.declared.instr.Instr.{Instr}
 use Rattle.lp_instr.specs.declared.instr.Instr.TheVariants.{Rotate, Binary, JumpIfZero, Pop}
-use Rattle.lp_codegen_expr.specs.declared.expr.AssignKind.{AssignKind}
-use Rattle.lp_codegen_expr.specs.declared.expr.AssignKind.TheVariants as kinds
+use Rattle.lp_codegen_expr.specs.declared.kinds.AssignKind.{AssignKind}
+use Rattle.lp_codegen_expr.specs.declared.kinds.AssignKind.TheVariants as kinds
 use Rattle.lp_codegen_expr.specs.Names.{Plan}
 use Rattle.lp_codegen_expr.specs.Drafts.{Sketch, Around, Form, Adds, of_expr, of_all, of_scanned, of_scanned_one, of_write, of_logic, of_change, of_end, line, after, kind_of, end_tree}
 use Rattle.lp_codegen_expr.proofs.Compose.{adds_then, reform, line_none}

@@ -7,22 +7,23 @@ use Rattle.lp_tree.specs.declared.expr.Bound.TheVariants as bounds
 use Rattle.lp_tree.specs.declared.operator.AssignOp.{AssignOp}
 use Rattle.lp_tree.specs.declared.operator.AssignOp.TheVariants as sets
 use Rattle.lp_tree.specs.declared.operator.BinOp.TheVariants as ops
-use Rattle.lp_tree.specs.Trees.{Tree, trees, End as EndTree, Open, At}
+use Rattle.lp_tree.specs.Trees.{Tree, trees, pairs, Name, Index as IndexTree, End as EndTree, Open, At}
 use Rattle.lp_tree.specs.TreeView.{tree_of}
 use Rattle.lp_instr.specs.declared.instr.Instr.{Instr}
-use Rattle.lp_instr.specs.declared.instr.Instr.TheVariants.{Jump, JumpIfZero, KeepIfZero, KeepIfNotZero, Pop}
+use Rattle.lp_instr.specs.declared.instr.Instr.TheVariants.{Dup2, Index, SetIndex, Jump, JumpIfZero, KeepIfZero, KeepIfNotZero, Pop}
 use Rattle.lp_language.specs.Resolve.{Heritage}
 use Rattle.lp_instr.specs.EfunList.{efun_named}
 use Rattle.lp_language.specs.Scope.{Names, slot, callee, as_efun}
 use Rattle.lp_instr.specs.Code.{Code, Table}
-use Rattle.lp_isa.specs.Translates.{Piece, Then, Line, One, Nothing, Pushes, Reads, Writes, Calls, CallsParent, Makes, MakesAll, MakesWrite, MakesChange, MakesEnd, MakesScanned}
+use Rattle.lp_code.specs.Programs.{table_of}
+use Rattle.lp_isa.specs.Translates.{Piece, Then, Line, One, Nothing, Never, Pushes, Reads, Writes, Calls, CallsParent, Makes, MakesAll, MakesPairs, MakesFirst, MakesWrite, MakesChange, MakesEnd, MakesScanned}
+use Rattle.lp_codegen_expr.specs.Found.{IsNumbered}
 use Rattle.lp_codegen_expr.specs.Names.{Plan, Lays}
-use Rattle.lp_codegen_expr.specs.declared.draft.Draft.{Draft}
-use Rattle.lp_codegen_expr.specs.declared.draft.Draft.TheVariants.{Done, Break, Continue}
-use Rattle.lp_codegen_expr.specs.declared.expr.AssignKind.{AssignKind}
-use Rattle.lp_codegen_expr.specs.declared.expr.AssignKind.TheVariants as assigns
-use Rattle.lp_codegen_expr.specs.declared.draft.Row.{Row}
-use Rattle.lp_codegen_expr.specs.declared.draft.Builder.{Builder}
+use Rattle.lp_codegen_expr.specs.declared.code.Draft.{Draft}
+use Rattle.lp_codegen_expr.specs.declared.code.Draft.TheVariants.{Done, Break, Continue}
+use Rattle.lp_codegen_expr.specs.declared.kinds.AssignKind.{AssignKind}
+use Rattle.lp_codegen_expr.specs.declared.kinds.AssignKind.TheVariants as assigns
+use Rattle.lp_codegen_expr.specs.declared.code.Code.{Code as Built}
 
 -- a program under construction
 pub record Sketch : Type 0 where
@@ -30,26 +31,23 @@ pub record Sketch : Type 0 where
   pub texts : List (List ℕ)
   pub switches : List Table
 
-abbrev pub table_of : Row → Table
-table_of r = record { cases = r.cases.items; other = r.other }
+-- the instructions, with jumps whose place is not known yet, the texts and the switches
+abbrev pub draft_of : Built → Sketch
+draft_of b = record { code = b.instrs.items; texts = b.texts; switches = map table_of b.switches.items }
 
-abbrev pub draft_of : Builder → Sketch
-draft_of b = record { code = b.code.items; texts = b.texts.items; switches = map table_of b.switches.items }
-
+-- more instructions at the end
 abbrev pub grown : Sketch → List Draft → Sketch
 grown d more = record d { code = d.code ++ more }
 
+-- another instruction at a place
 abbrev pub filled : Sketch → ℕ → Draft → Sketch
 filled d at x = record d { code = slice_set d.code at x }
 
--- a text has this number, and nothing is lost
+-- a text has this number, and nothing else changes
 pub record HasText (k : ℕ) (t : List ℕ) (old new : Sketch) : Type 0 where
   pub code : new.code ≡ old.code
   pub switches : new.switches ≡ old.switches
-  pub longer : length old.texts ≤ length new.texts
-  pub kept : (j : ℕ) → j < length old.texts → slice_get new.texts j ≡ slice_get old.texts j
-  pub within : k < length new.texts
-  pub there : slice_get new.texts k ≡ Some t
+  pub texts : IsNumbered k t old.texts new.texts
 
 -- Where code stands: the inheritance tree of its version, where breaks and continues lead, and the finished code.
 pub record Around : Type 0 where
@@ -68,7 +66,7 @@ abbrev pub resolved : ℕ → ℕ → Option Draft → Option Instr
 resolved out again None = None
 resolved out again (Some d) = Some (resolve out again d)
 
--- finished code has the instructions of a sketch from one place up to another, all its texts and all its switches
+-- Finished code has the names of a layout, the instructions of a sketch from one place up to another, all its texts and all its switches.
 pub record Has (l : Plan) (d : Sketch) (a : Around) (from to : ℕ) : Type 0 where
   pub lays : Lays l a.heritage a.code
   pub instrs : (p : ℕ) → from ≤ p → p < to → slice_get a.code.instrs p ≡ resolved a.out a.again (slice_get d.code p)
@@ -89,12 +87,15 @@ pub record Adds (l : Plan) (F : Form) (old new : Sketch) : Type 0 where
   pub switches : (k : ℕ) → k < length old.switches → slice_get new.switches k ≡ slice_get old.switches k
   pub makes : (a : Around) → Has l new a (length old.code) (length new.code) → F a (length old.code) (length new.code)
 
+-- just these instructions
 abbrev pub line : List Instr → Form
 line is a from to = Line a.code is from to
 
+-- first this, then that
 abbrev pub after : Form → Form → Form
 after F G a from to = Then (F a) (G a) from to
 
+-- Which form each generator adds: the piece of the translation that it is for, where code stands so.
 abbrev pub of_expr : Names → Expr → Form
 of_expr ns e a from to = Makes a.heritage ns (tree_of e) a.code from to
 
@@ -135,9 +136,45 @@ keeps false to = KeepIfNotZero to
 abbrev pub of_right : Names → Expr → Bool → Form
 of_right ns e is_and a from to = Then (One a.code (keeps is_and to)) (Makes a.heritage ns (tree_of e) a.code) from to
 
+-- a place is read, and the container and the index of an item stay below
+abbrev pub Opens : Heritage → Names → Tree → Code → Piece
+Opens h ns (Name line w) code = Reads code (slot h ns w)
+Opens h ns (IndexTree line e edge i) code = Then (Makes h ns e code) (Then (Makes h ns i code) (Line code (Dup2 ∷ Index edge ∷ [])))
+Opens h ns _ code = Never
+
+-- what is on top is written to the place that was read so
+abbrev pub Closes : Heritage → Names → Tree → Code → Piece
+Closes h ns (Name line w) code = Writes code (slot h ns w)
+Closes h ns (IndexTree line e edge i) code = One code (SetIndex edge)
+Closes h ns _ code = Never
+
+abbrev pub of_open : Names → Expr → Form
+of_open ns e a from to = Opens a.heritage ns (tree_of e) a.code from to
+
+abbrev pub of_close : Names → Expr → Form
+of_close ns e a from to = Closes a.heritage ns (tree_of e) a.code from to
+
+-- `&&=` and `||=`: the right side between reading and writing the place, where it is needed
 abbrev pub of_logic : Names → Expr → Expr → Bool → Form
 of_logic ns place e is_and a from to =
     MakesChange a.heritage ns (tree_of place) a.code (of_right ns e is_and a) Nothing (of_right ns e is_and a) Nothing from to
+
+-- a key and its value
+abbrev pub pair_of : Expr × Expr → Tree × Tree
+pair_of p = (tree_of p.0, tree_of p.1)
+
+abbrev pub of_pairs : Names → List (Expr × Expr) → Form
+of_pairs ns ps a from to = MakesPairs a.heritage ns (pairs (map pair_of ps)) a.code from to
+
+-- a part of a sequence, of which each but the first drops the value before
+abbrev pub of_part : Names → Bool → Expr → Form
+of_part ns true e = of_expr ns e
+of_part ns false e = after (line (Pop ∷ [])) (of_expr ns e)
+
+-- the first parts of a sequence, if any
+abbrev pub of_parts : Names → List Expr → Form
+of_parts ns [] a from to = Nothing from to
+of_parts ns (e ∷ es) a from to = MakesFirst a.heritage ns (trees (map tree_of (e ∷ es))) a.code from to
 
 -- what an assignment does
 abbrev pub kind_of : AssignOp → AssignKind

@@ -1,7 +1,0 @@
-use Rattle.lp_instr.specs.declared.instr.Instr.TheVariants.{PushText}
-use Rattle.lp_codegen_expr.proofs.Compose.{with_text}
-use Rattle.lp_codegen_expr.proofs.Nodes.{int_tree}
-use Rattle.lp_codegen_expr.proofs.expr.gen_text.Goals as goal
-
-pub returns : goal.returns
-returns c = with_text PushText c.args.text.now _ c.in_ok-k.ensures c.in_ok-put.ensures
