@@ -1,14 +1,14 @@
 -- How pieces of code under construction are put together, and how a jump is filled in.
-use Rattle.std.proofs.Common.{◌≡◌, ℕ, zero, suc, ◌+◌, ◌<◌, ◌≤◌, ◌≢◌, List, [], ◌∷◌, ◌++◌, length, Option, Some, None, refl, sym, ap, ◌∙◌, subst, ⊎_elim, arith, length-append, append_assoc, map}
+use Rattle.std.proofs.Common.{◌≡◌, ℕ, zero, suc, ◌+◌, ◌<◌, ◌≤◌, ◌≢◌, List, [], ◌∷◌, ◌++◌, length, Some, refl, sym, ap, ◌∙◌, subst, ⊎_elim, arith, length-append, append_assoc, map}
 use Rattle.std.specs.Prelude.{slice_get, slice_set}
 use Rattle.std.proofs.lemmas.List.{length-set, append-nil}
 use Rattle.std.proofs.lemmas.Bool.{cases_lt}
 use Rattle.lp_instr.specs.declared.instr.Instr.{Instr}
 use Rattle.lp_isa.specs.Translates.{Line, Then}
 use Rattle.lp_codegen_expr.specs.declared.code.Draft.{Draft}
-use Rattle.lp_codegen_expr.specs.declared.code.Draft.TheVariants.{Done, Break, Continue}
+use Rattle.lp_codegen_expr.specs.declared.code.Draft.TheVariants.{Done}
 use Rattle.lp_codegen_expr.specs.Names.{Plan, Lays}
-use Rattle.lp_codegen_expr.specs.Drafts.{Sketch, grown, filled, HasText, Around, Has, resolved, Form, Adds, line, after}
+use Rattle.lp_codegen_expr.specs.Drafts.{Sketch, grown, filled, HasText, Around, resolved, Form, Adds, line, after}
 
 pub slice_get-front : {A : Type 0} (a b : List A) (p : ℕ) → p < length a → slice_get (a ++ b) p ≡ slice_get a p
 slice_get-front [] b p h = absurd (omega arith)

@@ -1,24 +1,22 @@
 -- What a layout says of names is what the version says.
-use Rattle.std.proofs.Common.{◌≡◌, ℕ, zero, suc, ◌+◌, List, [], ◌∷◌, length, Option, Some, None, Bool, true, false, if◌then◌else◌, ◌&&◌, refl, sym, ap, ◌∙◌, subst, arith, map}
+use Rattle.std.proofs.Common.{◌≡◌, ℕ, suc, ◌+◌, List, [], ◌∷◌, Option, Some, None, Bool, true, false, if◌then◌else◌, ◌&&◌, refl, sym, ap, ◌∙◌, subst, arith}
 use Rattle.std.specs.Prelude.{slice_get, is_some, nat_eq}
 use Rattle.std.specs.Cmp.Lexicographic.{pointwise}
 use Rattle.std.proofs.lemmas.Bool.{eqb-true}
-use Rattle.std.specs.List.{list_any}
 use Rattle.lp_instr.specs.declared.efun.Efun.{Efun}
-use Rattle.lp_instr.specs.declared.instr.Instr.{Instr}
-use Rattle.lp_instr.specs.declared.instr.Instr.TheVariants.{PushLocal, SetLocal, PushGlobal, SetGlobal, CallSlot, CallSimul, CallEfun, CallFixed}
+use Rattle.lp_instr.specs.declared.instr.Instr.TheVariants.{CallSlot, CallEfun, CallFixed}
 use Rattle.lp_instr.specs.EfunList.{is_name, efun_named}
-use Rattle.lp_language.specs.Resolve.{Heritage, or_else, row, version_of, variable_in, parent_with, parent_called}
+use Rattle.lp_language.specs.Resolve.{Heritage, or_else, row, parent_with, parent_called}
 use Rattle.lp_language.specs.Scope.{Names, slot_of, slot_from, Slot, OfLocal, OfGlobal, OfNothing, as_global, local_or, slot, Callee, AFunction, ASimul, AnEfun, Nobody, as_efun, callee}
-use Rattle.lp_instr.specs.Code.{Code, or_none, parent_row}
-use Rattle.lp_isa.specs.Translates.{Reads, Writes, Calls, CallsParent, Line}
+use Rattle.lp_instr.specs.Code.{Code, or_none}
+use Rattle.lp_isa.specs.Translates.{Reads, Writes, Calls, CallsParent}
 use Rattle.lp_codegen_expr.specs.declared.scope.Variable.{Variable}
 use Rattle.lp_codegen_expr.specs.declared.scope.Variable.TheVariants as variables
 use Rattle.lp_codegen_expr.specs.declared.scope.Called.{Called}
 use Rattle.lp_codegen_expr.specs.declared.scope.Called.TheVariants as called
-use Rattle.lp_codegen_expr.specs.Names.{Plan, Lays, beside, global_in, a_global, a_local, variable_in_scope, an_efun, a_simul, a_row, callee_in, parent_with_in, parent_called_in, slot_in, row_in}
-use Rattle.lp_codegen_expr.specs.Drafts.{Sketch, Around, Form, Adds, line, of_read, of_write_slot, of_call, of_efun_call, of_parent_call}
-use Rattle.lp_codegen_expr.proofs.Compose.{by_layout, reform}
+use Rattle.lp_codegen_expr.specs.Names.{Plan, Lays, global_in, a_global, a_local, variable_in_scope, an_efun, a_simul, a_row, callee_in, parent_with_in, parent_called_in, slot_in, row_in}
+use Rattle.lp_codegen_expr.specs.Drafts.{Sketch, Adds, line, of_read, of_write_slot, of_call, of_efun_call, of_parent_call}
+use Rattle.lp_codegen_expr.proofs.Compose.{by_layout}
 
 abbrev or_zero : Option ℕ → ℕ
 or_zero None = 0

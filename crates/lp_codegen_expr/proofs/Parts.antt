@@ -1,5 +1,5 @@
 -- Pairs of a mapping, parts of a sequence, and places that are read, changed and written.
-use Rattle.std.proofs.Common.{◌≡◌, ℕ, zero, suc, ◌+◌, ◌<◌, List, [], ◌∷◌, ◌++◌, length, take, Vec, Bool, true, false, refl, sym, ap, ◌∙◌, subst, arith, map}
+use Rattle.std.proofs.Common.{◌≡◌, ℕ, zero, suc, ◌<◌, List, [], ◌∷◌, ◌++◌, length, take, Vec, Bool, true, false, refl, sym, ap, ◌∙◌, subst, arith, map}
 use Rattle.std.specs.Prelude.{nat_eq}
 use Rattle.std.proofs.lemmas.Bool.{eqb-true}
 use Rattle.std.specs.declared.alloc.Global.{Global}
@@ -15,7 +15,7 @@ use Rattle.lp_language.specs.Scope.{Names}
 use Rattle.lp_language.specs.Eval.{pair_count}
 use Rattle.lp_instr.specs.Code.{Code}
 use Rattle.lp_instr.specs.declared.instr.Instr.TheVariants.{Pop}
-use Rattle.lp_isa.specs.Translates.{Piece, Then, Nothing, Makes, MakesChange, MakesFirst, MakesMore}
+use Rattle.lp_isa.specs.Translates.{Piece, Then, Nothing, MakesChange, MakesFirst, MakesMore}
 use Rattle.lp_codegen_expr.specs.Names.{Plan}
 use Rattle.lp_codegen_expr.specs.Drafts.{Sketch, Around, Form, Adds, Opens, Closes, after, line, of_expr, of_pairs, of_part, of_parts, of_open, of_right, of_close, of_logic, pair_of}
 use Rattle.lp_codegen_expr.proofs.Compose.{adds_then, reform, line_none}

@@ -1,5 +1,5 @@
 -- Trees of expressions, and their lists.
-use Rattle.std.proofs.Common.{◌≡◌, ℕ, suc, ◌+◌, List, [], ◌∷◌, ◌++◌, length, Vec, refl, sym, ap, ◌∙◌, subst, arith, map}
+use Rattle.std.proofs.Common.{◌≡◌, ℕ, suc, List, [], ◌∷◌, ◌++◌, length, Vec, refl, sym, ap, ◌∙◌, subst, map}
 use Rattle.std.specs.Prelude.{Box}
 use Rattle.std.specs.declared.alloc.Global.{Global}
 use Rattle.lp_tree.specs.declared.expr.Expr.{Expr}
@@ -9,7 +9,7 @@ use Rattle.lp_tree.specs.declared.expr.Expr.TheOpen as layer
 use Rattle.lp_tree.specs.declared.expr.Expr.TheFolds.{fold-roll-Expr}
 use Rattle.lp_tree.specs.declared.expr.Bound.{Bound}
 use Rattle.lp_tree.specs.declared.expr.Bound.TheVariants as bounds
-use Rattle.lp_tree.specs.Trees.{Tree, Trees, NoTree, OneMore, trees, Array, Call, EfunCall, ParentCall, NamedParentCall, CallOther, Sscanf, Range, Assign}
+use Rattle.lp_tree.specs.Trees.{Tree, trees, Array, Call, EfunCall, ParentCall, NamedParentCall, CallOther, Sscanf, Range, Assign}
 use Rattle.lp_tree.specs.TreeView.{tree_of, layer_tree}
 use Rattle.lp_language.specs.Scope.{Names}
 use Rattle.lp_language.specs.Eval.{tree_count}

@@ -1,5 +1,5 @@
 -- What it says that code under construction stands for a tree.
-use Rattle.std.specs.Prelude.{◌≡◌, ℕ, ◌≤◌, ◌<◌, ◌+◌, Bool, true, false, cond, Box, List, [], ◌∷◌, ◌++◌, Option, Some, None, length, map, slice_get, slice_set}
+use Rattle.std.specs.Prelude.{◌≡◌, ℕ, ◌≤◌, ◌<◌, Bool, true, false, Box, List, [], ◌∷◌, ◌++◌, Option, Some, None, length, map, slice_get, slice_set}
 use Rattle.lp_tree.specs.declared.expr.Expr.{Expr}
 use Rattle.std.specs.declared.alloc.Global.{Global}
 use Rattle.lp_tree.specs.declared.expr.Bound.{Bound}

@@ -1,6 +1,6 @@
-use Rattle.std.proofs.Common.{◌≡◌, ℕ, refl, sym, ap, ◌∙◌}
+use Rattle.std.proofs.Common.{sym, ◌∙◌}
 use Rattle.lp_instr.specs.declared.instr.Instr.TheVariants.{CallSlot, CallSimul, CallEfun}
-use Rattle.lp_codegen_expr.specs.declared.scope.Called.TheVariants.{Row, Simul, Efun}
+use Rattle.lp_codegen_expr.specs.declared.scope.Called.TheVariants.{Simul, Efun}
 use Rattle.lp_codegen_expr.proofs.Compose.{one_at, one_two, with_text_n}
 use Rattle.lp_codegen_expr.proofs.Meanings.{call_adds, row_adds}
 use Rattle.lp_codegen_expr.proofs.calls.gen_call.Goals as goal

@@ -1,7 +1,5 @@
-use Rattle.std.proofs.Common.{◌≡◌, sym, ◌∙◌, subst, Some}
+use Rattle.std.proofs.Common.{sym, ◌∙◌}
 use Rattle.lp_instr.specs.declared.instr.Instr.TheVariants.{CallFixed}
-use Rattle.lp_codegen_expr.specs.Names.{layout_of}
-use Rattle.lp_codegen_expr.specs.Drafts.{Adds, draft_of, of_parent_call}
 use Rattle.lp_codegen_expr.proofs.Compose.{one_three}
 use Rattle.lp_codegen_expr.proofs.Meanings.{parent_adds, at_parent}
 use Rattle.lp_codegen_expr.proofs.calls.gen_parent_call.Goals as goal

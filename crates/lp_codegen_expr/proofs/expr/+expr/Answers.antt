@@ -1,4 +1,4 @@
-use Rattle.std.proofs.Common.{◌≡◌, ℕ, ◌+◌, ◌<◌, ◌≤◌, List, [], ◌∷◌, ◌++◌, length, take, get_or, pos, true, false, refl, sym, ap, ◌∙◌, subst, arith, map}
+use Rattle.std.proofs.Common.{◌≡◌, ◌+◌, ◌<◌, [], ◌∷◌, ◌++◌, length, take, get_or, pos, true, false, refl, sym, ap, ◌∙◌, arith}
 use Rattle.std.specs.Prelude.{nat_eq}
 use Rattle.std.proofs.lemmas.List.{take_more, take_all}
 use Rattle.std.proofs.lemmas.Int.{to_z-of_z}
@@ -6,7 +6,7 @@ use Rattle.lp_tree.specs.TreeView.{tree_of}
 use Rattle.lp_instr.specs.declared.instr.Instr.TheVariants.{PushInt, Pop, Dup, Dup2, Unary, Binary, Step, Rotate, Index, SetIndex, Range, MakeArray, MakeMap, Jump, JumpIfZero, CallOther, Scan, CatchBegin, CatchEnd}
 use Rattle.lp_codegen_expr.specs.declared.code.Draft.TheVariants.{Done}
 use Rattle.lp_codegen_expr.specs.declared.kinds.AssignKind.TheVariants as kinds
-use Rattle.lp_codegen_expr.specs.Drafts.{draft_of, grown, filled, line, after, keeps, of_all, of_change, of_close, of_expr, of_open, of_right, of_scanned, of_write}
+use Rattle.lp_codegen_expr.specs.Drafts.{draft_of, grown, line, after, keeps, of_all, of_change, of_close, of_expr, of_open, of_right, of_scanned, of_write}
 use Rattle.lp_codegen_expr.proofs.Compose.{seq, line_none, one_adds, one_at, one_two, line_adds, skip, choice, fill_as}
 use Rattle.lp_codegen_expr.proofs.Meanings.{at_call, at_efun_call, inherited_adds, named_adds}
 use Rattle.lp_codegen_expr.proofs.Nodes.{int_tree, text_tree, name_tree, paren_tree, catch_tree, index_tree, post_step_tree, pre_step_tree, unary_tree, cast_tree, binary_tree, and_then_tree, or_else_tree, cond_tree, assign_tree}

@@ -1,4 +1,4 @@
-use Rattle.std.proofs.Common.{◌≡◌, rules, sym, subst}
+use Rattle.std.proofs.Common.{◌≡◌, rules, subst}
 use Rattle.lp_codegen_expr.specs.Found.{IsNumbered}
 use Rattle.lp_codegen_expr.proofs.Found.{numbered}
 use Rattle.lp_codegen_expr.proofs.texts.Texts.number.Goals as goal
