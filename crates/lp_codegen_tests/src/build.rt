@@ -10,6 +10,7 @@ use lp_parser_expr::reading::expr;
 use lp_tree::chars::Chars;
 use lp_tree::expr::Expr;
 use std::alloc::{AllocError, Global};
+use std::process::Abort;
 use std::test::Fail;
 
 fn chars(alloc: Global, text: &str) -> Result<Chars, AllocError> {
