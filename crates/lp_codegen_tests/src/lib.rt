@@ -1,0 +1,7 @@
+//! Tests of the code of trees.
+#![tactic(auto)]
+
+#[cfg(test)]
+mod build;
+#[cfg(test)]
+mod rows;
