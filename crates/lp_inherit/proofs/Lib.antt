@@ -1,0 +1,5 @@
+pub mod Rows
+pub mod Meanings
+pub mod Numbers
+pub mod Variables
+pub mod Sources

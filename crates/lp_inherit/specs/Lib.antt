@@ -1,0 +1,4 @@
+pub mod Layout
+pub mod LayoutFaults
+pub mod Heirs
+pub mod Examples

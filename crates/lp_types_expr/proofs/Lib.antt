@@ -1,0 +1,10 @@
+pub mod Stars
+pub mod NamesPut
+pub mod Places
+pub mod Blocks
+pub mod Declaring
+pub mod Showing
+pub mod Choosing
+pub mod Found
+pub mod Joins
+pub mod Misfits

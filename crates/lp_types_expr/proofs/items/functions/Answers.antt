@@ -1,0 +1,7 @@
+use Rattle.lp_types_expr.specs.NameMaps.{named}
+use Rattle.lp_types_expr.proofs.Declaring.{later_alone, functions_in, functions_snoc}
+use Rattle.lp_types_expr.proofs.items.functions.Goals as goal
+
+pub loop-item-preserved : goal.loop-item-preserved
+loop-item-preserved c = λ w.
+    later_alone functions_in functions_snoc c.args.items.now c.loop-item.item-index c.item-item.result c.loop-item-test.true c.item-item.is (named c.loop-item.functions) (named c.add_function.new.functions) c.loop-item.invariant c.in_ok-add_function.ensures w

@@ -1,0 +1,8 @@
+use Rattle.std.proofs.Common.{◌≡◌, ℕ, List, take, map}
+use Rattle.lp_tree.specs.UnitView.{item_of}
+use Rattle.lp_types_expr.specs.NameMaps.{named}
+use Rattle.lp_types_expr.specs.Signatures.{own_prototype}
+use Rattle.lp_types_expr.proofs.items.prototypes.Given as goal
+
+abbrev pub invariant-loop-item : goal.invariant-loop-item
+invariant-loop-item l = (w : List ℕ) → named l.prototypes w ≡ own_prototype (map item_of (take l.item-index l.items)) w

@@ -1,0 +1,12 @@
+pub mod Kinds
+pub mod Signatures
+pub mod Walk
+pub mod Known
+pub mod Scopes
+pub mod ExprFaults
+pub mod Surroundings
+pub mod Calls
+pub mod NameMaps
+pub mod Placed
+pub mod Shown
+pub mod ParentRows

@@ -1,0 +1,24 @@
+//! What the names of a unit mean, the types of expressions, and the faults of expressions.
+#![tactic(auto)]
+
+pub mod around;
+pub mod call;
+pub mod called;
+pub mod chosen;
+pub mod fault;
+mod items;
+pub mod kind;
+pub mod local;
+pub mod mark;
+mod named;
+mod names;
+pub mod parent;
+mod parents;
+mod placed;
+pub mod row;
+pub mod scopes;
+pub mod shown;
+pub mod signature;
+pub mod surroundings;
+mod tables;
+pub mod types;
