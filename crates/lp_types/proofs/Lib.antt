@@ -1,0 +1,7 @@
+mod Adding
+mod CheckSteps
+mod NameLemmas
+mod Seen
+mod SpanLemmas
+mod StmtSteps
+mod StmtTrees
