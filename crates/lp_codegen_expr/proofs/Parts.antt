@@ -1,15 +1,10 @@
 -- Pairs of a mapping, parts of a sequence, and places that are read, changed and written.
-use Rattle.std.proofs.Common.{◌≡◌, ℕ, zero, suc, ◌<◌, List, [], ◌∷◌, ◌++◌, length, take, Vec, Bool, true, false, refl, sym, ap, ◌∙◌, subst, arith, map}
+use Rattle.std.proofs.Common.{◌≡◌, ℕ, zero, suc, ◌<◌, List, [], ◌∷◌, ◌++◌, length, take, Bool, true, false, refl, sym, ap, ◌∙◌, subst, arith, map}
 use Rattle.std.specs.Prelude.{nat_eq}
 use Rattle.std.proofs.lemmas.Bool.{eqb-true}
-use Rattle.std.specs.declared.alloc.Global.{Global}
 use Rattle.lp_tree.specs.declared.expr.Expr.{Expr}
-use Rattle.lp_tree.specs.declared.expr.Expr.TheVariants as variants
-use Rattle.lp_tree.specs.declared.expr.Expr.TheVariants.{rolls-Mapping, rolls-Sequence}
-use Rattle.lp_tree.specs.declared.expr.Expr.TheOpen as layer
-use Rattle.lp_tree.specs.declared.expr.Expr.TheFolds.{fold-roll-Expr}
 use Rattle.lp_tree.specs.Trees.{Tree, trees, pairs, Int, Text, Name, Paren, Array, Mapping, Call, EfunCall, ParentCall, NamedParentCall, Catch, Sscanf, Index as IndexTree, Range, CallOther, PostStep, PreStep, Unary, Cast, Binary, AndThen, OrElse, Cond, Assign, Sequence}
-use Rattle.lp_tree.specs.TreeView.{tree_of, layer_tree}
+use Rattle.lp_tree.specs.TreeView.{tree_of}
 use Rattle.lp_language.specs.Resolve.{Heritage}
 use Rattle.lp_language.specs.Scope.{Names}
 use Rattle.lp_language.specs.Eval.{pair_count}
@@ -17,14 +12,9 @@ use Rattle.lp_instr.specs.Code.{Code}
 use Rattle.lp_instr.specs.declared.instr.Instr.TheVariants.{Pop}
 use Rattle.lp_isa.specs.Translates.{Piece, Then, Nothing, MakesChange, MakesFirst, MakesMore}
 use Rattle.lp_codegen_expr.specs.Names.{Plan}
-use Rattle.lp_codegen_expr.specs.Drafts.{Sketch, Around, Form, Adds, Opens, Closes, after, line, of_expr, of_pairs, of_part, of_parts, of_open, of_right, of_close, of_logic, pair_of}
+use Rattle.lp_codegen_expr.specs.Drafts.{Sketch, Around, Form, Adds, Opens, Closes, after, line, of_expr, of_pairs, of_part, of_parts, of_open, of_right, of_close, of_logic}
+use Rattle.lp_tree.specs.Pieces.{pair_of}
 use Rattle.lp_codegen_expr.proofs.Compose.{adds_then, reform, line_none}
-
-pub mapping_tree : (line : ℕ) (v : Vec (Expr × Expr) Global) → tree_of (variants.Mapping line v) ≡ Mapping line (pairs (map pair_of v.items))
-mapping_tree line v = ap tree_of (sym (rolls-Mapping line v)) ∙ fold-roll-Expr Tree layer_tree (layer.Mapping line v)
-
-pub sequence_tree : (line : ℕ) (v : Vec Expr Global) → tree_of (variants.Sequence line v) ≡ Sequence line (trees (map tree_of v.items))
-sequence_tree line v = ap tree_of (sym (rolls-Sequence line v)) ∙ fold-roll-Expr Tree layer_tree (layer.Sequence line v)
 
 pub counted_pairs : (ps : List (Expr × Expr)) → length ps ≡ pair_count (pairs (map pair_of ps))
 counted_pairs [] = refl

@@ -1,16 +1,11 @@
 -- Trees of expressions, and their lists.
-use Rattle.std.proofs.Common.{◌≡◌, ℕ, suc, List, [], ◌∷◌, ◌++◌, length, Vec, refl, sym, ap, ◌∙◌, subst, map}
+use Rattle.std.proofs.Common.{◌≡◌, ℕ, suc, List, [], ◌∷◌, ◌++◌, length, refl, sym, ap, subst, map}
 use Rattle.std.specs.Prelude.{Box}
 use Rattle.std.specs.declared.alloc.Global.{Global}
 use Rattle.lp_tree.specs.declared.expr.Expr.{Expr}
-use Rattle.lp_tree.specs.declared.expr.Expr.TheVariants as variants
-use Rattle.lp_tree.specs.declared.expr.Expr.TheVariants.{rolls-Array, rolls-Mapping, rolls-Call, rolls-EfunCall, rolls-ParentCall, rolls-NamedParentCall, rolls-CallOther, rolls-Sscanf, rolls-Sequence, rolls-Range}
-use Rattle.lp_tree.specs.declared.expr.Expr.TheOpen as layer
-use Rattle.lp_tree.specs.declared.expr.Expr.TheFolds.{fold-roll-Expr}
 use Rattle.lp_tree.specs.declared.expr.Bound.{Bound}
-use Rattle.lp_tree.specs.declared.expr.Bound.TheVariants as bounds
-use Rattle.lp_tree.specs.Trees.{Tree, trees, Array, Call, EfunCall, ParentCall, NamedParentCall, CallOther, Sscanf, Range, Assign}
-use Rattle.lp_tree.specs.TreeView.{tree_of, layer_tree}
+use Rattle.lp_tree.specs.Trees.{Tree, trees, Assign}
+use Rattle.lp_tree.specs.TreeView.{tree_of}
 use Rattle.lp_language.specs.Scope.{Names}
 use Rattle.lp_language.specs.Eval.{tree_count}
 use Rattle.lp_isa.specs.Translates.{Then, Line, Makes, MakesWrite, MakesChange}
@@ -21,7 +16,7 @@ use Rattle.lp_instr.specs.declared.instr.Instr.TheVariants.{Rotate, Binary, Jump
 use Rattle.lp_codegen_expr.specs.declared.kinds.AssignKind.{AssignKind}
 use Rattle.lp_codegen_expr.specs.declared.kinds.AssignKind.TheVariants as kinds
 use Rattle.lp_codegen_expr.specs.Names.{Plan}
-use Rattle.lp_codegen_expr.specs.Drafts.{Sketch, Around, Form, Adds, of_expr, of_all, of_scanned, of_scanned_one, of_write, of_logic, of_change, of_end, line, after, kind_of, end_tree}
+use Rattle.lp_codegen_expr.specs.Drafts.{Sketch, Around, Form, Adds, of_expr, of_all, of_scanned, of_scanned_one, of_write, of_logic, of_change, of_end, line, after, kind_of}
 use Rattle.lp_codegen_expr.proofs.Compose.{adds_then, reform, line_none}
 
 abbrev pub of_tree : Names → Tree → Form
@@ -32,27 +27,6 @@ made {l} {old} {new} ns e t h w = subst (λ x. Adds l (of_tree ns x) old new) (s
 
 pub at_expr : {l : Plan} {old new : Sketch} (ns : Names) {a b : Expr} → a ≡ b → Adds l (of_expr ns a) old new → Adds l (of_expr ns b) old new
 at_expr {l} {old} {new} ns {a} {b} e w = subst (λ x. Adds l (of_expr ns x) old new) e w
-
-pub array_tree : (line : ℕ) (v : Vec Expr Global) → tree_of (variants.Array line v) ≡ Array line (trees (map tree_of v.items))
-array_tree line v = ap tree_of (sym (rolls-Array line v)) ∙ fold-roll-Expr Tree layer_tree (layer.Array line v)
-
-pub call_tree : (line : ℕ) (w : List ℕ) (v : Vec Expr Global) → tree_of (variants.Call line w v) ≡ Call line w (trees (map tree_of v.items))
-call_tree line w v = ap tree_of (sym (rolls-Call line w v)) ∙ fold-roll-Expr Tree layer_tree (layer.Call line w v)
-
-pub efun_tree : (line : ℕ) (w : List ℕ) (v : Vec Expr Global) → tree_of (variants.EfunCall line w v) ≡ EfunCall line w (trees (map tree_of v.items))
-efun_tree line w v = ap tree_of (sym (rolls-EfunCall line w v)) ∙ fold-roll-Expr Tree layer_tree (layer.EfunCall line w v)
-
-pub parent_tree : (line : ℕ) (w : List ℕ) (v : Vec Expr Global) → tree_of (variants.ParentCall line w v) ≡ ParentCall line w (trees (map tree_of v.items))
-parent_tree line w v = ap tree_of (sym (rolls-ParentCall line w v)) ∙ fold-roll-Expr Tree layer_tree (layer.ParentCall line w v)
-
-pub named_tree : (line : ℕ) (p w : List ℕ) (v : Vec Expr Global) → tree_of (variants.NamedParentCall line p w v) ≡ NamedParentCall line p w (trees (map tree_of v.items))
-named_tree line p w v = ap tree_of (sym (rolls-NamedParentCall line p w v)) ∙ fold-roll-Expr Tree layer_tree (layer.NamedParentCall line p w v)
-
-pub other_tree : (line : ℕ) (o : Box Expr Global) (w : List ℕ) (v : Vec Expr Global) → tree_of (variants.CallOther line o w v) ≡ CallOther line (tree_of o.value) w (trees (map tree_of v.items))
-other_tree line o w v = ap tree_of (sym (rolls-CallOther line o w v)) ∙ fold-roll-Expr Tree layer_tree (layer.CallOther line o w v)
-
-pub sscanf_tree : (line : ℕ) (t f : Box Expr Global) (v : Vec Expr Global) → tree_of (variants.Sscanf line t f v) ≡ Sscanf line (tree_of t.value) (tree_of f.value) (trees (map tree_of v.items))
-sscanf_tree line t f v = ap tree_of (sym (rolls-Sscanf line t f v)) ∙ fold-roll-Expr Tree layer_tree (layer.Sscanf line t f v)
 
 pub counted_trees : (es : List Expr) → length es ≡ tree_count (trees (map tree_of es))
 counted_trees [] = refl
@@ -71,12 +45,6 @@ scanned_more ns (d ∷ es) e a from mid to p q = (p.0, p.1, (p.2.0, p.2.1, scann
 
 pub one_more_scanned : {l : Plan} {old mid new : Sketch} (ns : Names) (es : List Expr) (e : Expr) → Adds l (of_scanned ns es) old mid → Adds l (of_scanned_one ns e) mid new → Adds l (of_scanned ns (es ++ e ∷ [])) old new
 one_more_scanned {l} {old} {mid} {new} ns es e v w = adds_then l (of_scanned ns es) (of_scanned_one ns e) (of_scanned ns (es ++ e ∷ [])) old mid new v w (λ a p q. scanned_more ns es e a (length old.code) (length mid.code) (length new.code) p q)
-
-pub range_tree : (line : ℕ) (o : Box Expr Global) (a b : Bound (Box Expr Global)) → tree_of (variants.Range line o a b) ≡ Range line (tree_of o.value) (end_tree a) (end_tree b)
-range_tree line o bounds.Open bounds.Open = ap tree_of (sym (rolls-Range line o bounds.Open bounds.Open)) ∙ fold-roll-Expr Tree layer_tree (layer.Range line o bounds.Open bounds.Open)
-range_tree line o bounds.Open (bounds.At f j) = ap tree_of (sym (rolls-Range line o bounds.Open (bounds.At f j))) ∙ fold-roll-Expr Tree layer_tree (layer.Range line o bounds.Open (bounds.At f j))
-range_tree line o (bounds.At e i) bounds.Open = ap tree_of (sym (rolls-Range line o (bounds.At e i) bounds.Open)) ∙ fold-roll-Expr Tree layer_tree (layer.Range line o (bounds.At e i) bounds.Open)
-range_tree line o (bounds.At e i) (bounds.At f j) = ap tree_of (sym (rolls-Range line o (bounds.At e i) (bounds.At f j))) ∙ fold-roll-Expr Tree layer_tree (layer.Range line o (bounds.At e i) (bounds.At f j))
 
 -- what an assignment is by its kind
 abbrev pub of_kind : Names → AssignKind → Expr → Expr → Form

@@ -3,12 +3,12 @@ use Rattle.std.specs.Prelude.{◌≡◌, ℕ, ◌≤◌, ◌<◌, Bool, true, fa
 use Rattle.lp_tree.specs.declared.expr.Expr.{Expr}
 use Rattle.std.specs.declared.alloc.Global.{Global}
 use Rattle.lp_tree.specs.declared.expr.Bound.{Bound}
-use Rattle.lp_tree.specs.declared.expr.Bound.TheVariants as bounds
 use Rattle.lp_tree.specs.declared.operator.AssignOp.{AssignOp}
 use Rattle.lp_tree.specs.declared.operator.AssignOp.TheVariants as sets
 use Rattle.lp_tree.specs.declared.operator.BinOp.TheVariants as ops
-use Rattle.lp_tree.specs.Trees.{Tree, trees, pairs, Name, Index as IndexTree, End as EndTree, Open, At}
+use Rattle.lp_tree.specs.Trees.{Tree, trees, pairs, Name, Index as IndexTree}
 use Rattle.lp_tree.specs.TreeView.{tree_of}
+use Rattle.lp_tree.specs.Pieces.{end_tree, pair_of}
 use Rattle.lp_instr.specs.declared.instr.Instr.{Instr}
 use Rattle.lp_instr.specs.declared.instr.Instr.TheVariants.{Dup2, Index, SetIndex, Jump, JumpIfZero, KeepIfZero, KeepIfNotZero, Pop}
 use Rattle.lp_language.specs.Resolve.{Heritage}
@@ -159,10 +159,6 @@ abbrev pub of_logic : Names → Expr → Expr → Bool → Form
 of_logic ns place e is_and a from to =
     MakesChange a.heritage ns (tree_of place) a.code (of_right ns e is_and a) Nothing (of_right ns e is_and a) Nothing from to
 
--- a key and its value
-abbrev pub pair_of : Expr × Expr → Tree × Tree
-pair_of p = (tree_of p.0, tree_of p.1)
-
 abbrev pub of_pairs : Names → List (Expr × Expr) → Form
 of_pairs ns ps a from to = MakesPairs a.heritage ns (pairs (map pair_of ps)) a.code from to
 
@@ -191,10 +187,6 @@ kind_of sets.Shl = assigns.Compound ops.Shl
 kind_of sets.Shr = assigns.Compound ops.Shr
 kind_of sets.AndThen = assigns.Logic true
 kind_of sets.OrElse = assigns.Logic false
-
-abbrev pub end_tree : Bound (Box Expr Global) → EndTree
-end_tree bounds.Open = Open
-end_tree (bounds.At edge e) = At edge (tree_of e.value)
 
 abbrev pub of_end : Names → Bound (Box Expr Global) → Form
 of_end ns e a from to = MakesEnd a.heritage ns (end_tree e) a.code from to

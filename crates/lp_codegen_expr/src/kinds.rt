@@ -1,7 +1,8 @@
 //! What assignments, ends of ranges and short circuits become.
 ghost use Rattle.std.specs.Prelude.{◌≡◌};
 ghost use Rattle.lp_language.specs.Eval.{kind_of_end};
-ghost use Rattle.lp_codegen_expr.specs.Drafts.{end_tree, keeps, kind_of};
+ghost use Rattle.lp_codegen_expr.specs.Drafts.{keeps, kind_of};
+ghost use Rattle.lp_tree.specs.Pieces.{end_tree};
 
 use lp_instr::instr::{EndKind, Instr};
 use lp_tree::expr::{Bound, Edge, Expr};

@@ -1,3 +1,5 @@
 pub mod Keywords
 pub mod Lines
 pub mod Examples
+pub mod ExprNodes
+pub mod StmtNodes

@@ -8,6 +8,7 @@ pub mod Expressions
 pub mod Laws
 pub mod Statements
 pub mod StatementView
+pub mod Pieces
 pub mod Units
 pub mod UnitView
 pub mod Signs

@@ -9,9 +9,9 @@ use Rattle.lp_codegen_expr.specs.declared.kinds.AssignKind.TheVariants as kinds
 use Rattle.lp_codegen_expr.specs.Drafts.{draft_of, grown, line, after, keeps, of_all, of_change, of_close, of_expr, of_open, of_right, of_scanned, of_write}
 use Rattle.lp_codegen_expr.proofs.Compose.{seq, line_none, one_adds, one_at, one_two, line_adds, skip, choice, fill_as}
 use Rattle.lp_codegen_expr.proofs.Meanings.{at_call, at_efun_call, inherited_adds, named_adds}
-use Rattle.lp_codegen_expr.proofs.Nodes.{int_tree, text_tree, name_tree, paren_tree, catch_tree, index_tree, post_step_tree, pre_step_tree, unary_tree, cast_tree, binary_tree, and_then_tree, or_else_tree, cond_tree, assign_tree}
-use Rattle.lp_codegen_expr.proofs.Trees.{made, made_write, made_change, at_expr, at_place, at_list, at_end, array_tree, call_tree, efun_tree, parent_tree, named_tree, other_tree, sscanf_tree, range_tree, counted_trees, one_more, one_more_scanned, none_all, none_scanned, scanned_one, assign_adds}
-use Rattle.lp_codegen_expr.proofs.Parts.{mapping_tree, sequence_tree, counted_pairs, none_pairs, one_more_pair, at_pairs, none_parts, one_more_part, part_later, at_parts, some_parts, not_empty, logic_adds, made_open}
+use Rattle.lp_tree.proofs.ExprNodes.{array_tree, call_tree, efun_tree, parent_tree, named_tree, other_tree, sscanf_tree, range_tree, mapping_tree, sequence_tree, int_tree, text_tree, name_tree, paren_tree, catch_tree, index_tree, post_step_tree, pre_step_tree, unary_tree, cast_tree, binary_tree, and_then_tree, or_else_tree, cond_tree, assign_tree}
+use Rattle.lp_codegen_expr.proofs.Trees.{made, made_write, made_change, at_expr, at_place, at_list, at_end, counted_trees, one_more, one_more_scanned, none_all, none_scanned, scanned_one, assign_adds}
+use Rattle.lp_codegen_expr.proofs.Parts.{counted_pairs, none_pairs, one_more_pair, at_pairs, none_parts, one_more_part, part_later, at_parts, some_parts, not_empty, logic_adds, made_open}
 use Rattle.lp_codegen_expr.proofs.expr.+expr.Goals as goal
 
 pub gen_expr-returns-in_ok-put-in-Int : goal.gen_expr-returns-in_ok-put-in-Int

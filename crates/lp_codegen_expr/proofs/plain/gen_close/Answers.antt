@@ -2,7 +2,7 @@ use Rattle.std.proofs.Common.{ap, ◌∙◌}
 use Rattle.lp_tree.specs.TreeView.{tree_of}
 use Rattle.lp_instr.specs.declared.instr.Instr.TheVariants.{SetIndex}
 use Rattle.lp_codegen_expr.proofs.Compose.{one_adds}
-use Rattle.lp_codegen_expr.proofs.Nodes.{name_tree, index_tree}
+use Rattle.lp_tree.proofs.ExprNodes.{name_tree, index_tree}
 use Rattle.lp_codegen_expr.proofs.Parts.{made_close}
 use Rattle.lp_codegen_expr.proofs.plain.gen_close.Goals as goal
 
