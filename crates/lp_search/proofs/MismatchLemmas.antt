@@ -1,5 +1,5 @@
 -- What a mismatch rules out in the search of Two-Way.
-use Rattle.std.proofs.Common.{◌≡◌, ℕ, ◌+◌, ◌-◌, ◌<◌, ◌≤◌, true, false, List, length, slice_index, sym, ap, subst, ◌∙◌, arith, ⊎_elim}
+use Rattle.std.proofs.Common.{◌≡◌, ℕ, ◌+◌, ◌-◌, ◌<◌, ◌≤◌, List, length, slice_index, sym, ap, subst, ◌∙◌, arith, ⊎_elim}
 use Rattle.std.proofs.lemmas.Bool.{cases_eq}
 use Rattle.lp_search.specs.Critical.{IsPeriod, IsRepeat, IsCritical, NoPeriodBelow}
 use Rattle.lp_search.specs.Places.{Nowhere, OccursIn, Stands}

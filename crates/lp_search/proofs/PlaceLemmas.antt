@@ -1,5 +1,5 @@
 -- Ranges without a hit.
-use Rattle.std.proofs.Common.{ℕ, ◌≡◌, ◌+◌, ◌-◌, ◌≤◌, ◌<◌, List, true, false, length, take, drop, get_or, slice_index, nat_eq, length-take-le, length-drop, get_or-take, get_or-drop, eq-eqb, ap, subst, sym, ◌∙◌, arith, ⊎_elim}
+use Rattle.std.proofs.Common.{ℕ, ◌≡◌, ◌+◌, ◌-◌, ◌≤◌, List, true, false, length, take, drop, get_or, slice_index, nat_eq, length-take-le, length-drop, get_or-take, get_or-drop, eq-eqb, ap, subst, sym, ◌∙◌, arith, ⊎_elim}
 use Rattle.std.specs.List.{list_any}
 use Rattle.std.proofs.lemmas.List.Folds.{list_any_at}
 use Rattle.std.proofs.lemmas.Bool.{cases_lt, cases_eq, false≢true}

@@ -1,10 +1,9 @@
 -- The first place of a text in another, by the places where it stands.
-use Rattle.std.proofs.Common.{◌≡◌, ◌∙◌, ℕ, zero, suc, ◌+◌, ◌-◌, ◌<◌, ◌≤◌, List, [], ◌∷◌, ◌++◌, Option, Some, None, Bool, true, false, cond, length, take, drop, get_or, refl, ap, sym, subst, arith, add-one, drop-cons, nat_eq, length-append, length-drop, length-take-le, get_or-take, get_or-drop, ext_get_or, eq-eqb}
+use Rattle.std.proofs.Common.{◌≡◌, ◌∙◌, ℕ, zero, suc, ◌+◌, ◌-◌, ◌<◌, ◌≤◌, List, [], ◌∷◌, ◌++◌, Option, Some, None, Bool, true, false, cond, length, take, drop, get_or, refl, ap, sym, subst, arith, add-one, drop-cons, nat_eq, length-append, length-drop, length-take-le, get_or-take, get_or-drop, ext_get_or}
 use Rattle.std.proofs.Math.ListN.{get_or-append}
 use Rattle.std.specs.Prelude.{nat_lt}
 use Rattle.std.specs.List.{starts_with}
 use Rattle.std.specs.Cmp.Lexicographic.{bytes_decides}
-use Rattle.std.proofs.lemmas.Bool.{cases_Bool, false≢true}
 use Rattle.std.proofs.lemmas.List.{take-append-drop}
 use Rattle.lp_search.specs.Places.{IsFirst, Nowhere, Stands}
 use Rattle.lp_text.specs.Texts.{place_from, place}

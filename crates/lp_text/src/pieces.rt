@@ -43,7 +43,7 @@ pub fn law_round_trip()
 fn singles(alloc: Global, s: &[char]) -> Result<Vec<Text>, AllocError>
     ensures { IfOk result (λ v. v.items ≡ map (λ c. c ∷ []) s.now) }
 {
-    let mut all = Vec::new(alloc);
+    let mut all = Vec::with_capacity(alloc, s.len())?;
     for c in s {
         all.push(Text::from_slice(alloc, &[*c])?)?;
     }

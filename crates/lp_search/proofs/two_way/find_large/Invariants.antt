@@ -1,4 +1,4 @@
-use Rattle.std.proofs.Common.{◌≤◌, ◌-◌, length, slice_index}
+use Rattle.std.proofs.Common.{◌≤◌, ◌-◌, length}
 use Rattle.lp_search.specs.Places.{Nowhere, Stands}
 use Rattle.lp_search.proofs.two_way.find_large.Given as goal
 

@@ -1,4 +1,4 @@
-use Rattle.std.proofs.Common.{slice_index, ◌≡◌, ◌≤◌, ◌<◌, ◌+◌, ◌-◌, ℕ, length}
+use Rattle.std.proofs.Common.{slice_index, ◌≡◌, ◌≤◌, ◌<◌, ◌+◌, ◌-◌, ℕ}
 use Rattle.lp_search.proofs.two_way.matched_to.Given as goal
 
 abbrev pub invariant-loop-i : goal.invariant-loop-i

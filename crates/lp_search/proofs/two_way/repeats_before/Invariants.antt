@@ -1,4 +1,4 @@
-use Rattle.std.proofs.Common.{slice_index, ◌≡◌, ℕ, ◌+◌, ◌<◌, length}
+use Rattle.std.proofs.Common.{slice_index, ◌≡◌, ℕ, ◌+◌, ◌<◌}
 use Rattle.lp_search.proofs.two_way.repeats_before.Given as goal
 
 abbrev pub invariant-loop-k : goal.invariant-loop-k
