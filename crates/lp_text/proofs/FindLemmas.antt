@@ -73,7 +73,7 @@ place_is t s from some le (Some k) h =
     some_from t s (k - from) from k some (omega arith) h.0.before h.1
 
 -- a place is looked for from where the search begins
-not_past : (t s : List ℕ) (from : ℕ) → from ≤ length s → place t s from ≡ place_from t from (drop from s)
+pub not_past : (t s : List ℕ) (from : ℕ) → from ≤ length s → place t s from ≡ place_from t from (drop from s)
 not_past t s from le = let e : nat_lt (length s) from ≡ false = search arith in rw e refl
 
 -- the first place of a text that is not empty
