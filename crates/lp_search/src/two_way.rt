@@ -136,6 +136,7 @@ fn find_small(
 }
 
 /// What stays known of the needle's first code points, where the search moved from `pos` to `next`.
+#[inline(always)]
 fn known_at(known: usize, pos: usize, next: usize) -> usize
     ensures { (result ≡ 0) ⊎ ((next ≡ pos) × (result ≡ known)) }
 {
@@ -143,6 +144,7 @@ fn known_at(known: usize, pos: usize, next: usize) -> usize
 }
 
 /// The first place of the needle's first code point from `from` on and before `to`.
+#[inline(always)]
 fn next_start(hay: &[char], needle: &[char], from: usize, to: usize) -> Option<usize>
     requires some { 0 < length needle.now }
     requires within { to ≤ length hay.now }
@@ -163,6 +165,7 @@ fn lacks(hay: &[char], c: char, at: usize) -> bool
 }
 
 /// The first place of a code point from `from` on and before `to`.
+#[inline(always)]
 fn next_with(hay: &[char], c: char, from: usize, to: usize) -> Option<usize>
     requires { to ≤ length hay.now }
     ensures { IsFirst (λ k. slice_index hay.now k ≡ c) from to result }
@@ -181,6 +184,7 @@ fn next_with(hay: &[char], c: char, from: usize, to: usize) -> Option<usize>
 }
 
 /// The code point at a place.
+#[inline(always)]
 fn seen(xs: &[char], k: usize) -> char
     requires { k < length xs.now }
     ensures { result ≡ slice_index xs.now k }
@@ -268,6 +272,7 @@ fn cut_at(needle: &[char], critical: usize, period: usize) -> (usize, Shift)
 }
 
 /// The first place from `start` on at which the needle, set at `pos`, differs from the text, or the needle's length.
+#[inline(always)]
 fn matched_to(hay: &[char], needle: &[char], pos: usize, start: usize) -> usize
     requires fits { pos + length needle.now ≤ length hay.now }
     requires from { start ≤ length needle.now }
@@ -285,6 +290,7 @@ fn matched_to(hay: &[char], needle: &[char], pos: usize, start: usize) -> usize
 }
 
 /// Whether the code points from `low` up to `high` of the needle stand at `pos`, read from `high` down.
+#[inline(always)]
 fn matches_between(hay: &[char], needle: &[char], pos: usize, low: usize, high: usize) -> bool
     requires fits { pos + length needle.now ≤ length hay.now }
     requires top { high ≤ length needle.now }
