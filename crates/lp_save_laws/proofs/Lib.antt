@@ -1,0 +1,10 @@
+pub mod Alongside
+pub mod Bytes
+pub mod Inside
+pub mod Leaves
+pub mod Lines
+pub mod Numbers
+pub mod Places
+pub mod RoundTrip
+pub mod Values
+pub mod Walks
