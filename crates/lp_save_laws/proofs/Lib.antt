@@ -1,5 +1,6 @@
 pub mod Alongside
 pub mod Bytes
+pub mod Counts
 pub mod Inside
 pub mod Leaves
 pub mod Lines

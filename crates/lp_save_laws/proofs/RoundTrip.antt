@@ -1,15 +1,15 @@
 -- What was saved is restored as it was.
-use Rattle.std.proofs.Common.{◌≡◌, ℕ, zero, suc, ◌+◌, ◌<◌, ◌≤◌, inl, inr, Bool, true, false, cond, ◌||◌, List, [], ◌∷◌, ◌++◌, length, append-nil, drop, map, Option, Some, None, unwrap_or, refl, sym, ap, subst, ◌∙◌, arith, length-append, length-drop}
+use Rattle.std.proofs.Common.{◌≡◌, ℕ, zero, suc, ◌+◌, ◌^◌, ◌<◌, ◌≤◌, inl, inr, Bool, true, false, cond, ◌||◌, List, [], ◌∷◌, ◌++◌, length, append-nil, drop, map, Option, Some, None, unwrap_or, refl, sym, ap, subst, ◌∙◌, arith, length-append, length-drop}
 use Rattle.std.specs.Prelude.{All, codes, encode_utf8_all, fold, nat_eq, slice_get}
 use Rattle.std.proofs.lemmas.Bool.{cond_both, eq-eqb, true≢false}
-use Rattle.std.proofs.lemmas.List.Elements.{All-cons, All-nil}
+use Rattle.std.proofs.lemmas.List.Elements.{All-cons, All-map, All-nil}
 use Rattle.std.proofs.lemmas.Option.{slice_get_within}
 use Rattle.std.proofs.lemmas.Str.{encode_ascii}
 use Rattle.lp_values.specs.declared.id.CellId.{CellId}
 use Rattle.lp_values.specs.declared.id.ObjId.{ObjId}
 use Rattle.lp_values.specs.declared.value.Value.{Value}
 use Rattle.lp_values.specs.declared.value.Value.TheVariants.{Arr, Int, Map, Obj, Str}
-use Rattle.lp_cells.specs.Cells.{Store, content_at}
+use Rattle.lp_cells.specs.Cells.{IsThere, Store, content_at}
 use Rattle.lp_text.specs.Pieces.{pieces}
 use Rattle.lp_save.specs.SaveText.{Line, Rest, Spelt, Walk, given, inner, is_among, line_spelt, max_saved_levels, met_again, met_deep, met_first, saved_text, shared_in, text_spelt, walk_of, walked}
 use Rattle.lp_save.specs.Reading.{AllLines, Given, lines_at, lines_from, outcome, outcome_of}
@@ -18,13 +18,11 @@ use Rattle.lp_save_laws.proofs.Places.{get_at, get_before, kept, or_right}
 use Rattle.lp_save_laws.proofs.Walks.{Within}
 use Rattle.lp_save_laws.proofs.Alongside.{IsPlain, Stands, either, rest_with}
 use Rattle.lp_save_laws.proofs.Values.{value_again}
+use Rattle.lp_save_laws.proofs.Counts.{Distinct, few_again}
 use Rattle.lp_save_laws.proofs.Bytes.{pieces_are}
 use Rattle.lp_save_laws.proofs.Lines.{LineMatch, LinesAgain, given_own, lines_again}
 
 -- ---- each cell is met for the first time once
-
-abbrev Distinct : List CellId → Type 0
-Distinct xs = (k j : ℕ) (c : CellId) → slice_get xs k ≡ Some c → slice_get xs j ≡ Some c → k ≡ j
 
 among_at : (c : CellId) (xs : List CellId) (k : ℕ) → slice_get xs k ≡ Some c → is_among c xs ≡ true
 among_at c [] k h = cc
@@ -165,8 +163,12 @@ reads_back live cells base ps bytes savable is =
     let s : Spelt = fold (line_spelt live cells (kept w.again w.met)) s0 ps in
     let win : Within w.again w.met w = record { later = []; front = sym (append-nil w.met); more = λ c h. h; deep = saved.flat } in
     let st : Stands cells w.again m start s0 [] base = record { done = λ c. refl; shares = tt; count = omega arith; kinds = λ k c lt at. absurd (omega arith) } in
+    let there : All (IsThere cells) vs = All-map (IsThere cells) (λ p. p.1) ps savable.there in
+    let least : length (kept w.again w.met) ≤ length cells = few_again live cells vs (λ c. is_among c w.again) savable.closed there (distinct_walk live cells vs) in
+    let most : length cells < 2 ^ 64 = savable.few in
+    let small : length (kept w.again w.met) < 2 ^ 64 = omega arith in
     let x : LinesAgain live cells w.again m ps start s0 [] base w s =
-    lines_again live cells w.again m (value_again live cells w.again m savable.closed savable.contents savable.few max_saved_levels) ps start s0 [] base savable.there savable.names savable.within win st in
+    lines_again live cells w.again m (value_again live cells w.again m savable.closed savable.contents small max_saved_levels) ps start s0 [] base savable.there savable.names savable.within win st in
     let bytes_is : pieces (codes "\n") bytes ≡ header ∷ (map encode_utf8_all x.texts ++ [] ∷ []) =
     ap (pieces (codes "\n")) (sym saved.is ∙ ap encode_utf8_all x.spells) ∙ pieces_are (header ∷ x.texts) (All-cons (All IsPlain) header x.texts header_plain x.plain) ∙ ap (λ h. h ∷ (map encode_utf8_all x.texts ++ [] ∷ [])) header_bytes in
     let lines_are : lines_from (pieces (codes "\n") bytes) (rest_with [] [] base) ≡ AllLines x.lines x.made2 =

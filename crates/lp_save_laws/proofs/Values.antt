@@ -18,7 +18,7 @@ use Rattle.lp_cells.specs.Mapping.{pairs_there}
 use Rattle.lp_cells.proofs.ClosedLemmas.{items_there, stored_there}
 use Rattle.lp_save.specs.declared.fault.FaultKind.TheVariants.{BadShare}
 use Rattle.lp_save.specs.SaveText.{Rest, Spelt, Walk, add, again_text, begins, begun, is_among, met_again, met_deep, met_first, share_number, spelt, walked}
-use Rattle.lp_save.specs.Reading.{Done, Wrong, and_then, array_filled, cell_at, mapping_filled, value_at}
+use Rattle.lp_save.specs.Reading.{Done, Found, Wrong, and_then, array_filled, cell_at, mapping_filled, value_at}
 use Rattle.lp_save.proofs.DeskLemmas.{value_cell}
 use Rattle.lp_save_laws.specs.Matching.{AreWithin, ContentsMatch, InOrder, IsWithin, Matching, PairsMatch, ValuesMatch}
 use Rattle.lp_save_laws.proofs.Places.{among_kept, kept}
@@ -122,7 +122,7 @@ module _ (live : ObjId → Bool) (cells : Store) (again : List CellId) (m : Matc
         small (content.Array []) (content.Array it.values) kind0 kind0 123 125 it.text it.spells it.stands it.fills
         (subst (λ o. ContentsMatch live m o (Some (content.Array it.values))) (sym is) (subst (λ l. InOrder (ValuesMatch m) l it.values) held it.match))
         (length w.met, here cells again m w s numbers made c win1.later st win1.front other, st.count) it.plain (refl, λ e. omega arith) (refl, λ e. omega arith) (λ rest. refl)
-        (λ a rest lt. ap (λ z. and_then z (λ vs x. Done (Arr place) (array_filled place vs x))) (it.reads a rest [] lt (omega arith)))
+        (λ a rest lt. let filled : List Value → Rest → Found Value = λ vs x. Done (Arr place) (array_filled place vs x) in ap (λ z. and_then z filled) {y = Done it.values (rest_with rest it.numbers2 it.made2)} (it.reads a rest [] lt (omega arith)))
 
     mapping_new : (n : ℕ) → ValuesAgain live cells again m n → (c : CellId) (ps : List (Value × Value)) (w : Walk) (s : Spelt) (numbers : List CellId) (made : Store) → content_at cells c ≡ Some (content.Mapping ps) → is_among c w.met ≡ false → Stands cells again m w s numbers made
         → Within again m.saved (fold (walked live cells n) (met_first c w) (flat_map (λ p. p.0 ∷ p.1 ∷ []) (pairs_there live (stored_pairs cells c))))
@@ -147,7 +147,7 @@ module _ (live : ObjId → Bool) (cells : Store) (again : List CellId) (m : Matc
         (content.Mapping (insert_all value_eq [] it.pairs)) kind0 kind0 91 93 it.text it.spells it.stands it.fills
         (subst (λ o. ContentsMatch live m o (Some (content.Mapping (insert_all value_eq [] it.pairs)))) (sym is) (it.pairs, subst (λ l. InOrder (PairsMatch m) l it.pairs) held it.match, refl))
         (length w.met, here cells again m w s numbers made c win1.later st win1.front other, st.count) it.plain (refl, λ e. omega arith) (refl, λ e. omega arith) (λ rest. refl)
-        (λ a rest lt. ap (λ z. and_then z (λ qs x. Done (Map place) (mapping_filled place qs x))) (it.reads a rest [] lt (omega arith)))
+        (λ a rest lt. let filled : List (Value × Value) → Rest → Found Value = λ qs x. Done (Map place) (mapping_filled place qs x) in ap (λ z. and_then z filled) {y = Done (insert_all value_eq [] it.pairs) (rest_with rest it.numbers2 it.made2)} (it.reads a rest [] lt (omega arith)))
 
     -- what a value names
     record ArrayAt (c : CellId) : Type 0 where

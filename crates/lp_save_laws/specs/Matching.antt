@@ -11,7 +11,7 @@ use Rattle.lp_cells.specs.declared.content.Content.TheVariants.{Array, Mapping}
 use Rattle.lp_cells.specs.Cells.{IsClosed, IsThere, Store, content_at}
 use Rattle.lp_cells.specs.Mapping.{pairs_of, pairs_there}
 use Rattle.lp_save.specs.Reading.{Given, outcome}
-use Rattle.lp_save.specs.SaveText.{is_variable_name, shared_in, walk_of}
+use Rattle.lp_save.specs.SaveText.{is_variable_name}
 use Rattle.std.specs.Prelude.{Bool}
 
 -- two lists are equally long, and what stands at one place in both matches
@@ -83,14 +83,14 @@ AreWithin live (Array vs) = (length vs ≤ max_items) × All IsWithin vs
 AreWithin live (Mapping ps) = (length (pairs_there live ps) ≤ max_items) × All (λ p. IsWithin p.0 × IsWithin p.1) ps
 
 -- Named values that can be saved: cells are closed, values and what cells hold keep within the limits, what values name is there, the names are names of
--- variables, and a number of 64 bits counts the cells that occur more than once.
+-- variables, and serials of cells are numbers of 64 bits.
 pub record AreSavable (live : ObjId → Bool) (cells : Store) (ps : List (List ℕ × Value)) : Type 0 where
   pub closed : IsClosed cells
   pub there : All (λ p. IsThere cells p.1) ps
   pub names : All (λ p. is_variable_name p.0 ≡ true) ps
   pub within : All (λ p. IsWithin p.1) ps
   pub contents : (c : CellId) (x : Content) → content_at cells c ≡ Some x → AreWithin live x
-  pub few : length (shared_in (walk_of live cells (map (λ p. p.1) ps))) < 2 ^ 64
+  pub few : length cells < 2 ^ 64
 
 -- The text of saved values, restored beside other cells: each variable gets a value, and values and cells are as they were saved.
 pub record ReadsBack (live : ObjId → Bool) (cells base : Store) (ps : List (List ℕ × Value)) (bytes : List ℕ) : Type 0 where
