@@ -2,6 +2,7 @@ pub mod Alongside
 pub mod Bytes
 pub mod Counts
 pub mod Inside
+pub mod Keys
 pub mod Leaves
 pub mod Lines
 pub mod Numbers

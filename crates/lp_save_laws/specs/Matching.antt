@@ -1,6 +1,7 @@
 -- What saving and restoring give back: values that are equal up to a matching of cells, which keeps their sharing.
-use Rattle.std.specs.Prelude.{◌≡◌, ◌≤◌, ◌<◌, ◌^◌, ℕ, ◌+◌, ℤ, pos, negsuc, List, [], ◌∷◌, ◌++◌, All, Option, Some, None, length, map, slice_get, true}
+use Rattle.std.specs.Prelude.{Bool, ◌≡◌, ◌≤◌, ◌<◌, ◌^◌, ℕ, ◌+◌, ℤ, pos, negsuc, List, [], ◌∷◌, ◌++◌, All, Option, Some, None, length, map, slice_get, false, true}
 use Rattle.std.specs.Char.{IsScalar}
+use Rattle.std.specs.Ordering.{int_eq}
 use Rattle.lp_values.specs.Limits.{max_code_points, max_items}
 use Rattle.lp_values.specs.declared.id.CellId.{CellId}
 use Rattle.lp_values.specs.declared.id.ObjId.{ObjId}
@@ -12,7 +13,6 @@ use Rattle.lp_cells.specs.Cells.{IsClosed, IsThere, Store, content_at}
 use Rattle.lp_cells.specs.Mapping.{pairs_of, pairs_there}
 use Rattle.lp_save.specs.Reading.{Given, outcome}
 use Rattle.lp_save.specs.SaveText.{is_variable_name}
-use Rattle.std.specs.Prelude.{Bool}
 
 -- two lists are equally long, and what stands at one place in both matches
 abbrev pub InOrder : {A B : Type 0} → (A → B → Type 0) → List A → List B → Type 0
@@ -42,6 +42,14 @@ ValuesMatch m v w = ⊥
 -- keys match, and so do values
 abbrev pub PairsMatch : Matching → Value × Value → Value × Value → Type 0
 PairsMatch m p q = ValuesMatch m p.0 q.0 × ValuesMatch m p.1 q.1
+
+-- whether a value becomes 0 when it is restored
+abbrev pub becomes_zero : Value → Bool
+becomes_zero (Int i) = int_eq i (pos 0)
+becomes_zero (Str s) = false
+becomes_zero (Arr c) = false
+becomes_zero (Map c) = false
+becomes_zero (Obj o) = true
 
 -- What cells hold matches: of arrays item by item; of mappings pair by pair in their order, as read, where of keys that have become equal the last wins
 -- at the first one's place.

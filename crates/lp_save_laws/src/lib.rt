@@ -2,4 +2,5 @@
 #![tactic(auto)]
 
 pub mod integers;
+pub mod mappings;
 pub mod round_trip;
