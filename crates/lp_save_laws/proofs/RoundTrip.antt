@@ -12,8 +12,13 @@ use Rattle.lp_values.specs.declared.value.Value.TheVariants.{Arr, Int, Map, Obj,
 use Rattle.lp_cells.specs.Cells.{IsThere, Store, content_at}
 use Rattle.lp_text.specs.Pieces.{pieces}
 use Rattle.lp_save.specs.SaveText.{Line, Rest, Spelt, Walk, given, inner, is_among, line_spelt, max_saved_levels, met_again, met_deep, met_first, saved_text, shared_in, text_spelt, walk_of, walked}
-use Rattle.lp_save.specs.Reading.{AllLines, Given, lines_at, lines_from, outcome, outcome_of}
-use Rattle.lp_save_laws.specs.Matching.{AreSavable, ContentsMatch, GotMatch, InOrder, IsRestored, Matching, ReadsBack}
+use Rattle.std.specs.Prelude.{Result, Ok, Err, Vec}
+use Rattle.std.specs.declared.alloc.Global.{Global}
+use Rattle.lp_save.specs.declared.fault.RestoreFault.{RestoreFault}
+use Rattle.lp_save.specs.declared.fault.RestoreFault.TheVariants as restoring
+use Rattle.lp_save.specs.Desks.{Restores}
+use Rattle.lp_save.specs.Reading.{AllLines, FaultIn, Given, lines_at, lines_from, outcome, outcome_of}
+use Rattle.lp_save_laws.specs.Matching.{AreSavable, ComesAgain, ContentsMatch, GotMatch, InOrder, IsRestored, Matching, ReadsBack}
 use Rattle.lp_save_laws.proofs.Places.{get_at, get_before, kept, or_right}
 use Rattle.lp_save_laws.proofs.Walks.{Within}
 use Rattle.lp_save_laws.proofs.Alongside.{IsPlain, Stands, either, rest_with}
@@ -180,3 +185,18 @@ reads_back live cells base ps bytes savable is =
       is = outcome_is (map (λ p. p.0) ps) bytes base x.made2 x.lines (map (λ l. Some l.value) x.lines) lines_are (ap (λ ns. given [] ns x.lines) (names_match m ps x.lines x.match) ∙ given_own x.lines);
       restored = restored_of live cells base ps bytes w (distinct_walk live cells vs) m refl s x;
     }
+
+-- and so it is with what restoring answers
+pub comes_again : (live : ObjId → Bool) (cells base new : Store) (ps : List (List ℕ × Value)) (bytes : List ℕ) (r : Result (Vec (Option Value) Global) RestoreFault) → AreSavable live cells ps → saved_text live cells ps ≡ Some bytes
+    → Restores r base new (outcome (map (λ p. p.0) ps) bytes base) → ComesAgain live cells base new (map (λ p. p.1) ps) r
+comes_again live cells base new ps bytes (Ok x) savable is h =
+    let b : ReadsBack live cells base ps bytes = reads_back live cells base ps bytes savable is in
+    let both : Given b.given b.new ≡ Given x.items new = sym b.is ∙ h in
+    let values : b.given ≡ x.items = cc in
+    let made : b.new ≡ new = cc in
+    (b.matching, subst (λ vs. IsRestored live cells base new b.matching (map (λ p. p.1) ps) vs) values (subst (λ s. IsRestored live cells base s b.matching (map (λ p. p.1) ps) b.given) made b.restored))
+comes_again live cells base new ps bytes (Err restoring.NoMemory) savable is h = h
+comes_again live cells base new ps bytes (Err (restoring.Line n k)) savable is h =
+    let b : ReadsBack live cells base ps bytes = reads_back live cells base ps bytes savable is in
+    let both : Given b.given b.new ≡ FaultIn n k = sym b.is ∙ h.0 in
+    cc

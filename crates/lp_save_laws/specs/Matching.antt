@@ -11,6 +11,10 @@ use Rattle.lp_cells.specs.declared.content.Content.{Content}
 use Rattle.lp_cells.specs.declared.content.Content.TheVariants.{Array, Mapping}
 use Rattle.lp_cells.specs.Cells.{IsClosed, IsThere, Store, content_at}
 use Rattle.lp_cells.specs.Mapping.{pairs_of, pairs_there}
+use Rattle.std.specs.Prelude.{Result, Ok, Err, Vec}
+use Rattle.std.specs.declared.alloc.Global.{Global}
+use Rattle.lp_save.specs.declared.fault.RestoreFault.{RestoreFault}
+use Rattle.lp_save.specs.declared.fault.RestoreFault.TheVariants.{NoMemory, Line}
 use Rattle.lp_save.specs.Reading.{Given, outcome}
 use Rattle.lp_save.specs.SaveText.{is_variable_name}
 
@@ -107,3 +111,9 @@ pub record ReadsBack (live : ObjId → Bool) (cells base : Store) (ps : List (Li
   pub matching : Matching
   pub is : outcome (map (λ p. p.0) ps) bytes base ≡ Given given new
   pub restored : IsRestored live cells base new matching (map (λ p. p.1) ps) given
+
+-- What restoring that text answers: each variable gets its value, or memory ran out, and then nothing has changed. No line is faulty.
+abbrev pub ComesAgain : (ObjId → Bool) → Store → Store → Store → List Value → Result (Vec (Option Value) Global) RestoreFault → Type 0
+ComesAgain live cells base new vs (Ok x) = (m : Matching) × IsRestored live cells base new m vs x.items
+ComesAgain live cells base new vs (Err NoMemory) = new ≡ base
+ComesAgain live cells base new vs (Err (Line n k)) = ⊥
