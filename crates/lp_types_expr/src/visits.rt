@@ -19,7 +19,11 @@ fn add<'a>(e: &'a Expr, line: u32, into: &mut Vec<Visit<'a>>) -> Result<(), Allo
 
 // Adds the parts that begin at an expression's first token, which is in a line.
 #[cycle(firsts)]
-fn firsts<'a>(e: &'a Expr, line: u32, into: &mut Vec<Visit<'a>>) -> Result<(), AllocError>
+pub(crate) fn firsts<'a>(
+    e: &'a Expr,
+    line: u32,
+    into: &mut Vec<Visit<'a>>,
+) -> Result<(), AllocError>
     ensures { OnOk result (visited into.new.items ≡ visited into.old.items ++ firsts line (tree_of e.now)) }
 {
     match e {
@@ -124,7 +128,7 @@ fn sequence<'a>(parts: &'a [Expr], into: &mut Vec<Visit<'a>>) -> Result<(), Allo
 
 // Adds the parts of an expression that begin behind its first token.
 #[cycle(visits)]
-fn behinds<'a>(e: &'a Expr, into: &mut Vec<Visit<'a>>) -> Result<(), AllocError>
+pub(crate) fn behinds<'a>(e: &'a Expr, into: &mut Vec<Visit<'a>>) -> Result<(), AllocError>
     ensures { OnOk result (visited into.new.items ≡ visited into.old.items ++ behinds (tree_of e.now)) }
 {
     match e {

@@ -6,7 +6,7 @@ ghost use Rattle.lp_types_expr.specs.Meant.{FaultlessHasMeaning};
 ghost use Rattle.lp_types_expr.specs.Scopes.{visible};
 ghost use Rattle.lp_types_expr.specs.Surroundings.{around_of};
 ghost use Rattle.lp_types_expr.specs.Visits.{judged, visited};
-ghost use Rattle.lp_types_expr.specs.Walk.{all_at};
+ghost use Rattle.lp_types_expr.specs.Walk.{all_at, at_first, behind_first};
 
 use crate::around::Surroundings;
 use crate::call::{add_when, call_faults};
@@ -14,7 +14,7 @@ use crate::fault::FaultAt;
 use crate::scopes::Scopes;
 use crate::surroundings::efun_callee;
 use crate::visit::Visit;
-use crate::visits::visits;
+use crate::visits::{behinds, firsts, visits};
 use lp_tree::expr::Expr;
 use lp_tree::fault::FaultKind;
 use std::alloc::AllocError;
@@ -73,6 +73,37 @@ fn part_faults(
         own_faults(around, scopes, part.node, part.line, faults)?;
     }
     Ok(())
+}
+
+/// Adds the faults at an expression's first token, at a line.
+#[tactic(auto, using(crate::proofs::Judged::heads))]
+pub fn first_faults(
+    around: &Surroundings<'_>,
+    scopes: &Scopes,
+    e: &Expr,
+    line: u32,
+    faults: &mut Vec<FaultAt>,
+) -> Result<(), AllocError>
+    ensures { OnOk result (faults.new.items ≡ faults.old.items ++ all_at line (at_first (guilt (around_of around.now) (visible scopes.now)) (tree_of e.now))) }
+{
+    let mut parts = Vec::new(*faults.allocator());
+    firsts(e, line, &mut parts)?;
+    part_faults(around, scopes, parts.as_slice(), faults)
+}
+
+/// Adds the faults of an expression behind its first token, in the order of the tokens.
+#[tactic(auto, using(crate::proofs::Judged::tails))]
+pub fn behind_faults(
+    around: &Surroundings<'_>,
+    scopes: &Scopes,
+    e: &Expr,
+    faults: &mut Vec<FaultAt>,
+) -> Result<(), AllocError>
+    ensures { OnOk result (faults.new.items ≡ faults.old.items ++ behind_first (guilt (around_of around.now) (visible scopes.now)) (tree_of e.now)) }
+{
+    let mut parts = Vec::new(*faults.allocator());
+    behinds(e, &mut parts)?;
+    part_faults(around, scopes, parts.as_slice(), faults)
 }
 
 /// Adds the faults of an expression, in the order of their tokens.
