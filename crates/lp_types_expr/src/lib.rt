@@ -2,6 +2,7 @@
 #![tactic(auto)]
 
 pub mod around;
+pub mod assign;
 pub mod call;
 pub mod called;
 pub mod chosen;
@@ -22,3 +23,6 @@ pub mod signature;
 pub mod surroundings;
 pub mod tables;
 pub mod types;
+pub mod visit;
+pub mod visits;
+pub mod walk;
