@@ -11,7 +11,7 @@ pub mod items;
 pub mod kind;
 pub mod local;
 pub mod mark;
-mod named;
+pub mod named;
 pub mod names;
 pub mod parent;
 mod parents;
