@@ -17,7 +17,8 @@ use Rattle.lp_types_expr.specs.Known.{has_path}
 use Rattle.lp_types_expr.specs.ExprFaults.{when}
 use Rattle.lp_types_expr.specs.declared.fault.FaultAt.{FaultAt}
 use Rattle.lp_types_expr.specs.Walk.{all_at, Guilt, in_tree, in_optional}
-use Rattle.lp_inherit.specs.Layout.{slot_named, laid_slots, laid_variables, parts_of}
+pub use Rattle.lp_layout.specs.declared.source.Source.{Source}
+use Rattle.lp_layout.specs.Layout.{slot_named, laid_slots, laid_variables, parts_of, functions}
 
 -- the greatest numbers: of the arguments of a call and the parameters of a function; of the locals of a function; and of
 -- the functions, the variables and the parts of a version with its parents
@@ -31,11 +32,7 @@ limits = record { arguments = 255; locals = 255; names = 65535 }
 
 -- Functions that may not be overridden
 
--- a function that a parent shows: the version in whose text it stands, and its modifiers as a number
-pub record Source : Type 0 where
-  pub version : Option ProgId
-  pub mods : ℕ
-
+-- A source is a function that a parent shows: the version in whose text it stands, and its modifiers as a number.
 abbrev pub source_of : Tables → Option Slot → Option Source
 source_of t None = None
 source_of t (Some s) = if has_function s && is_shown s then Some (record { version = slice_get t.parts s.part; mods = s.mods }) else None
@@ -189,9 +186,10 @@ items_layout m whole earlier others (Fun line ms ty w ps b ∷ is) =
     ++ items_layout m [] earlier others is
 items_layout m whole earlier others (Var line ms base ds ∷ is) = all_at line whole ++ declarators_calls (call_guilt m earlier) ds ++ items_layout m [] earlier others is
 
--- too many parts, variables or functions
+-- Too many parts, functions in the text, variables, or names of functions. Where no two functions of a file have one
+-- name there are no more functions in the text than names.
 abbrev pub is_too_large : Limits → List ItemTree → List Tables → Bool
-is_too_large m is ts = nat_lt m.names (suc (parts_of ts)) || nat_lt m.names (length (laid_variables is ts 0)) || nat_lt m.names (length (laid_slots is ts))
+is_too_large m is ts = nat_lt m.names (suc (parts_of ts)) || nat_lt m.names (functions is) || nat_lt m.names (length (laid_variables is ts 0)) || nat_lt m.names (length (laid_slots is ts))
 
 -- the faults of the layout of a unit, within limits
 abbrev pub layout_faults_within : Limits → List ItemTree → List Tables → List FaultAt

@@ -1,9 +1,11 @@
 -- The tables of a version, from its text and the tables of its parents.
-use Rattle.std.specs.Prelude.{ℕ, suc, ◌+◌, ◌*◌, List, [], ◌∷◌, ◌++◌, map, length, Bool, true, false, not, ◌&&◌, nat_eq, Option, Some, None, if◌then◌else◌}
+use Rattle.std.specs.Prelude.{◌≡◌, ◌<◌, ℕ, suc, ◌+◌, ◌*◌, List, [], ◌∷◌, ◌++◌, map, length, slice_get, IsAscii, ⊤, Bool, true, false, not, ◌&&◌, nat_eq, Option, Some, None, if◌then◌else◌}
 use Rattle.std.specs.List.{list_any}
 use Rattle.lp_tree.specs.declared.keyword.Base.{Base}
 use Rattle.lp_tree.specs.declared.keyword.Modifier.{Modifier}
 use Rattle.lp_tree.specs.declared.keyword.Modifier.TheVariants.{Private, Protected, Public, Static, Nosave, Nomask, Varargs}
+use Rattle.lp_tree.specs.declared.pragma.Pragmas.{Pragmas}
+use Rattle.lp_tree.specs.declared.pragma.TypeMode.TheVariants.{Weak}
 use Rattle.lp_tree.specs.declared.types.TypeName.{TypeName}
 use Rattle.lp_tree.specs.declared.unit.Param.{Param}
 use Rattle.lp_tree.specs.Statements.{DeclaratorTree}
@@ -124,8 +126,11 @@ laid_slots is ts = laid_for is ts (first_met [] (names_in ts ++ declared_names i
 
 -- Variables
 
+abbrev pub numbered_row : ℕ → ℕ → Base → DeclaratorTree → VarRow
+numbered_row part number base d = record { name = d.name; part = part; mods = number; kind = record { base = base; stars = d.stars } }
+
 abbrev pub var_row : ℕ → List Modifier → Base → DeclaratorTree → VarRow
-var_row part ms base d = record { name = d.name; part = part; mods = bits ms; kind = record { base = base; stars = d.stars } }
+var_row part ms base d = numbered_row part (bits ms) base d
 
 -- a file's own variables
 abbrev pub own_rows : ℕ → List ItemTree → List VarRow
@@ -138,12 +143,72 @@ own_rows part (Var line ms base ds ∷ is) = map (var_row part ms base) ds ++ ow
 abbrev pub row_moved : ℕ → VarRow → VarRow
 row_moved first r = record r { part = first + r.part }
 
+-- the parents' variables
+abbrev pub inherited_rows : List Tables → ℕ → List VarRow
+inherited_rows [] first = []
+inherited_rows (t ∷ ts) first = map (row_moved first) t.vars ++ inherited_rows ts (first + length t.parts)
+
 -- the parents' variables, and then the file's own: a row's place is the variable's offset
 abbrev pub laid_variables : List ItemTree → List Tables → ℕ → List VarRow
 laid_variables is [] first = own_rows first is
 laid_variables is (t ∷ ts) first = map (row_moved first) t.vars ++ laid_variables is ts (first + length t.parts)
 
+-- Counts
+
+-- how many functions a file has
+abbrev pub functions : List ItemTree → ℕ
+functions [] = 0
+functions (Inherit line path ∷ is) = functions is
+functions (Proto line ms ty name ps ∷ is) = functions is
+functions (Fun line ms ty name ps b ∷ is) = suc (functions is)
+functions (Var line ms base ds ∷ is) = functions is
+
 -- the versions of the parents' parts, in order
 abbrev pub parts_before : List Tables → List ProgId
 parts_before [] = []
 parts_before (t ∷ ts) = t.parts ++ parts_before ts
+
+-- the pragmas of a file that names none
+abbrev pub plain_pragmas : Pragmas
+plain_pragmas = record { no_clone = false; no_inherit = false; no_shadow = false; types = Weak }
+
+-- The tables of a unit over those of its parents. What a unit does not tell is left out: who compiles it adds the path,
+-- the versions of the parents, the pragmas, and behind the parts the version itself.
+abbrev pub laid_tables : List ItemTree → List Tables → Tables
+laid_tables is ts = record {
+  path = [];
+  parents = [];
+  parts = parts_before ts;
+  slots = laid_slots is ts;
+  vars = laid_variables is ts 0;
+  pragmas = plain_pragmas;
+}
+
+-- What tables of parents are: there is one for each inherit, and their rows stand in parts of theirs.
+
+abbrev pub AreRowsIn : ℕ → List Slot → Type 0
+AreRowsIn n ss = (i : ℕ) (s : Slot) → slice_get ss i ≡ Some s → s.part < n
+
+abbrev pub AreVariablesIn : ℕ → List VarRow → Type 0
+AreVariablesIn n rs = (i : ℕ) (r : VarRow) → slice_get rs i ≡ Some r → r.part < n
+
+abbrev pub AreInside : List Tables → Type 0
+AreInside ts = (i : ℕ) (t : Tables) → slice_get ts i ≡ Some t → AreRowsIn (length t.parts) t.slots × AreVariablesIn (length t.parts) t.vars
+
+-- Names of tables are bytes. A name of letters of ASCII, as that of every source is, is its bytes.
+
+abbrev pub AreSpelled : List (List ℕ) → Type 0
+AreSpelled [] = ⊤
+AreSpelled (w ∷ ws) = IsAscii w × AreSpelled ws
+
+-- the names of a file's variables
+abbrev pub variable_names : List ItemTree → List (List ℕ)
+variable_names [] = []
+variable_names (Inherit line path ∷ is) = variable_names is
+variable_names (Proto line ms ty name ps ∷ is) = variable_names is
+variable_names (Fun line ms ty name ps b ∷ is) = variable_names is
+variable_names (Var line ms base ds ∷ is) = map (λ d. d.name) ds ++ variable_names is
+
+pub record IsSpelled (is : List ItemTree) : Type 0 where
+  pub functions : AreSpelled (declared_names is)
+  pub variables : AreSpelled (variable_names is)

@@ -8,7 +8,7 @@ use Rattle.lp_code.specs.declared.tables.Slot.{Slot}
 use Rattle.lp_code.specs.declared.tables.Tables.{Tables}
 use Rattle.lp_instr.specs.EfunList.{is_name}
 use Rattle.lp_types_expr.specs.Signatures.{or_else, is_private_number, is_wanted}
-use Rattle.lp_inherit.specs.Layout.{slot, own_slot, prototype_slot, slot_named, slot_shown, last_slot, parts_of, laid_slot, declared_names, first_met, with_slot, laid_for, names_in, laid_slots}
+use Rattle.lp_layout.specs.Layout.{slot, own_slot, prototype_slot, slot_named, slot_shown, last_slot, parts_of, laid_slot, declared_names, first_met, with_slot, laid_for, names_in, laid_slots}
 
 pub same_name : (a b : List ℕ) → is_name a b ≡ true → a ≡ b
 same_name a b e = (bytes_eq-Decides a b).0 e

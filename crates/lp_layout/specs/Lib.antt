@@ -1,0 +1,4 @@
+pub mod Layout
+pub mod LayoutFaults
+pub mod Origins
+pub mod Standing

@@ -1,0 +1,13 @@
+//! The tables of a version, and the faults of their layout.
+#![tactic(auto)]
+
+mod nomask;
+mod origin;
+mod own;
+mod rows;
+mod shown;
+pub mod source;
+mod spelled;
+mod standing;
+mod tables;
+mod variables;
