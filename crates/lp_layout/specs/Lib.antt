@@ -2,3 +2,5 @@ pub mod Layout
 pub mod LayoutFaults
 pub mod Origins
 pub mod Standing
+pub mod Pieces
+pub mod Firsts

@@ -4,6 +4,8 @@
 mod nomask;
 mod origin;
 mod own;
+pub mod piece;
+mod pieces;
 mod rows;
 mod shown;
 pub mod source;

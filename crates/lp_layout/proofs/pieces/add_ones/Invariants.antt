@@ -1,0 +1,8 @@
+use Rattle.std.proofs.Common.{◌≡◌, ◌≤◌, ◌+◌, ◌++◌, drop, map}
+use Rattle.lp_tree.specs.Pieces.{parts_of}
+use Rattle.lp_tree.specs.StatementView.{declarator_of, stmt_of, stmt_trees}
+use Rattle.lp_layout.specs.Pieces.{locals_in, ones_pieces, parts_pieces, seen, stmts_pieces}
+use Rattle.lp_layout.proofs.pieces.add_ones.Given as goal
+
+abbrev pub invariant-loop-one : goal.invariant-loop-one
+invariant-loop-one l = seen l.initial.into.items ++ ones_pieces (map declarator_of l.ones) ≡ seen l.into.items ++ ones_pieces (map declarator_of (drop l.one-index l.ones))

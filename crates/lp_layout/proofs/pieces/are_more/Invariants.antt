@@ -1,0 +1,8 @@
+use Rattle.std.proofs.Common.{◌≡◌, ◌≤◌, ◌+◌, ◌++◌, drop, map}
+use Rattle.lp_tree.specs.Pieces.{parts_of}
+use Rattle.lp_tree.specs.StatementView.{declarator_of, stmt_of, stmt_trees}
+use Rattle.lp_layout.specs.Pieces.{locals_in, ones_pieces, parts_pieces, seen, stmts_pieces}
+use Rattle.lp_layout.proofs.pieces.are_more.Given as goal
+
+abbrev pub invariant-loop-piece : goal.invariant-loop-piece
+invariant-loop-piece l = record { left : l.left ≤ l.most; rest : l.left + locals_in (seen l.pieces) ≡ l.most + locals_in (seen (drop l.piece-index l.pieces)) }
