@@ -4,14 +4,14 @@ use Rattle.lp_tree.specs.Statements.{DeclaratorTree, LocalTree, InitTree, Nothin
 use Rattle.lp_tree.specs.Trees.{Tree}
 use Rattle.lp_types_expr.specs.declared.fault.FaultAt.{FaultAt}
 use Rattle.lp_types_expr.specs.Walk.{Guilt, in_tree, in_optional}
-use Rattle.lp_layout.specs.LayoutFaults.{declarators_calls, init_calls, stmt_calls, stmts_calls, else_calls, parts_calls, init_locals, each_locals, second_locals, stmt_locals, stmts_locals, else_locals, parts_locals}
+use Rattle.lp_layout.specs.LayoutFaults.{declarators_calls, init_calls, stmt_calls, stmts_calls, else_calls, parts_calls, init_locals, stmt_locals, stmts_locals, else_locals, parts_locals}
 use Rattle.lp_layout.specs.Pieces.{PieceTree, Locals, Runs, value_pieces, ones_pieces, local_pieces, init_pieces, stmt_pieces, stmts_pieces, else_pieces, parts_pieces, calls_in, locals_in}
 
 no_more : {A : Type 0} (xs : List A) → xs ++ [] ≡ xs
 no_more [] = refl
 no_more (x ∷ xs) = ap (λ z. x ∷ z) (no_more xs)
 
-calls_both : (f : Guilt) (ps qs : List PieceTree) → calls_in f (ps ++ qs) ≡ calls_in f ps ++ calls_in f qs
+pub calls_both : (f : Guilt) (ps qs : List PieceTree) → calls_in f (ps ++ qs) ≡ calls_in f ps ++ calls_in f qs
 calls_both f [] qs = refl
 calls_both f (Locals n ∷ ps) qs = calls_both f ps qs
 calls_both f (Runs t ∷ ps) qs = ap (λ z. in_tree f t ++ z) (calls_both f ps qs) ∙ sym (append_assoc (in_tree f t) (calls_in f ps) (calls_in f qs))
@@ -117,9 +117,9 @@ mutual
   stmt_count (If line e y n) = sum (stmt_pieces y) (else_pieces n) (stmt_locals y) (else_locals n) (stmt_count y) (else_count n)
   stmt_count (While line e b) = stmt_count b
   stmt_count (DoWhile line b e) =
-    let h : stmt_locals b ≡ locals_in (stmt_pieces b) = stmt_count b in
-    let k : locals_in (stmt_pieces b ++ Runs e ∷ []) ≡ locals_in (stmt_pieces b) + 0 = locals_both (stmt_pieces b) (Runs e ∷ []) in
-    omega (arith, h, k)
+      let h : stmt_locals b ≡ locals_in (stmt_pieces b) = stmt_count b in
+      let k : locals_in (stmt_pieces b ++ Runs e ∷ []) ≡ locals_in (stmt_pieces b) + 0 = locals_both (stmt_pieces b) (Runs e ∷ []) in
+      omega (arith, h, k)
   stmt_count (For line i t st b) = sum (init_pieces i ++ (value_pieces t ++ value_pieces st)) (stmt_pieces b) (init_locals i) (stmt_locals b) (head_count i t st) (stmt_count b)
   stmt_count (Foreach line f st e b) = let h : stmt_locals b ≡ locals_in (stmt_pieces b) = stmt_count b in omega (arith, h)
   stmt_count (Switch line e ps) = parts_count ps

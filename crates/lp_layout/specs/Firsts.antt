@@ -1,5 +1,5 @@
 -- The first of some faults, and the faults of a unit's layout item by item.
-use Rattle.std.specs.Prelude.{ℕ, List, [], ◌∷◌, ◌++◌, ◌||◌, length, nat_lt, Option, Some, None}
+use Rattle.std.specs.Prelude.{ℕ, List, [], ◌∷◌, ◌++◌, length, Option, Some, None}
 use Rattle.lp_tree.specs.declared.fault.FaultKind.{FaultKind}
 use Rattle.lp_tree.specs.Units.{ItemTree, Inherit, Proto, Fun, Var}
 use Rattle.lp_code.specs.declared.tables.Tables.{Tables}

@@ -4,3 +4,4 @@ pub mod Origins
 pub mod Standing
 pub mod Pieces
 pub mod Firsts
+pub mod Caused

@@ -1,6 +1,9 @@
 //! The tables of a version, and the faults of their layout.
 #![tactic(auto)]
 
+pub mod fault;
+mod faults;
+pub mod layout;
 mod nomask;
 mod origin;
 mod own;

@@ -200,10 +200,7 @@ fn add_stmt<'a>(stmt: &'a Stmt, into: &mut Vec<Piece<'a>>) -> Result<(), AllocEr
 
 /// Adds the pieces of statements, in the order of tokens.
 #[cycle(pieces)]
-pub(crate) fn add_stmts<'a>(
-    stmts: &'a [Stmt],
-    into: &mut Vec<Piece<'a>>,
-) -> Result<(), AllocError>
+pub(crate) fn add_stmts<'a>(stmts: &'a [Stmt], into: &mut Vec<Piece<'a>>) -> Result<(), AllocError>
     ensures { OnOk result (seen into.new.items ≡ seen into.old.items ++ stmts_pieces (stmt_trees (map stmt_of stmts.now))) }
 {
     for stmt in stmts {
@@ -214,10 +211,7 @@ pub(crate) fn add_stmts<'a>(
 
 // Adds the pieces of the parts of a `switch`.
 #[cycle(pieces)]
-fn add_parts<'a>(
-    parts: &'a [Part<Stmt>],
-    into: &mut Vec<Piece<'a>>,
-) -> Result<(), AllocError>
+fn add_parts<'a>(parts: &'a [Part<Stmt>], into: &mut Vec<Piece<'a>>) -> Result<(), AllocError>
     ensures { OnOk result (seen into.new.items ≡ seen into.old.items ++ parts_pieces (parts_of parts.now)) }
 {
     for part in parts {

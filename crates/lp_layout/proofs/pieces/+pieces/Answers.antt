@@ -1,4 +1,4 @@
-use Rattle.std.proofs.Common.{◌≡◌, ◌++◌, ◌∷◌, [], List, sym, ap, ◌∙◌, refl}
+use Rattle.std.proofs.Common.{◌++◌, ◌∷◌, [], List, sym, ap, ◌∙◌, refl}
 use Rattle.lp_tree.specs.declared.stmt.Part.{Part}
 use Rattle.lp_tree.specs.declared.stmt.Stmt.{Stmt}
 use Rattle.lp_tree.specs.Pieces.{parts_of}

@@ -1,7 +1,7 @@
-use Rattle.std.proofs.Common.{◌≡◌, ◌≤◌, ◌+◌, ◌++◌, drop, map}
+use Rattle.std.proofs.Common.{◌≡◌, ◌+◌, ◌++◌, drop, map}
 use Rattle.lp_tree.specs.Pieces.{parts_of}
-use Rattle.lp_tree.specs.StatementView.{declarator_of, stmt_of, stmt_trees}
-use Rattle.lp_layout.specs.Pieces.{locals_in, ones_pieces, parts_pieces, seen, stmts_pieces}
+use Rattle.lp_tree.specs.StatementView.{stmt_of, stmt_trees}
+use Rattle.lp_layout.specs.Pieces.{parts_pieces, seen, stmts_pieces}
 use Rattle.lp_layout.proofs.pieces.+pieces.Given as goal
 
 abbrev pub invariant-add_stmts-loop-stmt : goal.invariant-add_stmts-loop-stmt

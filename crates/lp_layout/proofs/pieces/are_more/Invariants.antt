@@ -1,7 +1,5 @@
-use Rattle.std.proofs.Common.{◌≡◌, ◌≤◌, ◌+◌, ◌++◌, drop, map}
-use Rattle.lp_tree.specs.Pieces.{parts_of}
-use Rattle.lp_tree.specs.StatementView.{declarator_of, stmt_of, stmt_trees}
-use Rattle.lp_layout.specs.Pieces.{locals_in, ones_pieces, parts_pieces, seen, stmts_pieces}
+use Rattle.std.proofs.Common.{◌≡◌, ◌≤◌, ◌+◌, drop}
+use Rattle.lp_layout.specs.Pieces.{locals_in, seen}
 use Rattle.lp_layout.proofs.pieces.are_more.Given as goal
 
 abbrev pub invariant-loop-piece : goal.invariant-loop-piece
