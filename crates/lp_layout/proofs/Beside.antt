@@ -155,6 +155,18 @@ any_same f g h (x ∷ xs) = ap (λ b. b || list_any f xs) (h x) ∙ ap (λ b. g 
 pub beside_known : {S : Type 0} (ts : List Tables) (t : Tables) (m : HashMap (Vec ℕ Global) Standing S) → Knows ts m → list_any (λ s. clashes (named m s.name) (source t s.name)) t.slots ≡ stands_beside ts t
 beside_known ts t m k = any_same (λ (s : Slot). clashes (named m s.name) (source t s.name)) (λ (s : Slot). clash_in t ts s.name) (λ s. k.beside s.name (source t s.name)) t.slots
 
+-- a map that has nothing knows no parents
+pub known_none : {S : Type 0} (m : HashMap (Vec ℕ Global) Standing S) → ((w : List ℕ) → named m w ≡ None) → Knows [] m
+known_none m h = record { beside = λ w x. ap (λ k. clashes k x) (h w) ∙ go x; over = λ w. ap (λ k. is_some (nomask_versions k)) (h w) }
+  where
+    by : (b : Bool) (v : Option ProgId) → differ (if b then None else None) v ≡ false
+    by true v = refl
+    by false v = refl
+
+    go : (x : Option Source) → clashes None x ≡ false
+    go None = refl
+    go (Some y) = by (is_nomask_number y.mods) y.version
+
 -- nothing of another parent is known yet
 pub some_none : {S : Type 0} (ts : List Tables) (t : Tables) (m : HashMap (Vec ℕ Global) Standing S) → Knows ts m → KnowsSome ts t [] m
 some_none ts t m k = record { beside = λ w x. k.beside w x ∙ sym (or_false (list_any (λ p. clash (source p w) x) ts)); over = λ w. k.over w ∙ sym (or_false (overrides ts w)) }

@@ -5,3 +5,5 @@ pub mod Taken
 pub mod Listing
 pub mod Sizes
 pub mod Beside
+pub mod Gathered
+pub mod FirstFaults

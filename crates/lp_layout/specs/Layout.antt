@@ -163,6 +163,14 @@ functions (Proto line ms ty name ps ∷ is) = functions is
 functions (Fun line ms ty name ps b ∷ is) = suc (functions is)
 functions (Var line ms base ds ∷ is) = functions is
 
+-- how many inherits
+abbrev pub inherits : List ItemTree → ℕ
+inherits [] = 0
+inherits (Inherit line path ∷ is) = suc (inherits is)
+inherits (Proto line ms ty name ps ∷ is) = inherits is
+inherits (Fun line ms ty name ps b ∷ is) = inherits is
+inherits (Var line ms base ds ∷ is) = inherits is
+
 -- the versions of the parents' parts, in order
 abbrev pub parts_before : List Tables → List ProgId
 parts_before [] = []

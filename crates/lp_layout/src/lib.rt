@@ -1,9 +1,14 @@
 //! The tables of a version, and the faults of their layout.
 #![tactic(auto)]
 
+pub mod fault;
+mod faults;
+pub mod layout;
 mod nomask;
 mod origin;
 mod own;
+pub mod piece;
+mod pieces;
 mod rows;
 mod shown;
 pub mod source;
