@@ -1,0 +1,5 @@
+pub mod Clearing
+pub mod Forms
+pub mod Leading
+pub mod Loops
+pub mod Scopes
