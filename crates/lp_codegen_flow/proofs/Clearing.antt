@@ -12,7 +12,7 @@ use Rattle.lp_language.specs.Scope.{Names, declared, declared_first, declared_ea
 use Rattle.lp_isa.specs.Translates.{Clears}
 use Rattle.lp_codegen_expr.specs.declared.code.Draft.TheVariants.{Done}
 use Rattle.lp_codegen_expr.specs.Names.{Plan}
-use Rattle.lp_codegen_expr.specs.Drafts.{Sketch, Around, Adds, grown, line}
+use Rattle.lp_codegen_expr.specs.Drafts.{Sketch, Adds, grown, line}
 use Rattle.lp_codegen_expr.proofs.Compose.{adds_then, reform, line_none, line_adds}
 use Rattle.lp_codegen_flow.specs.declared.clears.Which.{Which}
 use Rattle.lp_codegen_flow.specs.declared.clears.Which.TheVariants as which
@@ -40,7 +40,7 @@ slots_more k [] n = let e : k ≡ k + 0 = omega arith in ap (λ j. j ∷ []) e
 slots_more k (m ∷ ns) n = let e : suc k + length ns ≡ k + suc (length ns) = omega arith in
     ap (λ l. k ∷ l) (slots_more (suc k) ns n ∙ ap (λ j. slots_from (suc k) ns ++ j ∷ []) e)
 
-slots_both : (k : ℕ) (ns ms : Names) → slots_from k ns ++ slots_from (k + length ns) ms ≡ slots_from k (ns ++ ms)
+pub slots_both : (k : ℕ) (ns ms : Names) → slots_from k ns ++ slots_from (k + length ns) ms ≡ slots_from k (ns ++ ms)
 slots_both k [] ms = let e : k + 0 ≡ k = omega arith in ap (λ j. slots_from j ms) e
 slots_both k (n ∷ ns) ms = let e : k + suc (length ns) ≡ suc k + length ns = omega arith in
     ap (λ l. k ∷ l) (ap (λ j. slots_from (suc k) ns ++ slots_from j ms) e ∙ slots_both (suc k) ns ms)

@@ -1,24 +1,23 @@
 -- Statements with other statements in them.
-use Rattle.std.proofs.Common.{◌≡◌, ℕ, ◌+◌, ◌<◌, ◌≤◌, List, [], ◌∷◌, ◌++◌, length, take, drop, map, Option, Some, None, refl, sym, ap, ◌∙◌, subst, arith, append_assoc, append-nil, take-append-drop}
-use Rattle.std.specs.Prelude.{option_map}
+use Rattle.std.proofs.Common.{◌≡◌, ℕ, ◌+◌, ◌≤◌, List, [], ◌∷◌, ◌++◌, length, take, drop, map, Option, Some, None, refl, sym, ap, ◌∙◌, subst, append_assoc, append-nil, take-append-drop}
 use Rattle.std.proofs.lemmas.List.{take_all}
-use Rattle.lp_tree.specs.declared.expr.Expr.{Expr}
 use Rattle.lp_tree.specs.Trees.{Tree}
-use Rattle.lp_tree.specs.TreeView.{tree_of}
-use Rattle.lp_tree.specs.Statements.{InitTree, StmtTree, If, NoElse, Else, While, DoWhile, For}
-use Rattle.lp_instr.specs.declared.instr.Instr.TheVariants.{Jump, JumpIfZero, JumpIfNotZero, LoopTurn}
-use Rattle.lp_language.specs.Scope.{Names, behind, declared, declared_first}
+use Rattle.lp_tree.specs.declared.stmt.Each.{Each}
+use Rattle.lp_tree.specs.Statements.{InitTree, StmtTree, If, NoElse, Else, While, DoWhile, For, Foreach}
+use Rattle.lp_language.specs.Resolve.{Heritage}
+use Rattle.lp_instr.specs.declared.instr.Instr.TheVariants.{EachBegin, EachNext, Jump, JumpIfZero, JumpIfNotZero, LoopTurn, Pop}
+use Rattle.lp_language.specs.Scope.{Names, behind, declared, declared_each, declared_first, declared_second, slots_of_each}
 use Rattle.lp_isa.specs.Translates.{Then, Line}
 use Rattle.lp_codegen_expr.specs.declared.code.Draft.{Draft}
 use Rattle.lp_codegen_expr.specs.declared.code.Draft.TheVariants.{Done}
 use Rattle.lp_codegen_expr.specs.declared.scope.Scope.{Scope}
-use Rattle.lp_codegen_expr.specs.Names.{Plan, layout_of}
-use Rattle.lp_codegen_expr.specs.Drafts.{Sketch, Around, Form, Adds, grown, filled, line, after, of_expr}
+use Rattle.lp_codegen_expr.specs.Names.{layout_of}
+use Rattle.lp_codegen_expr.specs.Drafts.{Sketch, Around, Form, Adds, grown, filled, line, after}
 use Rattle.lp_codegen_expr.proofs.Compose.{adds_then, reform, seq, line_none, one_adds, skip, choice}
 use Rattle.lp_codegen_expr.proofs.Trees.{of_tree}
 use Rattle.lp_codegen_flow.specs.Led.{Led}
-use Rattle.lp_codegen_flow.specs.Flows.{Leads, Stands, InitStands, TurnsStand, Hidden, of_stmt, of_init, of_turns, of_run_if, of_test, of_hidden}
-use Rattle.lp_codegen_flow.proofs.Loops.{recoded, within, of_loop, of_do, loop_adds, do_adds}
+use Rattle.lp_codegen_flow.specs.Flows.{EachesStand, OverStands, Stands, InitStands, TurnsStand, Hidden, count_of, of_eaches, of_over, of_stmt, of_turns, of_run_if, of_test, of_hidden}
+use Rattle.lp_codegen_flow.proofs.Loops.{recoded, of_copy, copy_adds, loop_adds, do_adds}
 use Rattle.lp_codegen_flow.proofs.Scopes.{there, forgets}
 
 -- a choice
@@ -102,4 +101,38 @@ for_stands {s0} {s1} {s2} {s3} line i t st b seen se wi wt la na =
       code = seq wi.code (there s0 s1 (of_turns t st b) inner wi.layout wi.names wt.code);
       layout = la ∙ wt.layout ∙ wi.layout;
       names = na ∙ forgets seen ns (declared_first i) s2.locals.items se (wt.names ∙ wi.names) ∙ sym (append-nil ns);
+    }
+
+-- a `foreach`
+each_long : (h : Heritage) (ns : Names) (f : Each) (g : Option Each) → count_of g ≡ length (slots_of_each h ns f g)
+each_long h ns f None = refl
+each_long h ns f (Some g) = refl
+
+over_by : (g : Option Each) (f : Each) (b : StmtTree) (ns : Names) (a : Around) (from to : ℕ) → of_copy (of_eaches f g ns) (of_stmt b (ns ++ declared_each f ++ declared_second g)) (count_of g) a from to → of_over f g b ns a from to
+over_by None f b ns a from to p = p
+over_by (Some g) f b ns a from to p = p
+
+pub over_stands : {s0 s1 s2 : Scope} {old c1 c2 c3 c4 c5 c6 : Sketch} (f : Each) (g : Option Each) (b : StmtTree) (x : Draft) (start turn next leave end v : ℕ) (new : List Draft) → start ≡ length old.code → c1 ≡ grown old (x ∷ []) → turn ≡ length c1.code → c2 ≡ grown c1 (Done LoopTurn ∷ []) → EachesStand f g s0 s1 c2 c3 → Stands b s1 s2 c3 c4 → next ≡ length c4.code → leave ≡ next + 2 → end ≡ next + 4 → c5 ≡ filled c4 start (Done (Jump next)) → v ≡ count_of g → c6 ≡ grown c5 (map Done (EachNext turn v ∷ Jump end ∷ Pop ∷ Pop ∷ [])) → Led turn leave (Some next) c6.code new → OverStands f g b s0 s2 old (recoded c6 new)
+over_stands {s0} {s1} {s2} {old} {c1} {c2} {c3} {c4} {c5} {c6} f g b x start turn next leave end v new es e1 et e2 wk wb en el ee e5 ev e6 led =
+    let ns = s0.locals.items in
+    let inner = ns ++ declared_each f ++ declared_second g in
+    record {
+      code = reform (of_copy (of_eaches f g ns) (of_stmt b inner) (count_of g)) (of_over f g b ns) (λ a from to p. over_by g f b ns a from to p)
+          (copy_adds (of_eaches f g ns) (of_stmt b inner) x start turn next leave end (count_of g) new es e1 et e2 wk.code (there s0 s1 (of_stmt b) inner wk.layout wk.names wb.code) en el ee e5 (e6 ∙ ap (λ n. grown c5 (map Done (EachNext turn n ∷ Jump end ∷ Pop ∷ Pop ∷ []))) ev) led);
+      layout = wb.layout ∙ wk.layout;
+      names = wb.names ∙ ap (λ l. l ++ declared b) wk.names;
+    }
+
+pub foreach_stands : {s0 s1 s2 : Scope} {old c1 c2 new : Sketch} (line : ℕ) (f : Each) (g : Option Each) (e : Tree) (b : StmtTree) (seen v : ℕ) → seen ≡ length s0.locals.items → Adds (layout_of s0.layout) (of_tree s0.locals.items e) old c1 → v ≡ count_of g → c2 ≡ grown c1 (Done (EachBegin v) ∷ []) → OverStands f g b s0 s1 c2 new → s2.layout ≡ s1.layout → s2.locals.items ≡ take seen s1.locals.items → Stands (Foreach line f g e b) s0 s2 old new
+foreach_stands {s0} {s1} {s2} {old} {c1} {c2} {new} line f g e b seen v se we ev e2 wo la na =
+    let ns = s0.locals.items in
+    let l = layout_of s0.layout in
+    let begin : Form = after (of_tree ns e) (λ a. Line a.code (EachBegin (count_of g) ∷ [])) in
+    let names : ns ++ declared_each f ++ declared_second g ++ declared b ≡ ns ++ (declared_each f ++ declared_second g ++ declared b) =
+    ap (λ x. x ++ declared b) (append_assoc ns (declared_each f) (declared_second g)) ∙ append_assoc ns (declared_each f ++ declared_second g) (declared b) in
+    record {
+      code = adds_then l begin (of_over f g b ns) (of_stmt (Foreach line f g e b) ns) old c2 new (seq we (one_adds (EachBegin (count_of g)) (e2 ∙ ap (λ n. grown c1 (Done (EachBegin n) ∷ [])) ev))) wo.code
+          (λ a p q. (length c2.code, (p.0, p.1, subst (λ n. Line a.code (EachBegin n ∷ []) p.0 (length c2.code)) (each_long a.heritage ns f g) p.2), q));
+      layout = la ∙ wo.layout;
+      names = na ∙ forgets seen ns (declared_each f ++ declared_second g ++ declared b) s1.locals.items se (wo.names ∙ names) ∙ sym (append-nil ns);
     }

@@ -3,3 +3,4 @@ pub mod Forms
 pub mod Leading
 pub mod Loops
 pub mod Scopes
+pub mod Switching

@@ -1,6 +1,6 @@
 -- Statements and declarations, with the locals that are seen behind them.
-use Rattle.std.proofs.Common.{◌≡◌, ℕ, suc, ◌+◌, ◌<◌, List, [], ◌∷◌, ◌++◌, length, take, get_or, map, Option, Some, None, refl, sym, ap, ◌∙◌, subst, arith, length-append, append_assoc, append-nil}
-use Rattle.std.proofs.lemmas.List.{take_all, take_more, take-append-le, map_push}
+use Rattle.std.proofs.Common.{◌≡◌, ℕ, ◌+◌, List, [], ◌∷◌, ◌++◌, length, take, map, Option, Some, None, refl, sym, ap, ◌∙◌, subst, arith, append_assoc, append-nil}
+use Rattle.std.proofs.lemmas.List.{take_all, take-append-le}
 use Rattle.lp_tree.specs.declared.stmt.Each.{Each}
 use Rattle.lp_tree.specs.declared.types.TypeName.{TypeName}
 use Rattle.lp_tree.specs.Trees.{Tree}
@@ -9,15 +9,15 @@ use Rattle.lp_tree.specs.StatementView.{stmt_trees}
 use Rattle.lp_instr.specs.Code.{Code}
 use Rattle.lp_instr.specs.declared.instr.Instr.TheVariants.{SetLocal, Pop}
 use Rattle.lp_language.specs.Resolve.{Heritage}
-use Rattle.lp_language.specs.Scope.{Names, behind, declared, declared_each, declared_second, loose, names_of, slot_of_each}
-use Rattle.lp_isa.specs.Translates.{MakesOnes, MakesStmts}
+use Rattle.lp_language.specs.Scope.{Names, behind, declared, declared_each, declared_second, loose, names_of}
+use Rattle.lp_isa.specs.Translates.{MakesOnes}
 use Rattle.lp_codegen_expr.specs.declared.code.Draft.TheVariants.{Done}
 use Rattle.lp_codegen_expr.specs.declared.scope.Scope.{Scope}
 use Rattle.lp_codegen_expr.specs.Names.{Plan, layout_of}
 use Rattle.lp_codegen_expr.specs.Drafts.{Sketch, Around, Form, Adds, grown, line, after, of_write_slot}
-use Rattle.lp_codegen_expr.proofs.Compose.{adds_then, reform, seq, line_none, line_adds}
+use Rattle.lp_codegen_expr.proofs.Compose.{adds_then, reform, line_none, line_adds}
 use Rattle.lp_codegen_flow.specs.Cleared.{of_clears}
-use Rattle.lp_codegen_flow.specs.Flows.{Leads, Stands, AllStand, OnesStand, InitStands, EachStands, SecondStands, EachesStand, behind_all, of_stmt, of_stmts, of_value_if, of_ones, of_run, of_each, of_second, of_eaches}
+use Rattle.lp_codegen_flow.specs.Flows.{Stands, AllStand, OnesStand, InitStands, EachStands, SecondStands, EachesStand, behind_all, of_stmt, of_stmts, of_value_if, of_ones, of_run, of_each, of_second, of_eaches}
 
 -- where another scope stands that is the same
 pub there : {old new : Sketch} (s0 s1 : Scope) (F : Names → Form) (ns : Names) → s1.layout ≡ s0.layout → s1.locals.items ≡ ns → Adds (layout_of s1.layout) (F s1.locals.items) old new → Adds (layout_of s0.layout) (F ns) old new

@@ -1,5 +1,5 @@
 -- Which locals become 0 before a statement.
-use Rattle.std.specs.Prelude.{◌≡◌, ℕ, ◌+◌, List, [], length, map}
+use Rattle.std.specs.Prelude.{◌≡◌, ℕ, ◌+◌, List, [], map}
 use Rattle.lp_tree.specs.declared.stmt.Declarator.{Declarator}
 use Rattle.lp_tree.specs.Statements.{StmtTree}
 use Rattle.lp_tree.specs.StatementView.{declarator_of}

@@ -3,11 +3,11 @@ use Rattle.std.specs.Prelude.{◌≡◌, ℕ, ◌++◌, List, [], ◌∷◌, Opt
 use Rattle.lp_tree.specs.declared.stmt.Each.{Each}
 use Rattle.lp_tree.specs.Trees.{Tree}
 use Rattle.lp_tree.specs.Statements.{DeclaratorTree, InitTree, StmtTree, StmtTrees, NoStmt, MoreStmts}
-use Rattle.lp_language.specs.Scope.{Names, behind, declared_each, declared_first, declared_second, names_of, slot_of_each, slots_of_each, slots_of_second}
+use Rattle.lp_language.specs.Scope.{Names, behind, declared, declared_each, declared_first, declared_second, names_of, slot_of_each, slots_of_each, slots_of_second}
 use Rattle.lp_isa.specs.Translates.{Makes, MakesInit, MakesLoop, MakesOnes, MakesOver, MakesRun, MakesRunIf, MakesStmt, MakesStmts, MakesTest, MakesValueIf, TakesAll}
 use Rattle.lp_codegen_expr.specs.declared.scope.Scope.{Scope}
 use Rattle.lp_codegen_expr.specs.Names.{layout_of}
-use Rattle.lp_codegen_expr.specs.Drafts.{Sketch, Around, Form, Adds}
+use Rattle.lp_codegen_expr.specs.Drafts.{Sketch, Form, Adds}
 
 -- the locals that are seen behind some statements, in the block round them
 abbrev pub behind_all : Names → StmtTrees → Names
@@ -106,3 +106,7 @@ of_hidden e seen ns a from to = Makes a.heritage (take seen ns) e a.code from to
 
 abbrev pub Hidden : Tree → ℕ → Scope → Scope → Sketch → Sketch → Type 0
 Hidden e seen was is old new = Leads (of_hidden e seen) was.locals.items was is old new
+
+-- a `foreach` behind its beginning; its locals are still seen
+abbrev pub OverStands : Each → Option Each → StmtTree → Scope → Scope → Sketch → Sketch → Type 0
+OverStands f g b was is old new = Leads (of_over f g b) (was.locals.items ++ declared_each f ++ declared_second g ++ declared b) was is old new

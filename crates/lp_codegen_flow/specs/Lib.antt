@@ -1,3 +1,4 @@
 pub mod Cleared
 pub mod Flows
 pub mod Led
+pub mod Switches

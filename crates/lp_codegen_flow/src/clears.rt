@@ -1,14 +1,16 @@
 //! The code by which locals become 0 where their declaration may be passed over.
 ghost use Rattle.std.specs.Prelude.{◌≡◌, ◌+◌, ◌++◌, IfOk, OnOk, length};
 ghost use Rattle.lp_tree.specs.StatementView.{init_of, stmt_of};
-ghost use Rattle.lp_language.specs.Scope.{declared, declared_each, declared_first, declared_second, slots_from};
+ghost use Rattle.lp_tree.specs.Pieces.{parts_of};
+ghost use Rattle.lp_language.specs.Scope.{declared, declared_each, declared_first, declared_parts, declared_second, slots_from};
 ghost use Rattle.lp_codegen_expr.specs.Names.{Plan};
 ghost use Rattle.lp_codegen_expr.specs.Drafts.{Adds, draft_of};
+ghost use Rattle.lp_codegen_flow.specs.Switches.{declared_part};
 ghost use Rattle.lp_codegen_flow.specs.Cleared.{Cleared, cleared_by, hidden_by, inside_of, local_by, names_in, of_clears};
 
 use lp_codegen_expr::code::{Code, GenFault, counted};
 use lp_instr::instr::Instr;
-use lp_tree::stmt::{Each, Init, Local, Stmt};
+use lp_tree::stmt::{Each, Init, Local, Part, Stmt};
 
 /// Which locals of a statement become 0.
 #[derive(Clone, Copy, Drop)]
@@ -163,4 +165,28 @@ fn clear_hidden(body: &Stmt, which: Which, first: u32, into: &mut Code) -> Resul
         }
         Which::All => Ok(()),
     }
+}
+
+/// All locals of a part of a switch, from a slot on, become 0. The answer is the slot behind them.
+fn clear_part(part: &Part<Stmt>, first: u32, into: &mut Code) -> Result<u32, GenFault>
+    ensures { IfOk result (λ k. Cleared (slots_from first (declared_part part.now)) first (length (declared_part part.now)) k (draft_of into.old) (draft_of into.new)) }
+{
+    match part {
+        Part::Label(_) => Ok(first),
+        Part::Stmt(s) => {
+            let next = gen_clears(s, Which::All, first, into)?;
+            Ok(next)
+        }
+    }
+}
+
+/// All locals of the parts of a switch, from a slot on, become 0.
+pub fn clear_parts(parts: &Vec<Part<Stmt>>, first: u32, into: &mut Code) -> Result<(), GenFault>
+    ensures { OnOk result ((l : Plan) → Adds l (of_clears (slots_from first (declared_parts (parts_of parts.now.items)))) (draft_of into.old) (draft_of into.new)) }
+{
+    let mut slot = first;
+    for part in parts {
+        slot = clear_part(part, slot, into)?;
+    }
+    Ok(())
 }

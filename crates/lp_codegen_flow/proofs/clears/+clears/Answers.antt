@@ -1,4 +1,4 @@
-use Rattle.std.proofs.Common.{◌≡◌, ◌+◌, [], refl, sym, ap, ◌∙◌}
+use Rattle.std.proofs.Common.{◌+◌, refl, sym, ap, ◌∙◌}
 use Rattle.lp_tree.specs.declared.stmt.Stmt.TheVariants as variants
 use Rattle.lp_tree.specs.TreeView.{tree_of}
 use Rattle.lp_tree.specs.StatementView.{stmt_of, local_of, init_of}

@@ -1,4 +1,4 @@
-use Rattle.std.proofs.Common.{◌≡◌, ◌+◌, ◌<◌, length, get_or, refl, sym, ap, ◌∙◌, arith}
+use Rattle.std.proofs.Common.{◌≡◌, ◌<◌, length, get_or, sym, ap, ◌∙◌, arith}
 use Rattle.lp_codegen_flow.proofs.Clearing.{cleared_none, local_more, local_all}
 use Rattle.lp_codegen_flow.proofs.clears.clear_each.Goals as goal
 

@@ -1,4 +1,4 @@
-use Rattle.std.proofs.Common.{◌≡◌, ◌<◌, ◌≤◌, length, refl, arith}
+use Rattle.std.proofs.Common.{refl, arith}
 use Rattle.lp_codegen_flow.proofs.Leading.{led_none, led_more, led_all}
 use Rattle.lp_codegen_flow.proofs.led.lead.Goals as goal
 

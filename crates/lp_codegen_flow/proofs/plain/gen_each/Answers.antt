@@ -1,4 +1,4 @@
-use Rattle.std.proofs.Common.{◌≡◌, [], ◌∷◌, ◌++◌, refl, ap, ◌∙◌}
+use Rattle.std.proofs.Common.{[], ◌∷◌, ◌++◌, refl, ap, ◌∙◌}
 use Rattle.lp_instr.specs.declared.instr.Instr.TheVariants.{Pop}
 use Rattle.lp_codegen_expr.proofs.Compose.{one_adds}
 use Rattle.lp_codegen_flow.proofs.Scopes.{each_local, each_there}

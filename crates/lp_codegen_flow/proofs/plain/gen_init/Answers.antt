@@ -1,4 +1,4 @@
-use Rattle.std.proofs.Common.{ap, sym, ◌≡◌}
+use Rattle.std.proofs.Common.{ap, sym}
 use Rattle.lp_tree.specs.TreeView.{tree_of}
 use Rattle.lp_tree.specs.StatementView.{init_of, local_of}
 use Rattle.lp_codegen_flow.proofs.Scopes.{init_none, init_declares, init_runs, init_as}

@@ -1,4 +1,4 @@
-use Rattle.std.proofs.Common.{◌≡◌, [], ◌∷◌, ◌++◌, refl, ap, ◌∙◌}
+use Rattle.std.proofs.Common.{[], ◌∷◌, ◌++◌, refl, ap, ◌∙◌}
 use Rattle.lp_tree.specs.StatementView.{declarator_of}
 use Rattle.lp_codegen_flow.proofs.Scopes.{one_stands}
 use Rattle.lp_codegen_flow.proofs.plain.gen_one.Goals as goal

@@ -1,4 +1,4 @@
-use Rattle.std.proofs.Common.{ap, sym, ◌≡◌}
+use Rattle.std.proofs.Common.{ap, sym}
 use Rattle.std.specs.Prelude.{option_map}
 use Rattle.lp_tree.specs.TreeView.{tree_of}
 use Rattle.lp_codegen_expr.proofs.Compose.{line_none}

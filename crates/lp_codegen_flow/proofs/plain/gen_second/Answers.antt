@@ -1,4 +1,4 @@
-use Rattle.std.proofs.Common.{sym, ◌≡◌}
+use Rattle.std.proofs.Common.{sym}
 use Rattle.lp_codegen_flow.proofs.Scopes.{second_none, second_some, second_as}
 use Rattle.lp_codegen_flow.proofs.plain.gen_second.Goals as goal
 

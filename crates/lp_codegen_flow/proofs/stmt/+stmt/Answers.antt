@@ -1,15 +1,19 @@
-use Rattle.std.proofs.Common.{◌≡◌, ◌+◌, ◌<◌, ◌≤◌, [], ◌∷◌, ◌++◌, length, take, get_or, map, Option, Some, None, refl, sym, ap, ◌∙◌, arith}
+use Rattle.std.proofs.Common.{◌≡◌, ◌+◌, ◌<◌, [], ◌∷◌, ◌++◌, length, take, get_or, map, refl, sym, ap, ◌∙◌, arith}
 use Rattle.std.specs.Prelude.{option_map}
 use Rattle.std.proofs.lemmas.List.{take_more, take_all, map_push}
 use Rattle.lp_tree.specs.declared.stmt.Stmt.TheVariants as variants
-use Rattle.lp_tree.specs.Statements.{Empty as EmptyTree, Run as RunTree, If as IfTree, NoElse, Else, While as WhileTree, DoWhile as DoTree, For as ForTree, Break as BreakTree, Continue as ContinueTree, Return as ReturnTree}
+use Rattle.lp_tree.specs.Statements.{Empty as EmptyTree, Run as RunTree, If as IfTree, NoElse, Else, While as WhileTree, DoWhile as DoTree, For as ForTree, Foreach as ForeachTree, Break as BreakTree, Continue as ContinueTree, Return as ReturnTree}
 use Rattle.lp_tree.specs.TreeView.{tree_of}
-use Rattle.lp_tree.specs.StatementView.{declarator_of, init_of, local_of, stmt_of, stmt_trees}
-use Rattle.lp_tree.proofs.StmtNodes.{block_tree, break_tree, continue_tree, declares_tree, do_tree, else_tree, empty_tree, for_tree, if_tree, return_tree, run_tree, while_tree}
+use Rattle.lp_tree.specs.StatementView.{init_of, local_of, stmt_of, stmt_trees}
+use Rattle.lp_tree.proofs.StmtNodes.{block_tree, break_tree, continue_tree, declares_tree, do_tree, else_tree, empty_tree, for_tree, foreach_tree, if_tree, return_tree, run_tree, switch_tree, while_tree}
 use Rattle.lp_codegen_expr.proofs.Compose.{line_none}
 use Rattle.lp_codegen_flow.proofs.Scopes.{all_as, all_more, all_none, as_tree, block_stands, declares_stands, next_stands, stays}
-use Rattle.lp_codegen_flow.proofs.Forms.{do_stands, else_stands, for_stands, if_stands, turns_stand, while_stands}
+use Rattle.lp_codegen_flow.proofs.Forms.{do_stands, else_stands, for_stands, foreach_stands, if_stands, over_stands, turns_stand, while_stands}
+use Rattle.lp_codegen_flow.proofs.Switching.{joined, part_as, parts_as, parts_more, parts_none, stmt_part, switch_stands, table_stands}
+use Rattle.lp_codegen_expr.specs.Drafts.{draft_of}
+use Rattle.lp_codegen_flow.specs.Switches.{PartStands}
 use Rattle.lp_codegen_flow.proofs.stmt.+stmt.Goals as goal
+use Rattle.lp_codegen_flow.proofs.stmt.+stmt.Goals.{gen_parts-in-Label+in_ok-gen_label-in-Label, gen_parts-in-Stmt+in_ok-gen_next-in-Stmt}
 
 pub gen_stmt-returns-in_ok-gen_block-in-Block : goal.gen_stmt-returns-in_ok-gen_block-in-Block
 gen_stmt-returns-in_ok-gen_block-in-Block t c =
@@ -110,3 +114,50 @@ gen_for-returns t c =
 pub gen_turns-returns : goal.gen_turns-returns
 gen_turns-returns t c =
     turns_stand (option_map tree_of c.args.test.now) (option_map tree_of c.args.step.now) (stmt_of c.args.body.now) _ c.len-seen.result _ _ _ _ _ _ (c.len-seen.ensures ∙ c.args.scope.now.locals.ok.0) c.in_ok-start.ensures c.in_ok-put.ensures c.in_ok-turn.ensures c.in_ok-put-2.ensures c.in_ok-gen_stmt.ensures refl c.truncate.ensures.items c.in_ok-again.ensures c.in_ok-gen_run_if.ensures c.in_ok-tested.ensures c.fill.ensures c.in_ok-gen_test.ensures c.in_ok-out.ensures c.lead.ensures
+
+pub gen_stmt-returns-in_ok-gen_foreach-in-Foreach : goal.gen_stmt-returns-in_ok-gen_foreach-in-Foreach
+gen_stmt-returns-in_ok-gen_foreach-in-Foreach t c =
+    as_tree _ _ (ap stmt_of c.in-Foreach.is ∙ foreach_tree c.in-Foreach.line c.in-Foreach.first c.in-Foreach.second c.in-Foreach.over c.in-Foreach.body ∙ ap (λ x. ForeachTree c.in-Foreach.line c.in-Foreach.first c.in-Foreach.second (tree_of c.in-Foreach.over) (stmt_of x)) (sym c.deref-in-Foreach.ensures)) (c.in_ok-gen_foreach-in-Foreach.ensures c.in-Foreach.line)
+
+pub gen_stmt-returns-in_ok-gen_switch-in-Switch : goal.gen_stmt-returns-in_ok-gen_switch-in-Switch
+gen_stmt-returns-in_ok-gen_switch-in-Switch t c =
+    as_tree _ _ (ap stmt_of c.in-Switch.is ∙ switch_tree c.in-Switch.line c.in-Switch.on c.in-Switch.parts) (c.in_ok-gen_switch-in-Switch.ensures c.in-Switch.line)
+
+pub gen_foreach-returns : goal.gen_foreach-returns
+gen_foreach-returns t c =
+    λ line. foreach_stands line c.args.first.now c.args.second.now (tree_of c.args.over.now) (stmt_of c.args.body.now) c.len-seen.result c.each_vars.result (c.len-seen.ensures ∙ c.args.scope.now.locals.ok.0) c.in_ok-gen_expr.ensures c.each_vars.ensures c.in_ok-put.ensures c.in_ok-gen_over.ensures refl c.truncate.ensures.items
+
+pub gen_over-returns : goal.gen_over-returns
+gen_over-returns t c =
+    over_stands c.args.first.now c.args.second.now (stmt_of c.args.body.now) _ _ _ _ _ _ c.each_vars.result _ c.in_ok-start.ensures c.in_ok-put.ensures c.in_ok-turn.ensures c.in_ok-put-2.ensures c.in_ok-gen_eaches.ensures c.in_ok-gen_stmt.ensures c.in_ok-next.ensures c.in_ok-leave.ensures c.in_ok-end.ensures c.fill.ensures c.each_vars.ensures c.in_ok-put_all.ensures c.lead.ensures
+
+pub gen_switch-returns : goal.gen_switch-returns
+gen_switch-returns t c =
+    λ line. switch_stands line (tree_of c.args.on.now) c.args.parts.now.items c.len-seen.result c.in_ok-first.first (c.len-seen.ensures ∙ c.args.scope.now.locals.ok.0) c.in_ok-first.ensures c.in_ok-gen_expr.ensures c.in_ok-clear_parts.ensures c.in_ok-gen_table.ensures refl c.truncate.ensures.items
+
+pub gen_table-returns : goal.gen_table-returns
+gen_table-returns t c =
+    table_stands c.args.parts.now.items c.in_ok-labels.labels _ _ _ _ _ _ c.in_ok-start.ensures c.in_ok-put.ensures c.in_ok-first.ensures c.in_ok-labels.ensures c.in_ok-end.ensures c.lead.ensures c.in_ok-row.ensures c.fill.ensures
+
+pub gen_parts-loop-part-init : goal.gen_parts-loop-part-init
+gen_parts-loop-part-init t c = parts_none c.new.ensures.items refl
+
+pub gen_parts-loop-part-preserved : goal.gen_parts-loop-part-preserved
+gen_parts-loop-part-preserved t c =
+    let all = c.args.parts.now.items in
+    let i = c.loop-part.part-index in
+    let x = c.part-item.result in
+    let lt : i < length all = omega (arith, c.loop-part-test.true, ap length c.deref-part-items.ensures.value) in
+    let is : get_or all i x ≡ x = ap (λ l. get_or l i x) (sym c.deref-part-items.ensures.value) ∙ sym c.part-item.is in
+    let more : take (i + 1) all ≡ take i all ++ x ∷ [] = take_more all i x lt ∙ ap (λ y. take i all ++ y ∷ []) is in
+    let step : PartStands x c.loop-part.labels c.match-part.labels c.loop-part.scope c.match-part.scope (draft_of c.loop-part.into) (draft_of c.match-part.into) =
+    elim c.match-part.branch [
+      | gen_parts-in-Label+in_ok-gen_label-in-Label w ↦ joined x (sym w.labels-is) (sym w.scope-is) (sym w.into-is) (part_as (sym w.in-Label.is) (w.in_ok-gen_label-in-Label.ensures c.loop-part.scope))
+      | gen_parts-in-Stmt+in_ok-gen_next-in-Stmt w ↦ joined x (sym w.labels-is) (sym w.scope-is) (sym w.into-is) (part_as (sym w.in-Stmt.is) (stmt_part w.in-Stmt.s w.in_ok-gen_next-in-Stmt.ensures))
+    ] in
+    parts_as (sym more) (parts_more (take i all) x c.loop-part.invariant step)
+
+pub gen_parts-returns : goal.gen_parts-returns
+gen_parts-returns t c =
+    let all = c.args.parts.now.items in
+    parts_as (take_all c.loop-part.part-index all (omega (arith, ap length c.deref-part-items.ensures.value))) c.loop-part.invariant

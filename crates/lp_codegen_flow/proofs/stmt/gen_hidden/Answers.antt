@@ -1,4 +1,4 @@
-use Rattle.std.proofs.Common.{◌≡◌, ◌≤◌, length, refl, sym, ap, ◌∙◌, arith}
+use Rattle.std.proofs.Common.{◌≡◌, length, refl, ◌∙◌, arith}
 use Rattle.lp_tree.specs.TreeView.{tree_of}
 use Rattle.lp_codegen_flow.proofs.Forms.{hides, hides_none}
 use Rattle.lp_codegen_flow.proofs.stmt.gen_hidden.Goals as goal
