@@ -1,4 +1,5 @@
 pub mod Clearing
+pub mod Closing
 pub mod Forms
 pub mod Leading
 pub mod Loops

@@ -122,7 +122,7 @@ next_stands {s0} {s1} {old} {mid} {new} t n e v w =
     }
 
 -- more names
-later_names : (ns : Names) (ss : StmtTrees) → (ms : Names) × (behind_all ns ss ≡ ns ++ ms)
+pub later_names : (ns : Names) (ss : StmtTrees) → (ms : Names) × (behind_all ns ss ≡ ns ++ ms)
 later_names ns NoStmt = ([], sym (append-nil ns))
 later_names ns (MoreStmts s ss) = let h = later_names (behind ns s) ss in (declared s ++ h.0, h.1 ∙ append_assoc ns (declared s) h.0)
 

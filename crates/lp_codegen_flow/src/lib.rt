@@ -5,6 +5,7 @@
 #![tactic(auto)]
 
 pub mod clears;
+pub mod fun;
 pub mod labels;
 pub mod led;
 pub mod plain;

@@ -234,13 +234,13 @@ fn gen_turns(
     into.put(Instr::LoopTurn)?;
     gen_stmt(body, scope, into)?;
     scope.locals.truncate(seen);
-    let again = into.here()?;
+    let stepped = into.here()?;
     gen_run_if(step, scope, into)?;
     let tested = into.here()?;
     into.fill(start, Instr::Jump(tested));
     gen_test(test, turn, scope, into)?;
     let out = into.here()?;
-    lead(&mut into.instrs, turn, out, Some(again));
+    lead(&mut into.instrs, turn, out, Some(stepped));
     Ok(())
 }
 

@@ -113,7 +113,7 @@ gen_for-returns t c =
 
 pub gen_turns-returns : goal.gen_turns-returns
 gen_turns-returns t c =
-    turns_stand (option_map tree_of c.args.test.now) (option_map tree_of c.args.step.now) (stmt_of c.args.body.now) _ c.len-seen.result _ _ _ _ _ _ (c.len-seen.ensures ∙ c.args.scope.now.locals.ok.0) c.in_ok-start.ensures c.in_ok-put.ensures c.in_ok-turn.ensures c.in_ok-put-2.ensures c.in_ok-gen_stmt.ensures refl c.truncate.ensures.items c.in_ok-again.ensures c.in_ok-gen_run_if.ensures c.in_ok-tested.ensures c.fill.ensures c.in_ok-gen_test.ensures c.in_ok-out.ensures c.lead.ensures
+    turns_stand (option_map tree_of c.args.test.now) (option_map tree_of c.args.step.now) (stmt_of c.args.body.now) _ c.len-seen.result _ _ _ _ _ _ (c.len-seen.ensures ∙ c.args.scope.now.locals.ok.0) c.in_ok-start.ensures c.in_ok-put.ensures c.in_ok-turn.ensures c.in_ok-put-2.ensures c.in_ok-gen_stmt.ensures refl c.truncate.ensures.items c.in_ok-stepped.ensures c.in_ok-gen_run_if.ensures c.in_ok-tested.ensures c.fill.ensures c.in_ok-gen_test.ensures c.in_ok-out.ensures c.lead.ensures
 
 pub gen_stmt-returns-in_ok-gen_foreach-in-Foreach : goal.gen_stmt-returns-in_ok-gen_foreach-in-Foreach
 gen_stmt-returns-in_ok-gen_foreach-in-Foreach t c =
