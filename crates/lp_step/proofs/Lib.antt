@@ -1,0 +1,3 @@
+pub mod Moves
+pub mod Fits
+pub mod Dispatch

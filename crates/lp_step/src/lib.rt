@@ -1,0 +1,13 @@
+//! One instruction on the live state.
+//!
+//! Each instruction is one function over what it touches, whose clause is its row of the instruction table, in
+//! every world for which the state stands (`specs/Steps.antt`).
+#![tactic(auto)]
+
+pub mod calls;
+pub mod fault;
+pub mod jumps;
+pub mod next;
+pub mod pushes;
+pub mod stack;
+pub mod step;
