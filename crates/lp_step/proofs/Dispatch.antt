@@ -3,8 +3,9 @@ use Rattle.std.proofs.Common.{◌≡◌, ◌∙◌, ℕ, ℤ, List, Option, Some
 use Rattle.std.specs.Prelude.{IfOk}
 use Rattle.lp_values.specs.declared.value.Value.{Value}
 use Rattle.lp_instr.specs.declared.efun.Efun.{Efun}
+use Rattle.lp_tree.specs.declared.expr.Edge.{Edge}
 use Rattle.lp_instr.specs.declared.instr.Instr.{Instr}
-use Rattle.lp_instr.specs.declared.instr.Instr.TheVariants.{PushInt, PushText, PushLocal, SetLocal, Pop, Dup, Dup2, Jump, JumpIfZero, JumpIfNotZero, KeepIfZero, KeepIfNotZero, LoopTurn, CallSlot, CallFixed, CallOther, CallEfun, CallSimul, CatchBegin, CatchEnd, Return, ReturnZero}
+use Rattle.lp_instr.specs.declared.instr.Instr.TheVariants.{PushInt, PushText, PushLocal, SetLocal, Pop, Dup, Dup2, Jump, JumpIfZero, JumpIfNotZero, KeepIfZero, KeepIfNotZero, LoopTurn, CallSlot, CallFixed, CallOther, CallEfun, CallSimul, CatchBegin, CatchEnd, Return, ReturnZero, PushGlobal, SetGlobal, Index}
 use Rattle.lp_isa.specs.Machine.{Moment, Next, Goes, act_at, step}
 use Rattle.lp_world.specs.declared.frame.Frame.{Frame}
 use Rattle.lp_world.specs.declared.live.Live.{Live}
@@ -27,8 +28,8 @@ steps i live0 live1 stack0 stack1 frame0 frame1 budget0 budget1 n e p = λ a m h
     (p a m h (subst (λ o. IsFine (act_at a.code a.scene o m)) q fine) (named i q))
 
 -- what the instruction needs is there
-pub finds : (live : Live) (stack : List Value) (frame : Frame) (i : Instr) → CanStep live stack frame → instr_at frame ≡ Some i → Finds stack frame i
-finds live stack frame i h e = subst (Finds stack frame) (ap (λ o. unwrap_or o i) (sym h.found ∙ e)) h.finds
+pub finds : (live : Live) (stack : List Value) (frame : Frame) (i : Instr) → CanStep live stack frame → instr_at frame ≡ Some i → Finds live stack frame i
+finds live stack frame i h e = subst (Finds live stack frame) (ap (λ o. unwrap_or o i) (sym h.found ∙ e)) h.finds
 
 -- an instruction that may run out of memory
 pub steps_ok : (i : Instr) (live0 live1 : Live) (stack0 stack1 : List Value) (frame0 frame1 : Frame) (budget0 budget1 : ℕ) (r : Result Led StepFault) → instr_at frame0 ≡ Some i
@@ -46,6 +47,12 @@ pub keeps_alone : (live : Live) (stack0 stack1 : List Value) (r : Result Led Ste
 keeps_alone live stack0 stack1 (Ok n) p = p live
 keeps_alone live stack0 stack1 (Err f) p = p
 
+-- an instruction that looks at the state, or changes it, but not the budget
+pub steps_free : (i : Instr) (live0 live1 : Live) (stack0 stack1 : List Value) (frame0 frame1 : Frame) (budget : ℕ) (r : Result Led StepFault) → instr_at frame0 ≡ Some i
+    → IfOk r (λ n. (budget : ℕ) → Performs i live0 stack0 frame0 budget n live1 stack1 frame1 budget) → IfOk r (λ n. Steps live0 stack0 frame0 budget n live1 stack1 frame1 budget)
+steps_free i live0 live1 stack0 stack1 frame0 frame1 budget (Ok n) e p = steps i live0 live1 stack0 stack1 frame0 frame1 budget budget n e (p budget)
+steps_free i live0 live1 stack0 stack1 frame0 frame1 budget (Err f) e p = p
+
 -- two instructions one after the other: what the first told is the moment where the second begins
 pub two_steps : (live0 live1 live2 : Live) (stack0 stack1 stack2 : List Value) (frame0 frame1 frame2 : Frame) (budget0 budget1 budget2 : ℕ) (n : Led)
     → Steps live0 stack0 frame0 budget0 nexts.Again live1 stack1 frame1 budget1 → Steps live1 stack1 frame1 budget1 n live2 stack2 frame2 budget2
@@ -56,7 +63,7 @@ two_steps live0 live1 live2 stack0 stack1 stack2 frame0 frame1 frame2 budget0 bu
     (l.m, l.told, λ f k. q a l.m l.matches f k)
 
 -- only the instructions that are carried out find what they need
-pub carried : (stack : List Value) (frame : Frame) (i : Instr) → Finds stack frame i
+pub carried : (live : Live) (stack : List Value) (frame : Frame) (i : Instr) → Finds live stack frame i
     → ((z : ℤ) → i ≡ PushInt z → ⊥)
     → ((k : ℕ) → i ≡ PushText k → ⊥)
     → ((k : ℕ) → i ≡ PushLocal k → ⊥)
@@ -79,27 +86,33 @@ pub carried : (stack : List Value) (frame : Frame) (i : Instr) → Finds stack f
     → (i ≡ CatchEnd → ⊥)
     → (i ≡ Return → ⊥)
     → (i ≡ ReturnZero → ⊥)
+    → ((k : ℕ) → i ≡ PushGlobal k → ⊥)
+    → ((k : ℕ) → i ≡ SetGlobal k → ⊥)
+    → ((e : Edge) → i ≡ Index e → ⊥)
     → ⊥
-carried stack frame (PushInt z) r n0 n1 n2 n3 n4 n5 n6 n7 n8 n9 n10 n11 n12 n13 n14 n15 n16 n17 n18 n19 n20 n21 = n0 z refl
-carried stack frame (PushText k) r n0 n1 n2 n3 n4 n5 n6 n7 n8 n9 n10 n11 n12 n13 n14 n15 n16 n17 n18 n19 n20 n21 = n1 k refl
-carried stack frame (PushLocal k) r n0 n1 n2 n3 n4 n5 n6 n7 n8 n9 n10 n11 n12 n13 n14 n15 n16 n17 n18 n19 n20 n21 = n2 k refl
-carried stack frame (SetLocal k) r n0 n1 n2 n3 n4 n5 n6 n7 n8 n9 n10 n11 n12 n13 n14 n15 n16 n17 n18 n19 n20 n21 = n3 k refl
-carried stack frame Pop r n0 n1 n2 n3 n4 n5 n6 n7 n8 n9 n10 n11 n12 n13 n14 n15 n16 n17 n18 n19 n20 n21 = n4 refl
-carried stack frame Dup r n0 n1 n2 n3 n4 n5 n6 n7 n8 n9 n10 n11 n12 n13 n14 n15 n16 n17 n18 n19 n20 n21 = n5 refl
-carried stack frame Dup2 r n0 n1 n2 n3 n4 n5 n6 n7 n8 n9 n10 n11 n12 n13 n14 n15 n16 n17 n18 n19 n20 n21 = n6 refl
-carried stack frame (Jump t) r n0 n1 n2 n3 n4 n5 n6 n7 n8 n9 n10 n11 n12 n13 n14 n15 n16 n17 n18 n19 n20 n21 = n7 t refl
-carried stack frame (JumpIfZero t) r n0 n1 n2 n3 n4 n5 n6 n7 n8 n9 n10 n11 n12 n13 n14 n15 n16 n17 n18 n19 n20 n21 = n8 t refl
-carried stack frame (JumpIfNotZero t) r n0 n1 n2 n3 n4 n5 n6 n7 n8 n9 n10 n11 n12 n13 n14 n15 n16 n17 n18 n19 n20 n21 = n9 t refl
-carried stack frame (KeepIfZero t) r n0 n1 n2 n3 n4 n5 n6 n7 n8 n9 n10 n11 n12 n13 n14 n15 n16 n17 n18 n19 n20 n21 = n10 t refl
-carried stack frame (KeepIfNotZero t) r n0 n1 n2 n3 n4 n5 n6 n7 n8 n9 n10 n11 n12 n13 n14 n15 n16 n17 n18 n19 n20 n21 = n11 t refl
-carried stack frame LoopTurn r n0 n1 n2 n3 n4 n5 n6 n7 n8 n9 n10 n11 n12 n13 n14 n15 n16 n17 n18 n19 n20 n21 = n12 refl
-carried stack frame (CallSlot k n) r n0 n1 n2 n3 n4 n5 n6 n7 n8 n9 n10 n11 n12 n13 n14 n15 n16 n17 n18 n19 n20 n21 = n13 k n refl
-carried stack frame (CallFixed q j n) r n0 n1 n2 n3 n4 n5 n6 n7 n8 n9 n10 n11 n12 n13 n14 n15 n16 n17 n18 n19 n20 n21 = n14 q j n refl
-carried stack frame (CallOther n) r n0 n1 n2 n3 n4 n5 n6 n7 n8 n9 n10 n11 n12 n13 n14 n15 n16 n17 n18 n19 n20 n21 = n15 n refl
-carried stack frame (CallEfun e n) r n0 n1 n2 n3 n4 n5 n6 n7 n8 n9 n10 n11 n12 n13 n14 n15 n16 n17 n18 n19 n20 n21 = n16 e n refl
-carried stack frame (CallSimul k n) r n0 n1 n2 n3 n4 n5 n6 n7 n8 n9 n10 n11 n12 n13 n14 n15 n16 n17 n18 n19 n20 n21 = n17 k n refl
-carried stack frame (CatchBegin t) r n0 n1 n2 n3 n4 n5 n6 n7 n8 n9 n10 n11 n12 n13 n14 n15 n16 n17 n18 n19 n20 n21 = n18 t refl
-carried stack frame CatchEnd r n0 n1 n2 n3 n4 n5 n6 n7 n8 n9 n10 n11 n12 n13 n14 n15 n16 n17 n18 n19 n20 n21 = n19 refl
-carried stack frame Return r n0 n1 n2 n3 n4 n5 n6 n7 n8 n9 n10 n11 n12 n13 n14 n15 n16 n17 n18 n19 n20 n21 = n20 refl
-carried stack frame ReturnZero r n0 n1 n2 n3 n4 n5 n6 n7 n8 n9 n10 n11 n12 n13 n14 n15 n16 n17 n18 n19 n20 n21 = n21 refl
-carried stack frame i r n0 n1 n2 n3 n4 n5 n6 n7 n8 n9 n10 n11 n12 n13 n14 n15 n16 n17 n18 n19 n20 n21 = absurd r
+carried live stack frame (PushInt z) r n0 n1 n2 n3 n4 n5 n6 n7 n8 n9 n10 n11 n12 n13 n14 n15 n16 n17 n18 n19 n20 n21 n22 n23 n24 = n0 z refl
+carried live stack frame (PushText k) r n0 n1 n2 n3 n4 n5 n6 n7 n8 n9 n10 n11 n12 n13 n14 n15 n16 n17 n18 n19 n20 n21 n22 n23 n24 = n1 k refl
+carried live stack frame (PushLocal k) r n0 n1 n2 n3 n4 n5 n6 n7 n8 n9 n10 n11 n12 n13 n14 n15 n16 n17 n18 n19 n20 n21 n22 n23 n24 = n2 k refl
+carried live stack frame (SetLocal k) r n0 n1 n2 n3 n4 n5 n6 n7 n8 n9 n10 n11 n12 n13 n14 n15 n16 n17 n18 n19 n20 n21 n22 n23 n24 = n3 k refl
+carried live stack frame Pop r n0 n1 n2 n3 n4 n5 n6 n7 n8 n9 n10 n11 n12 n13 n14 n15 n16 n17 n18 n19 n20 n21 n22 n23 n24 = n4 refl
+carried live stack frame Dup r n0 n1 n2 n3 n4 n5 n6 n7 n8 n9 n10 n11 n12 n13 n14 n15 n16 n17 n18 n19 n20 n21 n22 n23 n24 = n5 refl
+carried live stack frame Dup2 r n0 n1 n2 n3 n4 n5 n6 n7 n8 n9 n10 n11 n12 n13 n14 n15 n16 n17 n18 n19 n20 n21 n22 n23 n24 = n6 refl
+carried live stack frame (Jump t) r n0 n1 n2 n3 n4 n5 n6 n7 n8 n9 n10 n11 n12 n13 n14 n15 n16 n17 n18 n19 n20 n21 n22 n23 n24 = n7 t refl
+carried live stack frame (JumpIfZero t) r n0 n1 n2 n3 n4 n5 n6 n7 n8 n9 n10 n11 n12 n13 n14 n15 n16 n17 n18 n19 n20 n21 n22 n23 n24 = n8 t refl
+carried live stack frame (JumpIfNotZero t) r n0 n1 n2 n3 n4 n5 n6 n7 n8 n9 n10 n11 n12 n13 n14 n15 n16 n17 n18 n19 n20 n21 n22 n23 n24 = n9 t refl
+carried live stack frame (KeepIfZero t) r n0 n1 n2 n3 n4 n5 n6 n7 n8 n9 n10 n11 n12 n13 n14 n15 n16 n17 n18 n19 n20 n21 n22 n23 n24 = n10 t refl
+carried live stack frame (KeepIfNotZero t) r n0 n1 n2 n3 n4 n5 n6 n7 n8 n9 n10 n11 n12 n13 n14 n15 n16 n17 n18 n19 n20 n21 n22 n23 n24 = n11 t refl
+carried live stack frame LoopTurn r n0 n1 n2 n3 n4 n5 n6 n7 n8 n9 n10 n11 n12 n13 n14 n15 n16 n17 n18 n19 n20 n21 n22 n23 n24 = n12 refl
+carried live stack frame (CallSlot k n) r n0 n1 n2 n3 n4 n5 n6 n7 n8 n9 n10 n11 n12 n13 n14 n15 n16 n17 n18 n19 n20 n21 n22 n23 n24 = n13 k n refl
+carried live stack frame (CallFixed q j n) r n0 n1 n2 n3 n4 n5 n6 n7 n8 n9 n10 n11 n12 n13 n14 n15 n16 n17 n18 n19 n20 n21 n22 n23 n24 = n14 q j n refl
+carried live stack frame (CallOther n) r n0 n1 n2 n3 n4 n5 n6 n7 n8 n9 n10 n11 n12 n13 n14 n15 n16 n17 n18 n19 n20 n21 n22 n23 n24 = n15 n refl
+carried live stack frame (CallEfun e n) r n0 n1 n2 n3 n4 n5 n6 n7 n8 n9 n10 n11 n12 n13 n14 n15 n16 n17 n18 n19 n20 n21 n22 n23 n24 = n16 e n refl
+carried live stack frame (CallSimul k n) r n0 n1 n2 n3 n4 n5 n6 n7 n8 n9 n10 n11 n12 n13 n14 n15 n16 n17 n18 n19 n20 n21 n22 n23 n24 = n17 k n refl
+carried live stack frame (CatchBegin t) r n0 n1 n2 n3 n4 n5 n6 n7 n8 n9 n10 n11 n12 n13 n14 n15 n16 n17 n18 n19 n20 n21 n22 n23 n24 = n18 t refl
+carried live stack frame CatchEnd r n0 n1 n2 n3 n4 n5 n6 n7 n8 n9 n10 n11 n12 n13 n14 n15 n16 n17 n18 n19 n20 n21 n22 n23 n24 = n19 refl
+carried live stack frame Return r n0 n1 n2 n3 n4 n5 n6 n7 n8 n9 n10 n11 n12 n13 n14 n15 n16 n17 n18 n19 n20 n21 n22 n23 n24 = n20 refl
+carried live stack frame ReturnZero r n0 n1 n2 n3 n4 n5 n6 n7 n8 n9 n10 n11 n12 n13 n14 n15 n16 n17 n18 n19 n20 n21 n22 n23 n24 = n21 refl
+carried live stack frame (PushGlobal k) r n0 n1 n2 n3 n4 n5 n6 n7 n8 n9 n10 n11 n12 n13 n14 n15 n16 n17 n18 n19 n20 n21 n22 n23 n24 = n22 k refl
+carried live stack frame (SetGlobal k) r n0 n1 n2 n3 n4 n5 n6 n7 n8 n9 n10 n11 n12 n13 n14 n15 n16 n17 n18 n19 n20 n21 n22 n23 n24 = n23 k refl
+carried live stack frame (Index e) r n0 n1 n2 n3 n4 n5 n6 n7 n8 n9 n10 n11 n12 n13 n14 n15 n16 n17 n18 n19 n20 n21 n22 n23 n24 = n24 e refl
+carried live stack frame i r n0 n1 n2 n3 n4 n5 n6 n7 n8 n9 n10 n11 n12 n13 n14 n15 n16 n17 n18 n19 n20 n21 n22 n23 n24 = absurd r

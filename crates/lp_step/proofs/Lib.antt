@@ -1,3 +1,6 @@
 pub mod Moves
 pub mod Fits
 pub mod Dispatch
+pub mod Led
+pub mod Variables
+pub mod Indexed

@@ -52,12 +52,12 @@ pub length-laid : (ls ops : List Value) → length (laid ls ops) ≡ length ls +
 length-laid ls [] = omega arith
 length-laid ls (x ∷ xs) = omega (arith, length-laid ls xs, length-append (laid ls xs) (x ∷ []))
 
-get_left : {A : Type 0} (xs ys : List A) (i : ℕ) → i < length xs → slice_get (xs ++ ys) i ≡ slice_get xs i
+pub get_left : {A : Type 0} (xs ys : List A) (i : ℕ) → i < length xs → slice_get (xs ++ ys) i ≡ slice_get xs i
 get_left [] ys i h = absurd (omega arith)
 get_left (x ∷ xs) ys zero h = refl
 get_left (x ∷ xs) ys (suc i) h = get_left xs ys i (omega arith)
 
-get_right : {A : Type 0} (xs ys : List A) (n i : ℕ) → n ≡ length xs + i → slice_get (xs ++ ys) n ≡ slice_get ys i
+pub get_right : {A : Type 0} (xs ys : List A) (n i : ℕ) → n ≡ length xs + i → slice_get (xs ++ ys) n ≡ slice_get ys i
 get_right [] ys n i e = let q : n ≡ i = omega arith in ap (λ k. slice_get ys k) q
 get_right (x ∷ xs) ys zero i e = absurd (omega arith)
 get_right (x ∷ xs) ys (suc n) i e = get_right xs ys n i (omega arith)

@@ -4,7 +4,7 @@ use Rattle.lp_values.specs.declared.value.Value.{Value}
 use Rattle.lp_cells.specs.Cells.{IsThere}
 use Rattle.lp_instr.specs.declared.efun.Efun.TheVariants as efun
 use Rattle.lp_instr.specs.declared.instr.Instr.{Instr}
-use Rattle.lp_instr.specs.declared.instr.Instr.TheVariants.{PushInt, PushText, PushLocal, SetLocal, Pop, Dup, Dup2, Jump, JumpIfZero, JumpIfNotZero, KeepIfZero, KeepIfNotZero, LoopTurn, CallSlot, CallFixed, CallOther, CallEfun, CallSimul, CatchBegin, CatchEnd, Return, ReturnZero}
+use Rattle.lp_instr.specs.declared.instr.Instr.TheVariants.{PushInt, PushText, PushLocal, SetLocal, Pop, Dup, Dup2, Jump, JumpIfZero, JumpIfNotZero, KeepIfZero, KeepIfNotZero, Index, PushGlobal, SetGlobal, LoopTurn, CallSlot, CallFixed, CallOther, CallEfun, CallSimul, CatchBegin, CatchEnd, Return, ReturnZero}
 use Rattle.lp_instr.specs.Code.{parent_row}
 use Rattle.lp_instr.specs.Sound.{Bounds, IsNamed}
 use Rattle.lp_language.specs.Course.{Gives, Internal, Parent, OfEfun, Failed, Spent, here}
@@ -14,6 +14,7 @@ use Rattle.lp_values.specs.declared.value.Value.TheVariants as values
 use Rattle.lp_world.specs.declared.frame.Frame.{Frame}
 use Rattle.lp_world.specs.declared.live.Live.{Live}
 use Rattle.lp_world.specs.Closed.{IsClosed}
+use Rattle.lp_world.specs.Rows.{HasPlace, variables_at}
 use Rattle.lp_world.specs.Matches.{Around, Matches}
 use Rattle.lp_step.specs.declared.next.Next.{Next as Led}
 use Rattle.lp_step.specs.declared.next.Next.TheVariants as nexts
@@ -40,37 +41,40 @@ pub record IsFit (live : Live) (stack : List Value) : Type 0 where
   pub there : All (IsThere live.cells) stack
 
 -- what an instruction finds: as many operands as it takes, and what it names
-abbrev pub Finds : List Value → Frame → Instr → Type 0
-Finds stack frame (PushInt z) = ⊤
-Finds stack frame (PushText k) = k < length frame.code.consts
-Finds stack frame (PushLocal k) = frame.bottom + k < length stack
-Finds stack frame (SetLocal k) = (frame.bottom + k < length stack) × (1 ≤ length stack)
-Finds stack frame Pop = 1 ≤ length stack
-Finds stack frame Dup = 1 ≤ length stack
-Finds stack frame Dup2 = 2 ≤ length stack
-Finds stack frame (Jump to) = ⊤
-Finds stack frame (JumpIfZero to) = 1 ≤ length stack
-Finds stack frame (JumpIfNotZero to) = 1 ≤ length stack
-Finds stack frame (KeepIfZero to) = 1 ≤ length stack
-Finds stack frame (KeepIfNotZero to) = 1 ≤ length stack
-Finds stack frame LoopTurn = ⊤
-Finds stack frame (CallSlot k n) = ⊤
-Finds stack frame (CallFixed parent j n) = ⊤
-Finds stack frame (CallOther n) = ⊤
-Finds stack frame (CallEfun e n) = ⊤
-Finds stack frame (CallSimul k n) = ⊤
-Finds stack frame (CatchBegin to) = length stack < 2 ^ 32
-Finds stack frame CatchEnd = 1 ≤ length frame.catches.items
-Finds stack frame Return = 1 ≤ length stack
-Finds stack frame ReturnZero = ⊤
+abbrev pub Finds : Live → List Value → Frame → Instr → Type 0
+Finds live stack frame (PushInt z) = ⊤
+Finds live stack frame (PushText k) = k < length frame.code.consts
+Finds live stack frame (PushLocal k) = frame.bottom + k < length stack
+Finds live stack frame (SetLocal k) = (frame.bottom + k < length stack) × (1 ≤ length stack)
+Finds live stack frame Pop = 1 ≤ length stack
+Finds live stack frame Dup = 1 ≤ length stack
+Finds live stack frame Dup2 = 2 ≤ length stack
+Finds live stack frame (Jump to) = ⊤
+Finds live stack frame (JumpIfZero to) = 1 ≤ length stack
+Finds live stack frame (JumpIfNotZero to) = 1 ≤ length stack
+Finds live stack frame (KeepIfZero to) = 1 ≤ length stack
+Finds live stack frame (KeepIfNotZero to) = 1 ≤ length stack
+Finds live stack frame LoopTurn = ⊤
+Finds live stack frame (CallSlot k n) = ⊤
+Finds live stack frame (CallFixed parent j n) = ⊤
+Finds live stack frame (CallOther n) = ⊤
+Finds live stack frame (CallEfun e n) = ⊤
+Finds live stack frame (CallSimul k n) = ⊤
+Finds live stack frame (CatchBegin to) = length stack < 2 ^ 32
+Finds live stack frame CatchEnd = 1 ≤ length frame.catches.items
+Finds live stack frame Return = 1 ≤ length stack
+Finds live stack frame ReturnZero = ⊤
+Finds live stack frame (PushGlobal k) = HasPlace (variables_at live.objects frame.this) (frame.base + k)
+Finds live stack frame (SetGlobal k) = HasPlace (variables_at live.objects frame.this) (frame.base + k) × (1 ≤ length stack)
+Finds live stack frame (Index edge) = 2 ≤ length stack
 -- all others are not carried out yet
-Finds stack frame _ = ⊥
+Finds live stack frame _ = ⊥
 
 -- There is an instruction, which finds what it needs, and the place behind it has a number.
 pub record CanStep (live : Live) (stack : List Value) (frame : Frame) : Type 0 where
   pub i : Instr
   pub found : instr_at frame ≡ Some i
-  pub finds : Finds stack frame i
+  pub finds : Finds live stack frame i
   pub room : frame.at + 1 < 2 ^ 32
   pub fit : IsFit live stack
 

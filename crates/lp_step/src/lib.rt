@@ -6,8 +6,11 @@
 
 pub mod calls;
 pub mod fault;
+pub mod globals;
+pub mod indexing;
 pub mod jumps;
 pub mod next;
 pub mod pushes;
 pub mod stack;
 pub mod step;
+pub mod worked;

@@ -4,6 +4,8 @@ ghost use Rattle.lp_step.specs.Steps.{CanStep, Keeps, Steps, instr_at};
 
 use crate::calls::{call_efun, call_fixed, call_other, call_simul, call_slot};
 use crate::fault::StepFault;
+use crate::globals::{push_global, set_global};
+use crate::indexing::at_index;
 use crate::jumps::{
     catch_begin, catch_end, jump, jump_if_not_zero, jump_if_zero, keep_if_not_zero, keep_if_zero,
     loop_turn, returns, returns_zero,
@@ -57,6 +59,9 @@ pub fn step(
         Instr::CatchEnd => Ok(catch_end(stack, frame)),
         Instr::Return => Ok(returns(stack, frame)),
         Instr::ReturnZero => Ok(returns_zero(stack, frame)),
+        Instr::PushGlobal(k) => push_global(live, stack, frame, k),
+        Instr::SetGlobal(k) => set_global(live, stack, frame, k),
+        Instr::Index(edge) => at_index(live, stack, frame, budget, edge),
         _ => unreachable!(),
     }
 }

@@ -20,8 +20,8 @@ use Rattle.lp_world.specs.declared.live.Live.{Live}
 use Rattle.lp_world.specs.declared.objects.Object.{Object}
 use Rattle.lp_world.specs.declared.objects.ObjectState.TheVariants as objects_of
 use Rattle.lp_world.specs.Closed.{AreApart, IsClosed, IsObjectClosed, extents_of, object_extents, version_extents}
-use Rattle.lp_world.specs.Laws.{CellsStayClosed, VariablesStayClosed, with_value}
-use Rattle.lp_world.specs.Rows.{object_ticket, own_in, own_of, row_at, shared_of, variables_of}
+use Rattle.lp_world.specs.Laws.{CellsStayClosed, VariablesStayClosed}
+use Rattle.lp_world.specs.Rows.{object_ticket, own_in, own_of, row_at, shared_of, variables_of, with_value}
 use Rattle.lp_world.proofs.Keeping.{get_set, get_set_here, same_or_not}
 
 some_items : (o : Option Content) → IsSome (as_items o) → IsSome o

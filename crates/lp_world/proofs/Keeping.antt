@@ -27,9 +27,9 @@ use Rattle.lp_world.specs.declared.live.Live.{Live}
 use Rattle.lp_world.specs.declared.objects.Object.{Object}
 use Rattle.lp_world.specs.declared.objects.ObjectState.{ObjectState}
 use Rattle.lp_world.specs.declared.objects.ObjectState.TheVariants as objects_of
-use Rattle.lp_world.specs.Laws.{NewCellStands, TheSameLive, TheSameOperands, VariableStands, WriteStands, with_value}
+use Rattle.lp_world.specs.Laws.{NewCellStands, TheSameLive, TheSameOperands, VariableStands, WriteStands}
 use Rattle.lp_world.specs.Records.{contents_of, record_for, shared_for}
-use Rattle.lp_world.specs.Rows.{is_live_row, live_in}
+use Rattle.lp_world.specs.Rows.{is_live_row, live_in, with_value}
 use Rattle.lp_world.specs.Stands.{AreObjects, IsObject, IsOut, IsOwn, IsPart, ObjectIs, Stands, VariablesAre, named_of}
 
 -- Lists

@@ -15,7 +15,7 @@ use Rattle.lp_world.specs.declared.live.Live.{Live}
 use Rattle.lp_world.specs.declared.objects.Object.{Object}
 use Rattle.lp_world.specs.declared.objects.ObjectState.TheVariants as objects_of
 use Rattle.lp_world.specs.Closed.{IsClosed}
-use Rattle.lp_world.specs.Rows.{live_in}
+use Rattle.lp_world.specs.Rows.{live_in, with_value}
 use Rattle.lp_world.specs.Stands.{IsPart, Stands}
 
 -- the same objects are live
@@ -36,10 +36,6 @@ abbrev pub WriteStands : Type 0
 WriteStands = (told : Option Bytes) (programs : List RawProgram) (live : Live) (w : World) (c : CellId) (old new : Content)
     → Stands told programs live w → slice_get live.cells c.0 ≡ Some (Some old)
     → Stands told programs (record live { cells = content_set live.cells c new }) (with_cells w (content_set w.cells c new))
-
--- an object that is in memory, with another value in one of its variables
-abbrev pub with_value : Object → List Value → ℕ → Value → Object
-with_value o vs k v = record o { state = objects_of.Resident (slice_set vs k v) }
 
 abbrev pub VariableStands : Type 0
 VariableStands = (told : Option Bytes) (programs : List RawProgram) (live : Live) (w : World) (o : ObjId) (row : Object) (vs : List Value) (k : ℕ) (v : Value)

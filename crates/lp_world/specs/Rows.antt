@@ -1,5 +1,5 @@
 -- The rows of the state.
-use Rattle.std.specs.Prelude.{ℕ, List, [], Option, Some, None, Bool, false, slice_get, unwrap_or}
+use Rattle.std.specs.Prelude.{◌≡◌, ◌<◌, ℕ, List, [], Option, Some, None, Bool, false, length, slice_get, slice_set, unwrap_or}
 use Rattle.lp_values.specs.declared.id.CellId.{CellId}
 use Rattle.lp_values.specs.declared.id.ObjId.{ObjId}
 use Rattle.lp_values.specs.declared.id.ProgId.{ProgId}
@@ -58,3 +58,17 @@ own_in (Some o) = own_of o.state
 abbrev pub program_ticket : ProgramState → Option Ticket
 program_ticket (programs_of.Resident p) = None
 program_ticket (programs_of.Swapped t) = Some t
+
+-- an object in memory has a variable at a place
+abbrev pub HasPlace : Option (List Value) → ℕ → Type 0
+HasPlace None k = ⊥
+HasPlace (Some vs) k = k < length vs
+
+-- an object that is in memory, with another value in one of its variables
+abbrev pub with_value : Object → List Value → ℕ → Value → Object
+with_value o vs k v = record o { state = objects_of.Resident (slice_set vs k v) }
+
+-- its row was so written, and no other one changed
+abbrev pub IsWritten : List (Option Object) → List (Option Object) → ObjId → ℕ → Value → Type 0
+IsWritten old new id k v =
+    (o : Object) (vs : List Value) → slice_get old id.0 ≡ Some (Some o) → o.state ≡ objects_of.Resident vs → new ≡ slice_set old id.0 (Some (with_value o vs k v))

@@ -2,11 +2,11 @@ use Rattle.std.proofs.Common.{◌≡◌, ◌∙◌, Some, ap, rules}
 use mir.Val.{to_z, of_z}
 use mir.Syntax.{w64}
 use Rattle.lp_instr.specs.declared.instr.Instr.TheVariants as variants
-use Rattle.lp_step.proofs.Dispatch.{carried, finds, keeps_alone, steps, steps_alone}
+use Rattle.lp_step.proofs.Dispatch.{carried, finds, keeps_alone, steps, steps_alone, steps_free, steps_ok}
 use Rattle.lp_step.proofs.step.step.Goals as goal
 
 pub unreachable-requires : goal.unreachable-requires
-unreachable-requires c = carried c.args.stack.now.items c.args.frame.now c.fetch.result (finds _ _ _ _ c.requires c.fetch.ensures) c.in_default.not-PushInt c.in_default.not-PushText c.in_default.not-PushLocal c.in_default.not-SetLocal c.in_default.not-Pop c.in_default.not-Dup c.in_default.not-Dup2 c.in_default.not-Jump c.in_default.not-JumpIfZero c.in_default.not-JumpIfNotZero c.in_default.not-KeepIfZero c.in_default.not-KeepIfNotZero c.in_default.not-LoopTurn c.in_default.not-CallSlot c.in_default.not-CallFixed c.in_default.not-CallOther c.in_default.not-CallEfun c.in_default.not-CallSimul c.in_default.not-CatchBegin c.in_default.not-CatchEnd c.in_default.not-Return c.in_default.not-ReturnZero
+unreachable-requires c = carried c.args.live.now c.args.stack.now.items c.args.frame.now c.fetch.result (finds _ _ _ _ c.requires c.fetch.ensures) c.in_default.not-PushInt c.in_default.not-PushText c.in_default.not-PushLocal c.in_default.not-SetLocal c.in_default.not-Pop c.in_default.not-Dup c.in_default.not-Dup2 c.in_default.not-Jump c.in_default.not-JumpIfZero c.in_default.not-JumpIfNotZero c.in_default.not-KeepIfZero c.in_default.not-KeepIfNotZero c.in_default.not-LoopTurn c.in_default.not-CallSlot c.in_default.not-CallFixed c.in_default.not-CallOther c.in_default.not-CallEfun c.in_default.not-CallSimul c.in_default.not-CatchBegin c.in_default.not-CatchEnd c.in_default.not-Return c.in_default.not-ReturnZero c.in_default.not-PushGlobal c.in_default.not-SetGlobal c.in_default.not-Index
 
 pub returns-in-PushInt : goal.returns-in-PushInt
 returns-in-PushInt c =
@@ -140,4 +140,22 @@ pub returns-in-LoopTurn : goal.returns-in-LoopTurn
 returns-in-LoopTurn c = record {
   table = steps variants.LoopTurn c.args.live.now c.args.live.now _ _ _ _ c.args.budget.now _ c.loop_turn.result c.in-LoopTurn.ensures (c.loop_turn.ensures.table c.args.live.now);
   keeps = c.loop_turn.ensures.keeps c.args.live.now;
+}
+
+pub returns-in-PushGlobal : goal.returns-in-PushGlobal
+returns-in-PushGlobal c = record {
+  table = steps_free (variants.PushGlobal c.in-PushGlobal.k) c.args.live.now c.args.live.now _ _ _ _ c.args.budget.now c.push_global.result c.in-PushGlobal.ensures c.push_global.ensures.table;
+  keeps = c.push_global.ensures.keeps;
+}
+
+pub returns-in-SetGlobal : goal.returns-in-SetGlobal
+returns-in-SetGlobal c = record {
+  table = steps_free (variants.SetGlobal c.in-SetGlobal.k) c.args.live.now _ _ _ _ _ c.args.budget.now c.set_global.result c.in-SetGlobal.ensures c.set_global.ensures.table;
+  keeps = c.set_global.ensures.keeps;
+}
+
+pub returns-in-Index : goal.returns-in-Index
+returns-in-Index c = record {
+  table = steps_ok (variants.Index c.in-Index.edge) c.args.live.now c.args.live.now _ _ _ _ c.args.budget.now _ c.at_index.result c.in-Index.ensures c.at_index.ensures.table;
+  keeps = c.at_index.ensures.keeps;
 }
