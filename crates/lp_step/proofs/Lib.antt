@@ -4,3 +4,4 @@ pub mod Dispatch
 pub mod Led
 pub mod Variables
 pub mod Indexed
+pub mod Operated

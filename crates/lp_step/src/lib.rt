@@ -4,6 +4,7 @@
 //! every world for which the state stands (`specs/Steps.antt`).
 #![tactic(auto)]
 
+pub mod binaries;
 pub mod calls;
 pub mod fault;
 pub mod globals;

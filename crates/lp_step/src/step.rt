@@ -2,6 +2,7 @@
 ghost use Rattle.std.specs.Prelude.{◌≡◌, ◌+◌, ◌<◌, ◌^◌, IfOk, IsSome, Some};
 ghost use Rattle.lp_step.specs.Steps.{CanStep, Keeps, Steps, instr_at};
 
+use crate::binaries::binary_operator;
 use crate::calls::{call_efun, call_fixed, call_other, call_simul, call_slot};
 use crate::fault::StepFault;
 use crate::globals::{push_global, set_global};
@@ -62,6 +63,7 @@ pub fn step(
         Instr::PushGlobal(k) => push_global(live, stack, frame, k),
         Instr::SetGlobal(k) => set_global(live, stack, frame, k),
         Instr::Index(edge) => at_index(live, stack, frame, budget, edge),
+        Instr::Binary(op) => binary_operator(live, stack, frame, budget, op),
         _ => unreachable!(),
     }
 }
