@@ -1,5 +1,5 @@
 -- From an instruction to the step.
-use Rattle.std.proofs.Common.{◌≡◌, ◌∙◌, ℕ, ℤ, List, Option, Some, None, Result, Ok, Err, refl, ap, sym, subst, slice_get, unwrap_or}
+use Rattle.std.proofs.Common.{◌≡◌, ◌∙◌, ℕ, ℤ, List, Some, Result, Ok, Err, refl, ap, sym, subst, slice_get, unwrap_or}
 use Rattle.std.specs.Prelude.{IfOk}
 use Rattle.lp_values.specs.declared.value.Value.{Value}
 use Rattle.lp_instr.specs.declared.efun.Efun.{Efun}
@@ -7,7 +7,7 @@ use Rattle.lp_tree.specs.declared.expr.Edge.{Edge}
 use Rattle.lp_tree.specs.declared.operator.BinOp.{BinOp}
 use Rattle.lp_instr.specs.declared.instr.Instr.{Instr}
 use Rattle.lp_instr.specs.declared.instr.Instr.TheVariants.{PushInt, PushText, PushLocal, SetLocal, Pop, Dup, Dup2, Jump, JumpIfZero, JumpIfNotZero, KeepIfZero, KeepIfNotZero, LoopTurn, CallSlot, CallFixed, CallOther, CallEfun, CallSimul, CatchBegin, CatchEnd, Return, ReturnZero, PushGlobal, SetGlobal, Index, Binary}
-use Rattle.lp_isa.specs.Machine.{Moment, Next, Goes, act_at, step}
+use Rattle.lp_isa.specs.Machine.{Moment, Goes, act_at, step}
 use Rattle.lp_world.specs.declared.frame.Frame.{Frame}
 use Rattle.lp_world.specs.declared.live.Live.{Live}
 use Rattle.lp_world.specs.Matches.{Around, Matches}

@@ -1,5 +1,5 @@
 -- Reading at an index on the state and in the world.
-use Rattle.std.proofs.Common.{◌≡◌, ◌++◌, ◌∷◌, [], ◌∙◌, ℕ, ◌+◌, Bool, List, Option, Result, Ok, Err, All, IfOk, refl, ap, sym, subst}
+use Rattle.std.proofs.Common.{◌≡◌, ◌++◌, ◌∷◌, [], ◌∙◌, ℕ, ◌+◌, Bool, List, Option, Result, Ok, Err, All, IfOk, refl, ap, subst}
 use Rattle.std.proofs.lemmas.List.Elements.{All-head}
 use Rattle.lp_cells.specs.Cells.{IsThere, Store}
 use Rattle.lp_values.specs.declared.value.Value.{Value}
@@ -12,7 +12,7 @@ use Rattle.lp_world.specs.declared.frame.Frame.{Frame}
 use Rattle.lp_world.specs.declared.live.Live.{Live}
 use Rattle.lp_world.specs.declared.objects.Object.{Object}
 use Rattle.lp_world.specs.Rows.{live_in}
-use Rattle.lp_world.specs.Matches.{Around, Matches, laid}
+use Rattle.lp_world.specs.Matches.{Around, Matches}
 use Rattle.lp_world.proofs.Keeping.{live_same, operand_same}
 use Rattle.lp_step.specs.declared.fault.StepFault.{StepFault}
 use Rattle.lp_step.specs.declared.next.Next.{Next as Led}
@@ -30,14 +30,16 @@ pub indexed : (a : Around) (live : Live) (stack0 stack1 stack2 : List Value) (fr
 unfolding item
 indexed a live stack0 stack1 stack2 frame at2 old new m edge d n h (x, i, e, tx, ti, w) t fine =
     on_one_leads To (λ y st. on_one st (λ x rest. push_end (item edge x y m.state) (m.place + 1) m.catches rest)) base m.stack stack0 (stack1 ++ x ∷ []) i h.sits.lies e fine
-      (λ ops l f. on_one_leads To (λ x rest. push_end (item edge x i m.state) (m.place + 1) m.catches rest) base ops (stack1 ++ x ∷ []) stack1 x l refl f
-        (λ ops l f. led a live live.cells stack0 stack1 stack2 frame at2 old new m ops 1 0 0 (operators.index (living m.state) (is_back edge) (seen m.state x) (seen m.state i)) d n h l
-          (subst (λ z. Works 1 z 0 live.cells old d live.cells new) same w) (λ q. refl) t))
+    (λ ops l f. on_one_leads To (λ x rest. push_end (item edge x i m.state) (m.place + 1) m.catches rest) base ops (stack1 ++ x ∷ []) stack1 x l refl f
+    (λ ops l f. led a live live.cells stack0 stack1 stack2 frame at2 old new m ops 1 0 0 (operators.index (living m.state) (is_back edge) (seen m.state x) (seen m.state i)) d n h l
+    (subst (λ z. Works 1 z 0 live.cells old d live.cells new) same w) (λ q. refl) t))
   where
     base : List Value
     base = a.below ++ m.state.locals
+
     To : Next → Type 0
     To y = LeadsTo a n live stack2 (record frame { at = at2 }) new y
+
     same : operators.index (live_in live.objects) (is_back edge) (operand (live_in live.objects) live.cells x) (operand (live_in live.objects) live.cells i) ≡ operators.index (living m.state) (is_back edge) (seen m.state x) (seen m.state i)
     same = ap (λ q. operators.index (live_in live.objects) (is_back edge) q (operand (live_in live.objects) live.cells i)) (operand_same (live_in live.objects) live.cells m.state.world.cells x h.stands.cells tx)
         ∙ ap (λ q. operators.index (live_in live.objects) (is_back edge) (operand (live_in live.objects) m.state.world.cells x) q) (operand_same (live_in live.objects) live.cells m.state.world.cells i h.stands.cells ti)

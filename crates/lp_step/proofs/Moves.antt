@@ -1,29 +1,25 @@
 -- How the state follows the machine, over plain values.
-use Rattle.std.proofs.Common.{◌≡◌, ◌++◌, ◌∷◌, [], ◌∙◌, ℕ, zero, suc, ◌+◌, ◌-◌, ◌<◌, ◌≤◌, List, Option, Some, None, Bool, true, false, length, refl, ap, sym, subst, arith, slice_get, set, length-append, drop, unwrap_or, cond, pos, append_assoc}
-use Rattle.std.specs.Prelude.{slice_set, nat_lt, Vec, if◌then◌else◌}
+use Rattle.std.proofs.Common.{◌≡◌, ◌++◌, ◌∷◌, [], ◌∙◌, ℕ, zero, suc, ◌+◌, ◌-◌, ◌<◌, ◌≤◌, List, Some, Bool, true, false, length, refl, ap, sym, subst, arith, slice_get, length-append, drop, unwrap_or, cond}
+use Rattle.std.specs.Prelude.{slice_set, nat_lt, Vec}
 use Rattle.std.specs.Global.{Global}
-use Rattle.std.proofs.lemmas.Bool.{cases_lt}
 use Rattle.std.proofs.lemmas.List.{set-append_left}
 use Rattle.std.proofs.Math.ListN.{length-set}
-use Rattle.lp_values.specs.declared.id.ObjId.{ObjId}
 use Rattle.lp_values.specs.declared.value.Value.{Value}
 use Rattle.lp_values.specs.declared.value.Value.TheVariants.{Str}
 use Rattle.lp_values.specs.Read.{is_zero}
 use Rattle.lp_instr.specs.Code.{Catching}
 use Rattle.lp_instr.specs.declared.efun.Efun.{Efun}
-use Rattle.lp_language.specs.Course.{State, Scene, Spent, OfEfun, here, Gives, pay, zero_value}
-use Rattle.lp_isa.specs.Machine.{Moment, Next, Goes, Wrong, Ended, goes, awaits, take_arguments, on_one, on_two, on_some, end_catch, end_then, stopped, act}
-use Rattle.lp_language.specs.Operations.{is_false, living, local_of, with_local}
+use Rattle.lp_language.specs.Course.{State, OfEfun, Gives, pay, zero_value}
+use Rattle.lp_isa.specs.Machine.{Moment, Next, Ended, goes, awaits, take_arguments, on_one, on_two, on_some, end_catch, end_then}
+use Rattle.lp_language.specs.Operations.{is_false, local_of, with_local}
 use Rattle.lp_world.specs.declared.frame.Frame.{Frame}
 use Rattle.lp_world.specs.declared.frame.Catch.{Catch}
 use Rattle.lp_world.specs.declared.live.Live.{Live}
 use Rattle.lp_world.specs.Rows.{live_in}
-use Rattle.lp_world.specs.Matches.{Around, Matches, Sits, laid, stacked, catch_of, floor}
+use Rattle.lp_world.specs.Matches.{Around, Matches, laid, stacked, catch_of, floor}
 use Rattle.lp_world.proofs.Keeping.{live_same}
-use Rattle.lp_step.specs.declared.next.Next.{Next as Led}
 use Rattle.lp_step.specs.declared.next.Next.TheVariants as nexts
 use Rattle.lp_step.specs.declared.next.Target.{Target}
-use Rattle.lp_step.specs.declared.next.Target.TheVariants as targets
 use Rattle.lp_step.specs.Steps.{IsFine, LeadsTo, Pays, PaysBy, asked}
 
 abbrev IfTrue : Bool → Type 0

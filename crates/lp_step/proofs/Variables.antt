@@ -1,5 +1,5 @@
 -- Variables of objects on the state and in the world.
-use Rattle.std.proofs.Common.{◌≡◌, ◌++◌, ◌∷◌, [], ◌∙◌, ℕ, ◌+◌, ◌-◌, ◌<◌, List, Option, Some, None, length, length-append, refl, ap, sym, subst, arith, slice_get, unwrap_or}
+use Rattle.std.proofs.Common.{◌≡◌, ◌++◌, ◌∷◌, [], ◌∙◌, ℕ, ◌+◌, ◌-◌, List, Option, Some, None, length, length-append, refl, ap, sym, subst, arith, slice_get, unwrap_or}
 use Rattle.std.specs.Prelude.{slice_set}
 use Rattle.lp_values.specs.declared.id.ObjId.{ObjId}
 use Rattle.lp_values.specs.declared.value.Value.{Value}
@@ -58,11 +58,11 @@ variable_pushed a live stack0 stack1 frame budget m k v h p g e =
     let r = resident live.objects frame.this (frame.base + k) p in
     let there : variables_at live.objects frame.this ≡ Some r.vs = ap (λ o. variables_in (unwrap_or o None)) r.found ∙ ap variables_of r.state in
     let same : r.vs ≡ (object_at m.state.world frame.this).variables =
-        world_variables a.told live.cells m.state.world.cells frame.this.0 r.row r.vs (slice_get m.state.world.objects frame.this.0) r.state
-          (subst (λ o. ObjectIs a.told live.cells m.state.world.cells frame.this.0 o (slice_get m.state.world.objects frame.this.0)) r.found (h.stands.objects frame.this.0)) in
+    world_variables a.told live.cells m.state.world.cells frame.this.0 r.row r.vs (slice_get m.state.world.objects frame.this.0) r.state
+    (subst (λ o. ObjectIs a.told live.cells m.state.world.cells frame.this.0 o (slice_get m.state.world.objects frame.this.0)) r.found (h.stands.objects frame.this.0)) in
     let at : slice_get (object_at m.state.world a.scene.this).variables (a.scene.base + k) ≡ Some v =
-        ap (λ o. slice_get (object_at m.state.world o).variables (a.scene.base + k)) (sym h.sits.belongs.this)
-          ∙ ap (λ l. slice_get l (a.scene.base + k)) (sym same) ∙ ap (λ n. slice_get r.vs (n + k)) (sym h.sits.belongs.base) ∙ g r.vs there in
+    ap (λ o. slice_get (object_at m.state.world o).variables (a.scene.base + k)) (sym h.sits.belongs.this)
+    ∙ ap (λ l. slice_get l (a.scene.base + k)) (sym same) ∙ ap (λ n. slice_get r.vs (n + k)) (sym h.sits.belongs.base) ∙ g r.vs there in
     pushed a live stack0 stack1 frame budget m v (global_of a.scene m.state k) h e (ap (λ o. unwrap_or o zero_value) at)
 
 pub variable_set : (a : Around) (live : Live) (rows : List (Option Object)) (stack : List Value) (frame : Frame) (budget : ℕ) (m : Moment) (k : ℕ) (v : Value) (len : ℕ)
@@ -75,8 +75,10 @@ variable_set a live rows stack frame budget m k v len ll h p g w fine = by m.sta
   where
     base : List Value
     base = a.below ++ m.state.locals
+
     r : IsResident live.objects frame.this
     r = resident live.objects frame.this (frame.base + k) p
+
     by : (st : List Value) → stack ≡ laid base st → IsFine (on_one st (λ u rest. goes (m.place + 1) (u ∷ rest) m.catches (with_global a.scene m.state k u)))
         → LeadsTo a nexts.Again (record live { objects = rows }) stack (record frame { at = frame.at + 1 }) budget (on_one st (λ u rest. goes (m.place + 1) (u ∷ rest) m.catches (with_global a.scene m.state k u)))
     by [] l f = absurd f
@@ -92,7 +94,10 @@ variable_set a live rows stack frame budget m k v len ll h p g w fine = by m.sta
           matches = record {
             stands = rw (sym rows_are, sym vx, sym h.sits.belongs.this, sym h.sits.belongs.base) kept;
             sits = record { lies = l; bottom = h.sits.bottom; locals = h.sits.locals; place = ap (λ n. n + 1) h.sits.place; catches = h.sits.catches; belongs = h.sits.belongs };
-            left = h.left; outputs = h.outputs; player = h.player; commands = h.commands;
+            left = h.left;
+            outputs = h.outputs;
+            player = h.player;
+            commands = h.commands;
           };
           told = refl;
         }

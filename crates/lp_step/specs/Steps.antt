@@ -1,5 +1,5 @@
 -- What one instruction does: what the table says, in every world for which the state stands.
-use Rattle.std.specs.Prelude.{◌≡◌, ℕ, ◌+◌, ◌-◌, ◌<◌, ◌≤◌, ◌^◌, List, [], ◌∷◌, Bool, true, false, ⊤, All, Option, Some, None, IsSome, length, slice_get, nat_lt}
+use Rattle.std.specs.Prelude.{◌≡◌, ℕ, ◌+◌, ◌-◌, ◌<◌, ◌≤◌, ◌^◌, List, [], ◌∷◌, Bool, true, false, ⊤, All, Option, Some, length, slice_get, nat_lt}
 use Rattle.lp_values.specs.declared.value.Value.{Value}
 use Rattle.lp_cells.specs.Cells.{IsThere}
 use Rattle.lp_instr.specs.declared.efun.Efun.TheVariants as efun

@@ -62,6 +62,6 @@ UnaryOn op old new objects cells budget0 d budget1 = (x : Value) × (old ≡ new
 abbrev pub WorksOn : BinOp → List Value → List Value → List (Option Object) → Store → ℕ → Worked → Store → ℕ → Type 0
 WorksOn op old new objects cells budget0 d cells1 budget1 = (x : Value) × (y : Value) × (old ≡ (new ++ x ∷ []) ++ y ∷ []) × IsThere cells x × IsThere cells y
     × Works (binary_before op (operand (live_in objects) cells x) (operand (live_in objects) cells y)) (operators.binary (live_in objects) op (operand (live_in objects) cells x) (operand (live_in objects) cells y))
-        (binary_after (live_in objects) op cells (operators.binary (live_in objects) op (operand (live_in objects) cells x) (operand (live_in objects) cells y))) cells budget0 d cells1 budget1
+    (binary_after (live_in objects) op cells (operators.binary (live_in objects) op (operand (live_in objects) cells x) (operand (live_in objects) cells y))) cells budget0 d cells1 budget1
     × (nat_lt budget0 (binary_before op (operand (live_in objects) cells x) (operand (live_in objects) cells y)) ≡ false
-        → AreSizesSame (live_in objects) cells (operators.binary (live_in objects) op (operand (live_in objects) cells x) (operand (live_in objects) cells y)))
+    → AreSizesSame (live_in objects) cells (operators.binary (live_in objects) op (operand (live_in objects) cells x) (operand (live_in objects) cells y)))

@@ -126,7 +126,14 @@ pub fn binary_operator(
     ensures table { IfOk result (λ n. Performs (Instr.Binary op) live.old stack.old.items frame.old budget.old n live.new stack.new.items frame.new budget.new) }
     ensures keeps { IfOk result (λ n. Keeps live.old stack.old.items n live.new stack.new.items) }
 {
-    let d = operate_top(live.alloc, op, stack, &mut live.cells, &live.objects, budget)?;
+    let d = operate_top(
+        live.alloc,
+        op,
+        stack,
+        &mut live.cells,
+        &live.objects,
+        budget,
+    )?;
     match d {
         Worked::Value(v) => {
             push(stack, v)?;

@@ -1,5 +1,5 @@
 //! Calls: what is asked. Operands stay on the stack.
-ghost use Rattle.std.specs.Prelude.{◌≡◌, ◌+◌, ◌<◌, ◌^◌};
+ghost use Rattle.std.specs.Prelude.{◌+◌, ◌<◌, ◌^◌};
 ghost use Rattle.lp_step.specs.Steps.{Keeps, Performs};
 
 use crate::next::{CallOf, EfunCall, Next, Target};

@@ -89,7 +89,14 @@ pub fn at_index(
     ensures table { IfOk result (λ n. Performs (Instr.Index edge) live.now stack.old.items frame.old budget.old n live.now stack.new.items frame.new budget.new) }
     ensures keeps { IfOk result (λ n. Keeps live.now stack.old.items n live.now stack.new.items) }
 {
-    let d = index_top(live.alloc, is_back(edge), stack, &live.cells, &live.objects, budget)?;
+    let d = index_top(
+        live.alloc,
+        is_back(edge),
+        stack,
+        &live.cells,
+        &live.objects,
+        budget,
+    )?;
     match d {
         Worked::Value(v) => {
             push(stack, v)?;

@@ -1,5 +1,5 @@
 //! Jumps, turns of loops, catches and ends.
-ghost use Rattle.std.specs.Prelude.{◌≡◌, ◌+◌, ◌<◌, ◌≤◌, ◌^◌, IfOk, length};
+ghost use Rattle.std.specs.Prelude.{◌+◌, ◌<◌, ◌≤◌, ◌^◌, IfOk, length};
 ghost use Rattle.lp_step.specs.Steps.{Keeps, Performs};
 
 use crate::fault::StepFault;

@@ -1,5 +1,5 @@
 //! The stack, the catches and the budget.
-ghost use Rattle.std.specs.Prelude.{◌≡◌, ◌+◌, ◌<◌, ◌≤◌, ◌++◌, ◌∷◌, [], OnOk, IfOk, Some, vec_len, slice_get, slice_set, length, List};
+ghost use Rattle.std.specs.Prelude.{◌≡◌, ◌+◌, ◌<◌, ◌≤◌, ◌++◌, ◌∷◌, [], OnOk, IfOk, Some, slice_get, slice_set, length, List};
 ghost use Rattle.lp_values.specs.declared.value.Value.{Value as V};
 ghost use Rattle.lp_values.specs.Read.{is_zero};
 ghost use Rattle.lp_world.specs.Rows.{live_in};

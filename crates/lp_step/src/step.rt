@@ -1,5 +1,5 @@
 //! One instruction.
-ghost use Rattle.std.specs.Prelude.{◌≡◌, ◌+◌, ◌<◌, ◌^◌, IfOk, IsSome, Some};
+ghost use Rattle.std.specs.Prelude.{◌≡◌, ◌<◌, IfOk, IsSome, Some};
 ghost use Rattle.lp_step.specs.Steps.{CanStep, Keeps, Steps, instr_at};
 
 use crate::binaries::binary_operator;

@@ -1,14 +1,12 @@
 -- Closed states stay closed.
-use Rattle.std.proofs.Common.{◌≡◌, ◌⊎◌, ◌++◌, ℕ, suc, zero, List, [], ◌∷◌, Option, Some, None, refl, ap, ◌∙◌, sym, subst, inl, inr, slice_get, unwrap_or, length, IsSome, All, option_map, option_to_list}
+use Rattle.std.proofs.Common.{◌≡◌, ◌++◌, ℕ, suc, zero, List, [], ◌∷◌, Option, Some, None, refl, ap, ◌∙◌, sym, subst, inl, inr, slice_get, unwrap_or, length, IsSome, All, option_map, option_to_list}
 use Rattle.std.specs.Prelude.{slice_set}
 use Rattle.std.specs.List.{flat_map}
 use Rattle.std.proofs.lemmas.List.Elements.{All-nil, All-set, All-weaker}
 use Rattle.std.proofs.Math.ListN.{length-set}
 use Rattle.lp_values.specs.declared.id.CellId.{CellId}
-use Rattle.lp_values.specs.declared.id.ObjId.{ObjId}
 use Rattle.lp_values.specs.declared.value.Value.{Value}
 use Rattle.lp_values.specs.declared.value.Value.TheVariants.{Arr, Map}
-use Rattle.lp_cells.specs.Cells as cells
 use Rattle.lp_cells.specs.Cells.{IsThere, KeepsThere, Store, as_items, as_pairs, content_at}
 use Rattle.lp_cells.specs.declared.content.Content.{Content}
 use Rattle.lp_cells.specs.declared.content.Content.TheVariants.{Array, Mapping}
@@ -16,10 +14,9 @@ use Rattle.lp_timers.specs.Timers.{CallOut}
 use Rattle.lp_swapfile.specs.Room.{AreTaken}
 use Rattle.lp_swapper.specs.Swap.{extent_of}
 use Rattle.lp_world.specs.declared.connections.Waiting.{Waiting}
-use Rattle.lp_world.specs.declared.live.Live.{Live}
 use Rattle.lp_world.specs.declared.objects.Object.{Object}
 use Rattle.lp_world.specs.declared.objects.ObjectState.TheVariants as objects_of
-use Rattle.lp_world.specs.Closed.{AreApart, IsClosed, IsObjectClosed, extents_of, object_extents, version_extents}
+use Rattle.lp_world.specs.Closed.{IsObjectClosed, object_extents, version_extents}
 use Rattle.lp_world.specs.Laws.{CellsStayClosed, VariablesStayClosed}
 use Rattle.lp_world.specs.Rows.{object_ticket, own_in, own_of, row_at, shared_of, variables_of, with_value}
 use Rattle.lp_world.proofs.Keeping.{get_set, get_set_here, same_or_not}

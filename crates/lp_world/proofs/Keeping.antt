@@ -1,5 +1,5 @@
 -- What the state still stands for where cells or a variable change in it and in the world alike.
-use Rattle.std.proofs.Common.{◌≡◌, ◌⊎◌, ◌++◌, ℕ, suc, zero, Bool, true, false, List, [], ◌∷◌, Option, Some, None, refl, ap, ◌∙◌, sym, subst, inl, inr, slice_get, unwrap_or, IsSome, map, length, length-append, arith, All, Contains, if◌then◌else◌, pos}
+use Rattle.std.proofs.Common.{◌≡◌, ◌⊎◌, ◌++◌, ℕ, suc, zero, Bool, true, false, List, [], ◌∷◌, Option, Some, None, refl, ap, ◌∙◌, sym, subst, inl, inr, slice_get, unwrap_or, IsSome, map, length, length-append, arith, All, if◌then◌else◌, pos}
 use Rattle.std.specs.Prelude.{slice_set}
 use Rattle.std.proofs.lemmas.List.Elements.{All-head, All-tail, All-weaker}
 use Rattle.std.proofs.Math.ListN.{length-set}
@@ -12,15 +12,14 @@ use Rattle.lp_values.specs.declared.value.Value.TheVariants.{Int, Str, Arr, Map,
 use Rattle.lp_cells.specs.Cells.{IsThere, Store, as_items, as_pairs, content_at, content_set, with_cell}
 use Rattle.lp_cells.specs.Mapping.{pairs_there}
 use Rattle.lp_cells.specs.declared.content.Content.{Content}
-use Rattle.lp_ops.specs.Operands.{Array, Mapping, opened, operand}
+use Rattle.lp_ops.specs.Operands.{Array, Mapping, opened}
 use Rattle.lp_code.specs.declared.program.RawProgram.{RawProgram}
 use Rattle.lp_image.specs.Image.{IsRecord, image}
 use Rattle.lp_swapfile.specs.Device.{Bytes}
 use Rattle.lp_swapper.specs.Swap.{IsOutAt}
 use Rattle.lp_swapper.specs.declared.ticket.Ticket.{Ticket}
-use Rattle.lp_objects.specs.Stands as names
 use Rattle.lp_language.specs.World as world
-use Rattle.lp_language.specs.World.{World, is_live, new_world, no_object, object_at, with_cells, with_object}
+use Rattle.lp_language.specs.World.{World, new_world, no_object, object_at, with_cells}
 use Rattle.lp_language.specs.Operations.{with_variable}
 use Rattle.lp_meaning.specs.IdleAndKept.{IsKept, by_object, by_child}
 use Rattle.lp_world.specs.declared.live.Live.{Live}
@@ -30,7 +29,7 @@ use Rattle.lp_world.specs.declared.objects.ObjectState.TheVariants as objects_of
 use Rattle.lp_world.specs.Laws.{NewCellStands, TheSameLive, TheSameOperands, VariableStands, WriteStands}
 use Rattle.lp_world.specs.Records.{contents_of, record_for, shared_for}
 use Rattle.lp_world.specs.Rows.{is_live_row, live_in, with_value}
-use Rattle.lp_world.specs.Stands.{AreObjects, IsObject, IsOut, IsOwn, IsPart, ObjectIs, Stands, VariablesAre, named_of}
+use Rattle.lp_world.specs.Stands.{IsObject, IsOut, IsOwn, IsPart, ObjectIs, Stands, VariablesAre, named_of}
 
 -- Lists
 

@@ -1,5 +1,5 @@
 -- Closed states: what a state names is there. This speaks of the state alone.
-use Rattle.std.specs.Prelude.{◌≡◌, ℕ, ◌+◌, ◌*◌, ◌^◌, ◌<◌, ◌≤◌, ◌⊎◌, List, [], ◌∷◌, ◌++◌, Option, Some, None, IsSome, All, length, slice_get, option_map}
+use Rattle.std.specs.Prelude.{◌≡◌, ℕ, ◌+◌, ◌^◌, ◌<◌, ◌≤◌, ◌⊎◌, List, [], ◌∷◌, ◌++◌, Option, Some, None, IsSome, All, length, slice_get, option_map}
 use Rattle.std.specs.List.{flat_map}
 use Rattle.std.specs.Option.{option_to_list}
 use Rattle.lp_values.specs.declared.id.CellId.{CellId}
@@ -18,7 +18,6 @@ use Rattle.lp_world.specs.declared.connections.Waiting.{Waiting}
 use Rattle.lp_world.specs.declared.live.Live.{Live}
 use Rattle.lp_world.specs.declared.objects.Object.{Object}
 use Rattle.lp_world.specs.declared.targets.FunAt.{FunAt}
-use Rattle.lp_world.specs.declared.versions.Outline.{Outline}
 use Rattle.lp_world.specs.declared.versions.ProgramState.TheVariants as programs_of
 use Rattle.lp_world.specs.declared.versions.Version.{Version}
 use Rattle.lp_world.specs.Rows.{object_ticket, own_in, program_ticket, row_at, shared_of, variables_of}

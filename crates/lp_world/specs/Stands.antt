@@ -1,5 +1,5 @@
 -- When a live state with its swap file stands for a world. A cell has one serial in both.
-use Rattle.std.specs.Prelude.{◌≡◌, ℕ, ◌<◌, List, [], ◌∷◌, ◌++◌, Option, Some, None, IsSome, All, map, length, slice_get, Bool, true, false, ⊤, codes}
+use Rattle.std.specs.Prelude.{◌≡◌, ℕ, List, [], ◌++◌, Option, Some, None, IsSome, All, map, length, slice_get, true, false, ⊤, codes}
 use Rattle.lp_values.specs.declared.id.CellId.{CellId}
 use Rattle.lp_values.specs.declared.id.ObjId.{ObjId}
 use Rattle.lp_values.specs.declared.id.ProgId.{ProgId}

@@ -1,5 +1,5 @@
 -- What was found for the slots of a version's parts.
-use Rattle.std.specs.Prelude.{ℕ, List, Option, Some, None, slice_get, unwrap_or}
+use Rattle.std.specs.Prelude.{ℕ, Option, Some, None, slice_get, unwrap_or}
 use Rattle.lp_world.specs.declared.targets.FunAt.{FunAt}
 use Rattle.lp_world.specs.declared.targets.PartTargets.{PartTargets}
 use Rattle.lp_world.specs.declared.targets.Targets.{Targets}

@@ -1,4 +1,3 @@
-use Rattle.std.proofs.Common.{refl, ap, sym, ◌∙◌, ◌+◌, ◌++◌, ◌∷◌, [], ◌≡◌, rules, length, pos}
 use Rattle.lp_step.proofs.Moves.{called}
 use Rattle.lp_step.proofs.calls.call_slot.Goals as goal
 

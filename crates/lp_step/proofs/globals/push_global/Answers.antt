@@ -1,4 +1,4 @@
-use Rattle.std.proofs.Common.{◌+◌, ◌≡◌, ◌∙◌, ap, sym, slice_get, Some}
+use Rattle.std.proofs.Common.{◌∙◌, ap, sym, Some}
 use Rattle.lp_step.proofs.Variables.{variable_pushed, variable_there}
 use Rattle.lp_step.proofs.Fits.{pushed_fit}
 use Rattle.lp_step.proofs.globals.push_global.Goals as goal

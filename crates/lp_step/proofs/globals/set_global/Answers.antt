@@ -1,4 +1,4 @@
-use Rattle.std.proofs.Common.{◌+◌, ◌≡◌, length, rules}
+use Rattle.std.proofs.Common.{◌≡◌, length, rules}
 use Rattle.lp_step.proofs.Variables.{variable_fit, variable_set}
 use Rattle.lp_step.proofs.Fits.{got_there}
 use Rattle.lp_step.proofs.globals.set_global.Goals as goal

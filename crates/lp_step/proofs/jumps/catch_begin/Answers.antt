@@ -1,4 +1,4 @@
-use Rattle.std.proofs.Common.{refl, ap, sym, ◌∙◌, ◌+◌, ◌++◌, ◌∷◌, [], ◌≡◌, rules, length, pos}
+use Rattle.std.proofs.Common.{◌≡◌, rules, length}
 use Rattle.lp_step.proofs.Moves.{caught_on}
 use Rattle.lp_step.proofs.jumps.catch_begin.Goals as goal
 

@@ -1,4 +1,3 @@
-use Rattle.std.proofs.Common.{refl, ap, sym, ◌∙◌, ◌+◌, ◌++◌, ◌∷◌, [], ◌≡◌, rules, length, pos}
 use Rattle.lp_step.proofs.Moves.{caught_off}
 use Rattle.lp_step.proofs.jumps.catch_end.Goals as goal
 

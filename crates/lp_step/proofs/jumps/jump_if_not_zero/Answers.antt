@@ -1,4 +1,4 @@
-use Rattle.std.proofs.Common.{refl, ap, sym, ◌∙◌, ◌+◌, ◌++◌, ◌∷◌, [], ◌≡◌, rules, length, pos}
+use Rattle.std.proofs.Common.{refl, ap, sym, ◌∙◌, ◌+◌}
 use Rattle.lp_step.proofs.Moves.{jumped}
 use Rattle.lp_step.proofs.Fits.{popped_fit}
 use Rattle.lp_step.proofs.jumps.jump_if_not_zero.Goals as goal

@@ -1,4 +1,4 @@
-use Rattle.std.proofs.Common.{refl, ap, sym, ◌∙◌, ◌+◌, ◌++◌, ◌∷◌, [], ◌≡◌, rules, length, pos}
+use Rattle.std.proofs.Common.{refl, ap, sym, ◌∙◌, ◌+◌, ◌∷◌}
 use Rattle.std.proofs.Common.{true, false}
 use Rattle.lp_step.specs.Steps.{LeadsTo}
 use Rattle.lp_step.specs.declared.next.Next.TheVariants as nexts

@@ -1,4 +1,3 @@
-use Rattle.std.proofs.Common.{refl, ap, sym, ◌∙◌, ◌+◌, ◌++◌, ◌∷◌, [], ◌≡◌, rules, length, pos}
 use Rattle.lp_step.proofs.Moves.{turn_spent, turn_on}
 use Rattle.lp_step.proofs.jumps.loop_turn.Goals as goal
 

@@ -1,4 +1,3 @@
-use Rattle.std.proofs.Common.{refl, ap, sym, ◌∙◌, ◌+◌, ◌++◌, ◌∷◌, [], ◌≡◌, rules, length, pos}
 use Rattle.lp_step.proofs.Moves.{done}
 use Rattle.lp_step.proofs.Fits.{popped_fit}
 use Rattle.lp_step.proofs.jumps.returns.Goals as goal

@@ -1,4 +1,4 @@
-use Rattle.std.proofs.Common.{refl, ap, sym, ◌∙◌, ◌+◌, ◌++◌, ◌∷◌, [], ◌≡◌, rules, length, pos}
+use Rattle.std.proofs.Common.{refl}
 use Rattle.lp_step.proofs.jumps.returns_zero.Goals as goal
 
 pub returns : goal.returns

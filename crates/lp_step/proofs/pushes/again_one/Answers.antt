@@ -1,4 +1,4 @@
-use Rattle.std.proofs.Common.{refl, ap, sym, ◌∙◌, ◌+◌, ◌++◌, ◌∷◌, [], ◌≡◌, rules, length, pos}
+use Rattle.std.proofs.Common.{◌≡◌, rules, length}
 use Rattle.lp_step.proofs.Moves.{one_again}
 use Rattle.lp_step.proofs.Fits.{pushed_fit, got_there}
 use Rattle.lp_step.proofs.pushes.again_one.Goals as goal

@@ -1,4 +1,4 @@
-use Rattle.std.proofs.Common.{refl, ap, sym, ◌∙◌, ◌+◌, ◌++◌, ◌∷◌, [], ◌≡◌, rules, length, pos}
+use Rattle.std.proofs.Common.{ap, ◌+◌}
 use Rattle.lp_step.specs.Steps.{LeadsTo}
 use Rattle.lp_step.specs.declared.next.Next.TheVariants as nexts
 use Rattle.lp_isa.specs.Machine.{goes}

@@ -1,4 +1,4 @@
-use Rattle.std.proofs.Common.{refl, ap, sym, ◌∙◌, ◌+◌, ◌++◌, ◌∷◌, [], ◌≡◌, rules, length, pos}
+use Rattle.std.proofs.Common.{rules}
 use Rattle.lp_values.specs.declared.value.Value.TheVariants.{Int}
 use Rattle.lp_step.proofs.Moves.{pushed}
 use Rattle.lp_step.proofs.Fits.{pushed_fit}

@@ -1,4 +1,3 @@
-use Rattle.std.proofs.Common.{refl, ap, sym, ◌∙◌, ◌+◌, ◌++◌, ◌∷◌, [], ◌≡◌, rules, length, pos}
 use Rattle.lp_step.proofs.Moves.{local_pushed}
 use Rattle.lp_step.proofs.Fits.{pushed_fit, got_there}
 use Rattle.lp_step.proofs.pushes.push_local.Goals as goal

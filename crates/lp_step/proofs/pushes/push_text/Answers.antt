@@ -1,4 +1,3 @@
-use Rattle.std.proofs.Common.{refl, ap, sym, ◌∙◌, ◌+◌, ◌++◌, ◌∷◌, [], ◌≡◌, rules, length, pos}
 use Rattle.lp_step.proofs.Moves.{text_pushed}
 use Rattle.lp_step.proofs.Fits.{pushed_fit}
 use Rattle.lp_step.proofs.pushes.push_text.Goals as goal

@@ -1,4 +1,4 @@
-use Rattle.std.proofs.Common.{refl, ap, sym, ◌∙◌, ◌+◌, ◌++◌, ◌∷◌, [], ◌≡◌, rules, length, pos}
+use Rattle.std.proofs.Common.{◌≡◌, rules, length}
 use Rattle.lp_step.proofs.Moves.{local_set}
 use Rattle.lp_step.proofs.Fits.{set_fit, got_there}
 use Rattle.lp_step.proofs.pushes.set_local.Goals as goal
