@@ -5,3 +5,4 @@ pub mod Led
 pub mod Variables
 pub mod Indexed
 pub mod Operated
+pub mod Prefixed

@@ -14,4 +14,5 @@ pub mod next;
 pub mod pushes;
 pub mod stack;
 pub mod step;
+pub mod unaries;
 pub mod worked;

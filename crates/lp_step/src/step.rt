@@ -13,6 +13,7 @@ use crate::jumps::{
 };
 use crate::next::Next;
 use crate::pushes::{again_one, again_two, drop_value, push_int, push_local, push_text, set_local};
+use crate::unaries::unary_operator;
 use lp_instr::instr::Instr;
 use lp_values::value::Value;
 use lp_world::frame::Frame;
@@ -64,6 +65,7 @@ pub fn step(
         Instr::SetGlobal(k) => set_global(live, stack, frame, k),
         Instr::Index(edge) => at_index(live, stack, frame, budget, edge),
         Instr::Binary(op) => binary_operator(live, stack, frame, budget, op),
+        Instr::Unary(op) => unary_operator(live, stack, frame, budget, op),
         _ => unreachable!(),
     }
 }
