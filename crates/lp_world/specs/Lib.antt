@@ -6,3 +6,4 @@ pub mod Stands
 pub mod Matches
 pub mod Closed
 pub mod Laws
+pub mod Bare
