@@ -6,3 +6,4 @@ pub mod Variables
 pub mod Indexed
 pub mod Operated
 pub mod Prefixed
+pub mod Counted

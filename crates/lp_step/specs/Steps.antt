@@ -4,7 +4,7 @@ use Rattle.lp_values.specs.declared.value.Value.{Value}
 use Rattle.lp_cells.specs.Cells.{IsThere}
 use Rattle.lp_instr.specs.declared.efun.Efun.TheVariants as efun
 use Rattle.lp_instr.specs.declared.instr.Instr.{Instr}
-use Rattle.lp_instr.specs.declared.instr.Instr.TheVariants.{PushInt, PushText, PushLocal, SetLocal, Pop, Dup, Dup2, Jump, JumpIfZero, JumpIfNotZero, KeepIfZero, KeepIfNotZero, Index, PushGlobal, SetGlobal, Binary, Unary, LoopTurn, CallSlot, CallFixed, CallOther, CallEfun, CallSimul, CatchBegin, CatchEnd, Return, ReturnZero}
+use Rattle.lp_instr.specs.declared.instr.Instr.TheVariants.{PushInt, PushText, PushLocal, SetLocal, Pop, Dup, Dup2, Jump, JumpIfZero, JumpIfNotZero, KeepIfZero, KeepIfNotZero, Index, PushGlobal, SetGlobal, Binary, Unary, Step, LoopTurn, CallSlot, CallFixed, CallOther, CallEfun, CallSimul, CatchBegin, CatchEnd, Return, ReturnZero}
 use Rattle.lp_instr.specs.Code.{parent_row}
 use Rattle.lp_instr.specs.Sound.{Bounds, IsNamed}
 use Rattle.lp_language.specs.Course.{Gives, Internal, Parent, OfEfun, Failed, Spent, here}
@@ -69,6 +69,7 @@ Finds live stack frame (SetGlobal k) = HasPlace (variables_at live.objects frame
 Finds live stack frame (Index edge) = 2 ≤ length stack
 Finds live stack frame (Binary op) = 2 ≤ length stack
 Finds live stack frame (Unary op) = 1 ≤ length stack
+Finds live stack frame (Step op) = 1 ≤ length stack
 -- all others are not carried out yet
 Finds live stack frame _ = ⊥
 

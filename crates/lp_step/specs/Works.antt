@@ -1,10 +1,12 @@
 -- What an operator with its prices comes to, on the state alone.
 use Rattle.std.specs.Prelude.{◌≡◌, ◌++◌, ◌∷◌, [], ℕ, ◌-◌, ⊤, List, Option, Bool, true, false, length, nat_lt}
 use Rattle.lp_tree.specs.declared.operator.BinOp.{BinOp}
+use Rattle.lp_tree.specs.declared.operator.Step.{Step}
 use Rattle.lp_tree.specs.declared.operator.UnOp.{UnOp}
 use Rattle.lp_values.specs.declared.id.ObjId.{ObjId}
 use Rattle.lp_values.specs.declared.value.Value.{Value}
 use Rattle.lp_cells.specs.Cells.{IsThere, Store, with_cell}
+use Rattle.lp_language.specs.Operations.{step_effect}
 use Rattle.lp_ops.specs.Effects.{reference}
 use Rattle.lp_ops.specs.Operands.{operand}
 use Rattle.lp_ops.specs.Operators as operators
@@ -57,6 +59,11 @@ IndexesOn back old new objects cells budget0 d budget1 = (x : Value) × (i : Val
 abbrev pub UnaryOn : UnOp → List Value → List Value → List (Option Object) → Store → ℕ → Worked → ℕ → Type 0
 UnaryOn op old new objects cells budget0 d budget1 = (x : Value) × (old ≡ new ++ x ∷ []) × IsThere cells x
     × Works 1 (operators.unary op (operand (live_in objects) cells x)) 0 cells budget0 d cells budget1
+
+-- one more or one less, of the topmost one
+abbrev pub SteppedOn : Step → List Value → List Value → List (Option Object) → Store → ℕ → Worked → ℕ → Type 0
+SteppedOn step old new objects cells budget0 d budget1 = (x : Value) × (old ≡ new ++ x ∷ []) × IsThere cells x
+    × Works 1 (step_effect step (operand (live_in objects) cells x)) 0 cells budget0 d cells budget1
 
 -- a binary operator
 abbrev pub WorksOn : BinOp → List Value → List Value → List (Option Object) → Store → ℕ → Worked → Store → ℕ → Type 0

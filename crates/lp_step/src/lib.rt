@@ -6,6 +6,7 @@
 
 pub mod binaries;
 pub mod calls;
+pub mod counting;
 pub mod fault;
 pub mod globals;
 pub mod indexing;

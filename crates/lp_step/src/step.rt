@@ -4,6 +4,7 @@ ghost use Rattle.lp_step.specs.Steps.{CanStep, Keeps, Steps, instr_at};
 
 use crate::binaries::binary_operator;
 use crate::calls::{call_efun, call_fixed, call_other, call_simul, call_slot};
+use crate::counting::step_operator;
 use crate::fault::StepFault;
 use crate::globals::{push_global, set_global};
 use crate::indexing::at_index;
@@ -66,6 +67,7 @@ pub fn step(
         Instr::Index(edge) => at_index(live, stack, frame, budget, edge),
         Instr::Binary(op) => binary_operator(live, stack, frame, budget, op),
         Instr::Unary(op) => unary_operator(live, stack, frame, budget, op),
+        Instr::Step(up) => step_operator(live, stack, frame, budget, up),
         _ => unreachable!(),
     }
 }

@@ -2,7 +2,7 @@
 use Rattle.std.proofs.Common.{◌≡◌, ◌∙◌, ℕ, zero, suc, List, [], ◌∷◌, refl, ap}
 use Rattle.lp_values.specs.declared.id.ProgId.{ProgId}
 use Rattle.lp_language.specs.World.{World, new_world, version_at}
-use Rattle.lp_language.specs.Resolve.{Heritage, Heritages, Heir, OneParent, each_heritage, heritage_within}
+use Rattle.lp_language.specs.Resolve.{Heritage, Heir, OneParent, each_heritage, heritage_within}
 use Rattle.lp_meaning.specs.IdleAndKept.{IsKept, by_child, by_object}
 use Rattle.lp_world.specs.Bare.{TheSameHeritage, TheSameKept}
 

@@ -6,7 +6,7 @@ use Rattle.lp_step.proofs.Dispatch.{carried, finds, keeps_alone, steps, steps_al
 use Rattle.lp_step.proofs.step.step.Goals as goal
 
 pub unreachable-requires : goal.unreachable-requires
-unreachable-requires c = carried c.args.live.now c.args.stack.now.items c.args.frame.now c.fetch.result (finds _ _ _ _ c.requires c.fetch.ensures) c.in_default.not-PushInt c.in_default.not-PushText c.in_default.not-PushLocal c.in_default.not-SetLocal c.in_default.not-Pop c.in_default.not-Dup c.in_default.not-Dup2 c.in_default.not-Jump c.in_default.not-JumpIfZero c.in_default.not-JumpIfNotZero c.in_default.not-KeepIfZero c.in_default.not-KeepIfNotZero c.in_default.not-LoopTurn c.in_default.not-CallSlot c.in_default.not-CallFixed c.in_default.not-CallOther c.in_default.not-CallEfun c.in_default.not-CallSimul c.in_default.not-CatchBegin c.in_default.not-CatchEnd c.in_default.not-Return c.in_default.not-ReturnZero c.in_default.not-PushGlobal c.in_default.not-SetGlobal c.in_default.not-Index c.in_default.not-Binary c.in_default.not-Unary
+unreachable-requires c = carried c.args.live.now c.args.stack.now.items c.args.frame.now c.fetch.result (finds _ _ _ _ c.requires c.fetch.ensures) c.in_default.not-PushInt c.in_default.not-PushText c.in_default.not-PushLocal c.in_default.not-SetLocal c.in_default.not-Pop c.in_default.not-Dup c.in_default.not-Dup2 c.in_default.not-Jump c.in_default.not-JumpIfZero c.in_default.not-JumpIfNotZero c.in_default.not-KeepIfZero c.in_default.not-KeepIfNotZero c.in_default.not-LoopTurn c.in_default.not-CallSlot c.in_default.not-CallFixed c.in_default.not-CallOther c.in_default.not-CallEfun c.in_default.not-CallSimul c.in_default.not-CatchBegin c.in_default.not-CatchEnd c.in_default.not-Return c.in_default.not-ReturnZero c.in_default.not-PushGlobal c.in_default.not-SetGlobal c.in_default.not-Index c.in_default.not-Binary c.in_default.not-Unary c.in_default.not-Step
 
 pub returns-in-PushInt : goal.returns-in-PushInt
 returns-in-PushInt c =
@@ -170,4 +170,10 @@ pub returns-in-Unary : goal.returns-in-Unary
 returns-in-Unary c = record {
   table = steps_ok (variants.Unary c.in-Unary.op) c.args.live.now _ _ _ _ _ c.args.budget.now _ c.unary_operator.result c.in-Unary.ensures c.unary_operator.ensures.table;
   keeps = c.unary_operator.ensures.keeps;
+}
+
+pub returns-in-Step : goal.returns-in-Step
+returns-in-Step c = record {
+  table = steps_ok (variants.Step c.in-Step.up) c.args.live.now c.args.live.now _ _ _ _ c.args.budget.now _ c.step_operator.result c.in-Step.ensures c.step_operator.ensures.table;
+  keeps = c.step_operator.ensures.keeps;
 }
