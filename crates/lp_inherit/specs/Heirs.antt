@@ -10,7 +10,8 @@ use Rattle.lp_instr.specs.EfunList.{is_name}
 use Rattle.lp_types_expr.specs.Signatures.{has_function, is_private_number, or_else}
 use Rattle.lp_language.specs.World.{Version}
 use Rattle.lp_language.specs.Resolve.{Heritage, Heir, Heritages, NoParent, OneParent, Found, Function, Part, resolve, shown, number_of, part_at, version_of, own_names, without_c, variable_count, part_count, Variable, own_variables, sighted_from, variable_last, variable_outside}
-use Rattle.lp_layout.specs.LayoutFaults.{Source, source}
+use Rattle.lp_layout.specs.LayoutFaults.{source}
+use Rattle.lp_layout.specs.declared.source.Source.{Source}
 use Rattle.lp_layout.specs.Layout.{bits, slot_named, laid_tables, parts_before}
 
 -- the tables that a unit and its parents make, with what the unit does not tell
