@@ -1,6 +1,7 @@
 pub mod Clearing
 pub mod Closing
 pub mod Forms
+pub mod Initialising
 pub mod Leading
 pub mod Loops
 pub mod Scopes

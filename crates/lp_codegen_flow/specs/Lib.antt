@@ -1,5 +1,6 @@
 pub mod Cleared
 pub mod Flows
 pub mod Functions
+pub mod Initialisers
 pub mod Led
 pub mod Switches

@@ -1,14 +1,19 @@
 //! The code of functions.
 ghost use Rattle.std.specs.Prelude.{◌≡◌, OnOk, map, true};
 ghost use Rattle.lp_tree.specs.StatementView.{stmt_of, stmt_trees};
+ghost use Rattle.lp_tree.specs.UnitView.{item_of};
+ghost use Rattle.lp_language.specs.Resolve.{own_variables};
 ghost use Rattle.lp_codegen_expr.specs.Drafts.{draft_of};
 ghost use Rattle.lp_codegen_flow.specs.Functions.{AreDone, FunStands, is_done};
+ghost use Rattle.lp_codegen_flow.specs.Initialisers.{InitialisersStand};
 
+use crate::globals::gen_items;
 use crate::stmt::gen_stmts;
 use lp_codegen_expr::code::{Code, Draft, GenFault};
 use lp_codegen_expr::scope::Scope;
 use lp_instr::instr::Instr;
 use lp_tree::stmt::Stmt;
+use lp_tree::unit::Item;
 
 /// Whether it is an instruction.
 fn is_instr(draft: Draft) -> bool
@@ -43,6 +48,26 @@ pub fn gen_fun(stmts: &Vec<Stmt>, scope: &mut Scope, into: &mut Code) -> Result<
     gen_stmts(stmts, scope, into)?;
     into.put(Instr::ReturnZero)?;
     scope.locals.truncate(seen);
+    if are_done(into.instrs.as_slice(), from) {
+        Ok(())
+    } else {
+        Err(GenFault::Unclear)
+    }
+}
+
+/// The code of the initialisers of the variables that these items declare, as a function without parameters and locals,
+/// where the first variable stands at a place. The scope has no locals. Behind the initialisers it returns 0.
+pub fn gen_initialisers(
+    items: &Vec<Item>,
+    first: u32,
+    scope: &Scope,
+    into: &mut Code,
+) -> Result<(), GenFault>
+    ensures { OnOk result (InitialisersStand (own_variables (map item_of items.now.items)) first scope.now (draft_of into.old) (draft_of into.new)) }
+{
+    let from = into.here()?;
+    gen_items(items, first, scope, into)?;
+    into.put(Instr::ReturnZero)?;
     if are_done(into.instrs.as_slice(), from) {
         Ok(())
     } else {

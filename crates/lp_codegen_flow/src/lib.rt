@@ -6,6 +6,7 @@
 
 pub mod clears;
 pub mod fun;
+pub mod globals;
 pub mod labels;
 pub mod led;
 pub mod plain;
