@@ -3,3 +3,4 @@
 
 pub mod copies;
 pub mod parents;
+pub mod read;
