@@ -1,2 +1,5 @@
 pub mod Letters
 pub mod Faulty
+pub mod Ascii
+pub mod Behind
+pub mod Inside

@@ -36,9 +36,13 @@ pub data HasFault (files : Store) (path : List ℕ) : Fault → Type 0 where
   expansion : {fault : Fault} → fault.file ≡ path → IsFirstFault (setting files path) fault.kind fault.line → HasFault files path fault
   unit : {fault : Fault} {ts : List Token} {p : Pragmas} → fault.file ≡ path → IsExpansion (setting files path) ts p → IsUnitFault ts fault.kind fault.line → HasFault files path fault
 
+-- what was read, without where it lies in memory
+abbrev pub items_of : Declared → List ItemTree
+items_of d = unit_of d.unit
+
 -- what was read of a file
 abbrev pub IsOf : Store → List ℕ → Declared → Type 0
-IsOf files path d = Declares files path (unit_of d.unit) d.pragmas
+IsOf files path d = Declares files path (items_of d) d.pragmas
 
 -- why nothing was read: this fault, or there was no memory
 abbrev pub IsWhy : Store → List ℕ → ReadFault → Type 0

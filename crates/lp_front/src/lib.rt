@@ -4,3 +4,5 @@
 pub mod copies;
 pub mod parents;
 pub mod read;
+pub mod settle;
+mod spelled;
