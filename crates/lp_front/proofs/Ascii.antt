@@ -42,13 +42,13 @@ items_append xs ys h k = record {
 pub one_item_more : (items : List Item) (i : ℕ) (x : Item) → i < length items → IsSpelled (map item_of (take i items)) → IsSpelled (item_of (get_or items i x) ∷ []) → IsSpelled (map item_of (take (i + 1) items))
 one_item_more items i x h k last =
     subst IsSpelled (sym (ap (map item_of) (take_more items i x h) ∙ map_push item_of (take i items) (get_or items i x)))
-        (items_append (map item_of (take i items)) (item_of (get_or items i x) ∷ []) k last)
+    (items_append (map item_of (take i items)) (item_of (get_or items i x) ∷ []) k last)
 
 -- one variable more of a declaration
 pub one_variable_more : (ds : List Declarator) (i : ℕ) (x : Declarator) → i < length ds → AreSpelled (map (λ d. d.name) (map declarator_of (take i ds))) → IsAscii (get_or ds i x).name → AreSpelled (map (λ d. d.name) (map declarator_of (take (i + 1) ds)))
 one_variable_more ds i x h k last =
     subst AreSpelled
-        (sym (ap (λ es. map (λ (d : DeclaratorTree). d.name) (map declarator_of es)) (take_more ds i x h)
-            ∙ ap (map (λ (d : DeclaratorTree). d.name)) (map_push declarator_of (take i ds) (get_or ds i x))
-            ∙ map_push (λ (d : DeclaratorTree). d.name) (map declarator_of (take i ds)) (declarator_of (get_or ds i x))))
-        (spelled_append (map (λ d. d.name) (map declarator_of (take i ds))) ((get_or ds i x).name ∷ []) k (last, tt))
+    (sym (ap (λ es. map (λ (d : DeclaratorTree). d.name) (map declarator_of es)) (take_more ds i x h)
+    ∙ ap (map (λ (d : DeclaratorTree). d.name)) (map_push declarator_of (take i ds) (get_or ds i x))
+    ∙ map_push (λ (d : DeclaratorTree). d.name) (map declarator_of (take i ds)) (declarator_of (get_or ds i x))))
+    (spelled_append (map (λ d. d.name) (map declarator_of (take i ds))) ((get_or ds i x).name ∷ []) k (last, tt))

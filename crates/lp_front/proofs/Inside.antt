@@ -1,6 +1,6 @@
 -- The rows of a version stand in parts of it.
 use Rattle.std.proofs.Common.{◌≡◌, ◌<◌, ◌≤◌, ◌+◌, ◌∙◌, ℕ, zero, suc, List, [], ◌∷◌, ◌++◌, Option, Some, None, Bool, true, false, refl, sym, ap, subst, length, map, arith, if◌then◌else◌, length-append}
-use Rattle.std.specs.Prelude.{slice_get, not, ◌&&◌}
+use Rattle.std.specs.Prelude.{not, ◌&&◌}
 use Rattle.lp_tree.specs.declared.keyword.Modifier.{Modifier}
 use Rattle.lp_tree.specs.declared.keyword.Base.{Base}
 use Rattle.lp_tree.specs.Statements.{DeclaratorTree}
@@ -58,14 +58,14 @@ last_in : (bodies : Bool) (ts : List Tables) (first most : ℕ) (w : List ℕ) �
 last_in bodies [] first most w h k = tt
 last_in bodies (t ∷ ts) first most w h k =
     else_row most (last_slot bodies ts (first + length t.parts) w) (slot_shown bodies first (slot_named t.slots w))
-        (last_in bodies ts (first + length t.parts) most w (tail_inside t ts h) (omega (arith, k)))
-        (shown_in bodies first (length t.parts) most (slot_named t.slots w) (omega (arith, k)) (named_in (length t.parts) t.slots w (h 0 t refl).0))
+    (last_in bodies ts (first + length t.parts) most w (tail_inside t ts h) (omega (arith, k)))
+    (shown_in bodies first (length t.parts) most (slot_named t.slots w) (omega (arith, k)) (named_in (length t.parts) t.slots w (h 0 t refl).0))
 
 laid_in : (is : List ItemTree) (ts : List Tables) (w : List ℕ) → AreInside ts → RowIn (suc (parts_of ts)) (laid_slot is ts w)
 laid_in is ts w h =
     else_row (suc (parts_of ts)) (own_slot 0 (parts_of ts) is w) _ (own_in 0 (parts_of ts) is w)
-        (else_row (suc (parts_of ts)) (last_slot true ts 0 w) _ (last_in true ts 0 (suc (parts_of ts)) w h (omega arith))
-            (else_row (suc (parts_of ts)) (prototype_slot (parts_of ts) is w) _ (prototype_in (parts_of ts) is w) (last_in false ts 0 (suc (parts_of ts)) w h (omega arith))))
+    (else_row (suc (parts_of ts)) (last_slot true ts 0 w) _ (last_in true ts 0 (suc (parts_of ts)) w h (omega arith))
+    (else_row (suc (parts_of ts)) (prototype_slot (parts_of ts) is w) _ (prototype_in (parts_of ts) is w) (last_in false ts 0 (suc (parts_of ts)) w h (omega arith))))
 
 with_row : (n : ℕ) (o : Option Slot) (ss : List Slot) → RowIn n o → AreRowsIn n ss → AreRowsIn n (with_slot o ss)
 with_row n None ss h k i r e = k i r e
@@ -118,8 +118,8 @@ variables_in is [] first h = subst (λ (n : ℕ). AreVariablesIn (suc n) (own_ro
     plus n = omega arith
 variables_in is (t ∷ ts) first h =
     joined_in (suc (first + (length t.parts + parts_of ts))) (map (row_moved first) t.vars) (laid_variables is ts (first + length t.parts))
-        (moved_in first (length t.parts) (suc (first + (length t.parts + parts_of ts))) t.vars (omega arith) (h 0 t refl).1)
-        (subst (λ (n : ℕ). AreVariablesIn (suc n) (laid_variables is ts (first + length t.parts))) (assoc first (length t.parts) (parts_of ts)) (variables_in is ts (first + length t.parts) (tail_inside t ts h)))
+    (moved_in first (length t.parts) (suc (first + (length t.parts + parts_of ts))) t.vars (omega arith) (h 0 t refl).1)
+    (subst (λ (n : ℕ). AreVariablesIn (suc n) (laid_variables is ts (first + length t.parts))) (assoc first (length t.parts) (parts_of ts)) (variables_in is ts (first + length t.parts) (tail_inside t ts h)))
   where
     assoc : (a b c : ℕ) → (a + b) + c ≡ a + (b + c)
     assoc a b c = omega arith
@@ -142,10 +142,11 @@ pub made_inside : (file : List ℕ) (is : List ItemTree) (pragmas : Pragmas) (ts
 made_inside file is pragmas ts own h =
     let long : length (parts_before ts ++ own ∷ []) ≡ suc (parts_of ts) = length-append (parts_before ts) (own ∷ []) ∙ ap (λ (n : ℕ). n + 1) (counted ts) ∙ one (parts_of ts) in
     one_inside (tables_of file is pragmas ts own)
-        (subst (λ (n : ℕ). AreRowsIn n (laid_slots is ts)) (sym long) (rows_in is ts (first_met [] (names_in ts ++ declared_names is)) h))
-        (subst (λ (n : ℕ). AreVariablesIn n (laid_variables is ts 0)) (zeroth (parts_of ts) ∙ sym long) (variables_in is ts 0 h))
+    (subst (λ (n : ℕ). AreRowsIn n (laid_slots is ts)) (sym long) (rows_in is ts (first_met [] (names_in ts ++ declared_names is)) h))
+    (subst (λ (n : ℕ). AreVariablesIn n (laid_variables is ts 0)) (zeroth (parts_of ts) ∙ sym long) (variables_in is ts 0 h))
   where
     one : (n : ℕ) → n + 1 ≡ suc n
     one n = omega arith
+
     zeroth : (n : ℕ) → suc (0 + n) ≡ suc n
     zeroth n = omega arith

@@ -3,3 +3,4 @@ pub mod Faulty
 pub mod Ascii
 pub mod Behind
 pub mod Inside
+pub mod Inheriting

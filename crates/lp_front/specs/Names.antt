@@ -3,6 +3,7 @@ use Rattle.std.specs.Prelude.{ℕ, List, [], ◌∷◌, ◌++◌, nat_eq, codes,
 use Rattle.std.specs.List.{ends_with}
 use Rattle.std.specs.Str.{encode_utf8_all}
 use Rattle.lp_tree.specs.Units.{ItemTree, Inherit, Proto, Fun, Var}
+use Rattle.lp_front.specs.declared.parents.Parent.{Parent}
 
 -- what stands before a name that has no leading `/`
 abbrev pub slash_before : List ℕ → List ℕ
@@ -16,11 +17,6 @@ end_behind name = if ends_with nat_eq name (codes ".c") then [] else codes ".c"
 -- The file of a name: with a leading `/` and a trailing `.c`, each once.
 abbrev pub file_of : List ℕ → List ℕ
 file_of name = slash_before name ++ encode_utf8_all name ++ end_behind name
-
--- an `inherit`, with its line and the file that it means
-pub record Parent : Type 0 where
-  pub line : ℕ
-  pub file : List ℕ
 
 -- the inherits of a unit, in their order
 abbrev pub parents_in : List ItemTree → List Parent

@@ -1,10 +1,21 @@
 //! The files that a unit inherits.
-ghost use Rattle.std.specs.Prelude.{◌≡◌, ◌++◌, IfOk, OnOk, string_bytes};
+ghost use Rattle.std.specs.Prelude.{◌≡◌, ◌++◌, ◌∷◌, [], IfOk, OnOk, map, string_bytes};
 ghost use Rattle.std.specs.Str.{encode_utf8_all};
-ghost use Rattle.lp_front.specs.Names.{end_behind as end, file_of as file_named, slash_before as slash};
+ghost use Rattle.lp_front.specs.Names.{end_behind as end, file_of as file_named, parents_in, slash_before as slash};
+ghost use Rattle.lp_tree.specs.UnitView.{item_of};
 
 use lp_tree::path::FilePath;
+use lp_tree::unit::Item;
 use std::alloc::{AllocError, Global};
+
+/// An `inherit`.
+#[derive(Debug, Drop)]
+pub struct Parent {
+    /// Its line.
+    pub line: u32,
+    /// The file that it means.
+    pub file: FilePath,
+}
 
 // Puts letters behind a text.
 fn put_letters(text: &mut String, letters: &[char]) -> Result<(), AllocError>
@@ -46,4 +57,29 @@ pub fn file_of(alloc: Global, name: &[char]) -> Result<FilePath, AllocError>
     put_letters(&mut path, name)?;
     path.push_str(end_behind(name))?;
     Ok(FilePath::from_string(path))
+}
+
+// Puts an item's parent behind others, if it is an `inherit`.
+fn add_parent(alloc: Global, all: &mut Vec<Parent>, item: &Item) -> Result<(), AllocError>
+    ensures { OnOk result (all.new.items ≡ all.old.items ++ parents_in (item_of item.now ∷ [])) }
+{
+    match item {
+        Item::Inherit { line, path } => {
+            let file = file_of(alloc, path.as_slice())?;
+            all.push(Parent { line: *line, file })?;
+            Ok(())
+        }
+        _ => Ok(()),
+    }
+}
+
+/// The parents of a unit with these items, one for each `inherit`, in their order.
+pub fn parents_of(alloc: Global, items: &[Item]) -> Result<Vec<Parent>, AllocError>
+    ensures { IfOk result (λ v. v.items ≡ parents_in (map item_of items.now)) }
+{
+    let mut all = Vec::new(alloc);
+    for item in items {
+        add_parent(alloc, &mut all, item)?;
+    }
+    Ok(all)
 }

@@ -1,6 +1,5 @@
-use Rattle.std.proofs.Common.{◌≡◌, ◌∙◌, ◌-◌, List, ℕ, Bool, false, ap, sym, take, length, if◌then◌else◌}
-use Rattle.std.specs.Prelude.{nat_eq, codes}
-use Rattle.std.specs.List.{ends_with}
+use Rattle.std.proofs.Common.{◌≡◌, ◌∙◌, ◌-◌, Bool, false, ap, sym, take, length, if◌then◌else◌}
+use Rattle.std.specs.Prelude.{codes}
 use Rattle.std.proofs.lemmas.Result.{IfOk-weaker}
 use Rattle.std.proofs.lemmas.Str.Pattern.{ends_text}
 use Rattle.lp_front.specs.Settling.{path_of}

@@ -7,4 +7,4 @@ use Rattle.lp_front.proofs.spelled.are_spelled.Goals as goal
 pub loop-item-preserved : goal.loop-item-preserved
 loop-item-preserved c =
     one_item_more c.args.items.now c.loop-item.item-index c.item-item.result c.loop-item-test.true c.loop-item.invariant
-        (subst (λ x. IsSpelled (item_of x ∷ [])) c.item-item.is (c.if-not-item_is_spelled.ensures refl))
+    (subst (λ x. IsSpelled (item_of x ∷ [])) c.item-item.is (c.if-not-item_is_spelled.ensures refl))
