@@ -3,3 +3,4 @@ pub mod Found
 pub mod Meanings
 pub mod Parts
 pub mod Trees
+pub mod Refusals

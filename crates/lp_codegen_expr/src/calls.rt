@@ -1,6 +1,7 @@
 //! The code of calls, whose arguments are on the stack.
-ghost use Rattle.std.specs.Prelude.{◌≡◌, OnOk};
+ghost use Rattle.std.specs.Prelude.{MatchResult};
 ghost use Rattle.lp_codegen_expr.specs.Names.{Plan, layout_of};
+ghost use Rattle.lp_codegen_expr.specs.Clear.{IsCalled, IsEfun, IsParentCalled, Spares};
 ghost use Rattle.lp_codegen_expr.specs.Drafts.{Adds, draft_of, of_call, of_efun_call, of_parent_call};
 
 use crate::code::{Code, GenFault, counted};
@@ -16,7 +17,7 @@ pub fn gen_call(
     layout: &Layout,
     into: &mut Code,
 ) -> Result<(), GenFault>
-    ensures { OnOk result (Adds (layout_of layout.now) (of_call name.now count) (draft_of into.old) (draft_of into.new)) }
+    ensures { MatchResult result (λ _. Adds (layout_of layout.now) (of_call name.now count) (draft_of into.old) (draft_of into.new)) (Spares (IsCalled (layout_of layout.now) name.now)) }
 {
     let n = counted(count)?;
     match callee(layout, name) {
@@ -40,7 +41,7 @@ pub fn gen_call(
 
 /// A call of an efun by its name, with so many arguments.
 pub fn gen_efun_call(name: &Chars, count: usize, into: &mut Code) -> Result<(), GenFault>
-    ensures { OnOk result ((l : Plan) → Adds l (of_efun_call name.now count) (draft_of into.old) (draft_of into.new)) }
+    ensures { MatchResult result (λ _. (l : Plan) → Adds l (of_efun_call name.now count) (draft_of into.old) (draft_of into.new)) (Spares (IsEfun name.now)) }
 {
     let n = counted(count)?;
     match Efun::named(name.as_slice()) {
@@ -60,7 +61,7 @@ pub fn gen_parent_call(
     layout: &Layout,
     into: &mut Code,
 ) -> Result<(), GenFault>
-    ensures { OnOk result (Adds (layout_of layout.now) (of_parent_call parent name.now count) (draft_of into.old) (draft_of into.new)) }
+    ensures { MatchResult result (λ _. Adds (layout_of layout.now) (of_parent_call parent name.now count) (draft_of into.old) (draft_of into.new)) (Spares (IsParentCalled (layout_of layout.now) parent name.now)) }
 {
     let n = counted(count)?;
     match parent {

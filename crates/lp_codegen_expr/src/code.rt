@@ -1,5 +1,5 @@
 //! Code under construction.
-ghost use Rattle.std.specs.Prelude.{◌≡◌, [], ◌∷◌, length, map, IfOk, OnOk};
+ghost use Rattle.std.specs.Prelude.{◌≡◌, ◌≢◌, [], ◌∷◌, length, map, MatchResult};
 ghost use Rattle.lp_codegen_expr.specs.Drafts.{draft_of, filled, grown, HasText};
 
 use crate::texts::Texts;
@@ -67,14 +67,14 @@ pub struct Code {
 impl Code {
     /// The place of the next instruction.
     pub fn here(&self) -> Result<u32, GenFault>
-        ensures { IfOk result (λ k. k ≡ length (draft_of self.now).code) }
+        ensures { MatchResult result (λ k. k ≡ length (draft_of self.now).code) (λ f. f ≢ GenFault.Unclear) }
     {
         counted(self.instrs.len())
     }
 
     /// One more instruction.
     pub fn put(&mut self, instr: Instr) -> Result<(), GenFault>
-        ensures { OnOk result (draft_of self.new ≡ grown (draft_of self.old) (Draft.Done instr ∷ [])) }
+        ensures { MatchResult result (λ _. draft_of self.new ≡ grown (draft_of self.old) (Draft.Done instr ∷ [])) (λ f. f ≢ GenFault.Unclear) }
     {
         self.instrs.push(Draft::Done(instr))?;
         Ok(())
@@ -82,7 +82,7 @@ impl Code {
 
     /// A jump whose place is not known yet.
     pub fn put_open(&mut self, draft: Draft) -> Result<(), GenFault>
-        ensures { OnOk result (draft_of self.new ≡ grown (draft_of self.old) (draft ∷ [])) }
+        ensures { MatchResult result (λ _. draft_of self.new ≡ grown (draft_of self.old) (draft ∷ [])) (λ f. f ≢ GenFault.Unclear) }
     {
         self.instrs.push(draft)?;
         Ok(())
@@ -90,7 +90,7 @@ impl Code {
 
     /// Several more instructions.
     pub fn put_all(&mut self, instrs: &[Instr]) -> Result<(), GenFault>
-        ensures { OnOk result (draft_of self.new ≡ grown (draft_of self.old) (map Draft.Done instrs.now)) }
+        ensures { MatchResult result (λ _. draft_of self.new ≡ grown (draft_of self.old) (map Draft.Done instrs.now)) (λ f. f ≢ GenFault.Unclear) }
     {
         for instr in instrs {
             self.put(*instr)?;
@@ -110,7 +110,7 @@ impl Code {
 
     /// The number of a text, which is added where it was not there.
     pub fn text(&mut self, text: &Chars) -> Result<u32, GenFault>
-        ensures { IfOk result (λ k. HasText k text.now (draft_of self.old) (draft_of self.new)) }
+        ensures { MatchResult result (λ k. HasText k text.now (draft_of self.old) (draft_of self.new)) (λ f. f ≢ GenFault.Unclear) }
     {
         let number = self.texts.number(text.as_slice())?;
         counted(number)
@@ -119,7 +119,7 @@ impl Code {
 
 /// A number, where an instruction has room for it.
 pub fn counted(number: usize) -> Result<u32, GenFault>
-    ensures { IfOk result (λ k. k ≡ number) }
+    ensures { MatchResult result (λ k. k ≡ number) (λ f. f ≢ GenFault.Unclear) }
 {
     if number < 4294967296 {
         Ok(number as u32)

@@ -1,6 +1,7 @@
 //! The code of expressions.
-ghost use Rattle.std.specs.Prelude.{◌≡◌, OnOk};
+ghost use Rattle.std.specs.Prelude.{MatchResult};
 ghost use Rattle.lp_codegen_expr.specs.Names.{layout_of};
+ghost use Rattle.lp_codegen_expr.specs.Clear.{AreAllClear, AreEachPairClear, ArePlacesClear, IsBoundClear, IsExprClear, IsPlaceClear, Spares};
 ghost use Rattle.lp_codegen_expr.specs.Drafts.{Adds, draft_of, of_all, of_change, of_end, of_expr, of_open, of_pairs, of_part, of_parts, of_right, of_scanned, of_scanned_one, of_write};
 
 use crate::calls::{gen_call, gen_efun_call, gen_parent_call};
@@ -11,10 +12,11 @@ use crate::scope::{Scope, parent_called, parent_with};
 use lp_instr::instr::Instr;
 use lp_tree::expr::{Bound, Expr};
 
-/// The code of an expression, after what is there: its value is pushed.
+/// The code of an expression, after what is there: its value is pushed. A clear expression is refused for want of memory or
+/// room alone.
 #[cycle(expr)]
 pub fn gen_expr(e: &Expr, scope: &Scope, into: &mut Code) -> Result<(), GenFault>
-    ensures { OnOk result (Adds (layout_of scope.now.layout) (of_expr scope.now.locals.items e.now) (draft_of into.old) (draft_of into.new)) }
+    ensures { MatchResult result (λ _. Adds (layout_of scope.now.layout) (of_expr scope.now.locals.items e.now) (draft_of into.old) (draft_of into.new)) (Spares (IsExprClear (layout_of scope.now.layout) scope.now.locals.items e.now)) }
 {
     match e {
         Expr::Int { value, .. } => {
@@ -243,7 +245,7 @@ pub fn gen_expr(e: &Expr, scope: &Scope, into: &mut Code) -> Result<(), GenFault
 /// The code of each of some expressions, one after another.
 #[cycle(expr)]
 fn gen_all(all: &Vec<Expr>, scope: &Scope, into: &mut Code) -> Result<(), GenFault>
-    ensures { OnOk result (Adds (layout_of scope.now.layout) (of_all scope.now.locals.items all.now.items) (draft_of into.old) (draft_of into.new)) }
+    ensures { MatchResult result (λ _. Adds (layout_of scope.now.layout) (of_all scope.now.locals.items all.now.items) (draft_of into.old) (draft_of into.new)) (Spares (AreAllClear (layout_of scope.now.layout) scope.now.locals.items all.now.items)) }
 {
     for e in all {
         gen_expr(e, scope, into)?;
@@ -254,7 +256,7 @@ fn gen_all(all: &Vec<Expr>, scope: &Scope, into: &mut Code) -> Result<(), GenFau
 /// The code of each of some pairs, one after another: the key and then the value.
 #[cycle(expr)]
 fn gen_pairs(pairs: &Vec<(Expr, Expr)>, scope: &Scope, into: &mut Code) -> Result<(), GenFault>
-    ensures { OnOk result (Adds (layout_of scope.now.layout) (of_pairs scope.now.locals.items pairs.now.items) (draft_of into.old) (draft_of into.new)) }
+    ensures { MatchResult result (λ _. Adds (layout_of scope.now.layout) (of_pairs scope.now.locals.items pairs.now.items) (draft_of into.old) (draft_of into.new)) (Spares (AreEachPairClear (layout_of scope.now.layout) scope.now.locals.items pairs.now.items)) }
 {
     for pair in pairs {
         gen_expr(&pair.0, scope, into)?;
@@ -266,7 +268,7 @@ fn gen_pairs(pairs: &Vec<(Expr, Expr)>, scope: &Scope, into: &mut Code) -> Resul
 /// The code of the parts of a sequence: the value of each but the last is dropped.
 #[cycle(expr)]
 fn gen_parts(parts: &Vec<Expr>, scope: &Scope, into: &mut Code) -> Result<(), GenFault>
-    ensures { OnOk result (Adds (layout_of scope.now.layout) (of_parts scope.now.locals.items parts.now.items) (draft_of into.old) (draft_of into.new)) }
+    ensures { MatchResult result (λ _. Adds (layout_of scope.now.layout) (of_parts scope.now.locals.items parts.now.items) (draft_of into.old) (draft_of into.new)) (Spares (AreAllClear (layout_of scope.now.layout) scope.now.locals.items parts.now.items)) }
 {
     for (i, part) in parts.iter().enumerate() {
         gen_part(part, i == 0, scope, into)?;
@@ -277,7 +279,7 @@ fn gen_parts(parts: &Vec<Expr>, scope: &Scope, into: &mut Code) -> Result<(), Ge
 /// The code of a part of a sequence, after that of the part before, whose value is dropped.
 #[cycle(expr)]
 fn gen_part(part: &Expr, is_first: bool, scope: &Scope, into: &mut Code) -> Result<(), GenFault>
-    ensures { OnOk result (Adds (layout_of scope.now.layout) (of_part scope.now.locals.items is_first part.now) (draft_of into.old) (draft_of into.new)) }
+    ensures { MatchResult result (λ _. Adds (layout_of scope.now.layout) (of_part scope.now.locals.items is_first part.now) (draft_of into.old) (draft_of into.new)) (Spares (IsExprClear (layout_of scope.now.layout) scope.now.locals.items part.now)) }
 {
     if is_first {
         gen_expr(part, scope, into)?;
@@ -292,7 +294,7 @@ fn gen_part(part: &Expr, is_first: bool, scope: &Scope, into: &mut Code) -> Resu
 /// Code that writes what is on top to a place, and leaves it there.
 #[cycle(expr)]
 fn gen_write(place: &Expr, scope: &Scope, into: &mut Code) -> Result<(), GenFault>
-    ensures { OnOk result (Adds (layout_of scope.now.layout) (of_write scope.now.locals.items place.now) (draft_of into.old) (draft_of into.new)) }
+    ensures { MatchResult result (λ _. Adds (layout_of scope.now.layout) (of_write scope.now.locals.items place.now) (draft_of into.old) (draft_of into.new)) (Spares (IsPlaceClear (layout_of scope.now.layout) scope.now.locals.items place.now)) }
 {
     match place {
         Expr::Name { name, .. } => {
@@ -312,7 +314,7 @@ fn gen_write(place: &Expr, scope: &Scope, into: &mut Code) -> Result<(), GenFaul
 /// Code that reads a place; the container and the index of an item stay below.
 #[cycle(expr)]
 fn gen_open(place: &Expr, scope: &Scope, into: &mut Code) -> Result<(), GenFault>
-    ensures { OnOk result (Adds (layout_of scope.now.layout) (of_open scope.now.locals.items place.now) (draft_of into.old) (draft_of into.new)) }
+    ensures { MatchResult result (λ _. Adds (layout_of scope.now.layout) (of_open scope.now.locals.items place.now) (draft_of into.old) (draft_of into.new)) (Spares (IsPlaceClear (layout_of scope.now.layout) scope.now.locals.items place.now)) }
 {
     match place {
         Expr::Name { name, .. } => {
@@ -340,7 +342,7 @@ fn gen_change(
     scope: &Scope,
     into: &mut Code,
 ) -> Result<(), GenFault>
-    ensures { OnOk result (Adds (layout_of scope.now.layout) (of_change scope.now.locals.items place.now alters.now ends.now alters_item.now ends_item.now) (draft_of into.old) (draft_of into.new)) }
+    ensures { MatchResult result (λ _. Adds (layout_of scope.now.layout) (of_change scope.now.locals.items place.now alters.now ends.now alters_item.now ends_item.now) (draft_of into.old) (draft_of into.new)) (Spares (IsPlaceClear (layout_of scope.now.layout) scope.now.locals.items place.now)) }
 {
     match place {
         Expr::Name { name, .. } => {
@@ -366,7 +368,7 @@ fn gen_change(
 /// The right side of `&&` or `||`, where it is needed.
 #[cycle(expr)]
 fn gen_right(right: &Expr, is_and: bool, scope: &Scope, into: &mut Code) -> Result<(), GenFault>
-    ensures { OnOk result (Adds (layout_of scope.now.layout) (of_right scope.now.locals.items right.now is_and) (draft_of into.old) (draft_of into.new)) }
+    ensures { MatchResult result (λ _. Adds (layout_of scope.now.layout) (of_right scope.now.locals.items right.now is_and) (draft_of into.old) (draft_of into.new)) (Spares (IsExprClear (layout_of scope.now.layout) scope.now.locals.items right.now)) }
 {
     let jump = into.here()?;
     into.put(keep(is_and, 0))?;
@@ -379,7 +381,7 @@ fn gen_right(right: &Expr, is_and: bool, scope: &Scope, into: &mut Code) -> Resu
 /// The code of an end of a range, where it is given.
 #[cycle(expr)]
 fn gen_end(end: &Bound<Box<Expr>>, scope: &Scope, into: &mut Code) -> Result<(), GenFault>
-    ensures { OnOk result (Adds (layout_of scope.now.layout) (of_end scope.now.locals.items end.now) (draft_of into.old) (draft_of into.new)) }
+    ensures { MatchResult result (λ _. Adds (layout_of scope.now.layout) (of_end scope.now.locals.items end.now) (draft_of into.old) (draft_of into.new)) (Spares (IsBoundClear (layout_of scope.now.layout) scope.now.locals.items end.now)) }
 {
     match end {
         Bound::Open => Ok(()),
@@ -393,7 +395,7 @@ fn gen_end(end: &Bound<Box<Expr>>, scope: &Scope, into: &mut Code) -> Result<(),
 /// Code that writes what a scan left to a place, where it is assigned.
 #[cycle(expr)]
 fn gen_scanned_one(place: &Expr, scope: &Scope, into: &mut Code) -> Result<(), GenFault>
-    ensures { OnOk result (Adds (layout_of scope.now.layout) (of_scanned_one scope.now.locals.items place.now) (draft_of into.old) (draft_of into.new)) }
+    ensures { MatchResult result (λ _. Adds (layout_of scope.now.layout) (of_scanned_one scope.now.locals.items place.now) (draft_of into.old) (draft_of into.new)) (Spares (IsPlaceClear (layout_of scope.now.layout) scope.now.locals.items place.now)) }
 {
     let jump = into.here()?;
     into.put(Instr::JumpIfZero(0))?;
@@ -407,7 +409,7 @@ fn gen_scanned_one(place: &Expr, scope: &Scope, into: &mut Code) -> Result<(), G
 /// Code that writes what a scan left to places.
 #[cycle(expr)]
 fn gen_scanned(places: &Vec<Expr>, scope: &Scope, into: &mut Code) -> Result<(), GenFault>
-    ensures { OnOk result (Adds (layout_of scope.now.layout) (of_scanned scope.now.locals.items places.now.items) (draft_of into.old) (draft_of into.new)) }
+    ensures { MatchResult result (λ _. Adds (layout_of scope.now.layout) (of_scanned scope.now.locals.items places.now.items) (draft_of into.old) (draft_of into.new)) (Spares (ArePlacesClear (layout_of scope.now.layout) scope.now.locals.items places.now.items)) }
 {
     for place in places {
         gen_scanned_one(place, scope, into)?;

@@ -70,14 +70,30 @@ fn are_drafts(drafts: &[Draft], want: &[Instr]) -> bool {
     same
 }
 
-/// Whether the code of a tree is this, or that no code stands for it where none is given.
-fn is_generated(alloc: Global, e: &Expr, want: Option<&[Instr]>) -> Result<bool, AllocError> {
-    let scope = scope(alloc)?;
-    let mut code = Code {
+/// No code.
+fn empty(alloc: Global) -> Code {
+    Code {
         instrs: Vec::new(alloc),
         texts: Texts::new(alloc),
         switches: Vec::new(alloc),
-    };
+    }
+}
+
+/// Whether code is made of a tree. It is refused for no other reason than that it is not clear.
+pub fn is_tree_made(alloc: Global, e: &Expr) -> Result<bool, AllocError> {
+    let scope = scope(alloc)?;
+    let mut code = empty(alloc);
+    match gen_expr(e, &scope, &mut code) {
+        Ok(()) => Ok(true),
+        Err(GenFault::NoMemory) | Err(GenFault::TooLarge) => Err(AllocError),
+        Err(GenFault::Unclear) => Ok(false),
+    }
+}
+
+/// Whether the code of a tree is this, or that no code stands for it where none is given.
+fn is_generated(alloc: Global, e: &Expr, want: Option<&[Instr]>) -> Result<bool, AllocError> {
+    let scope = scope(alloc)?;
+    let mut code = empty(alloc);
     match gen_expr(e, &scope, &mut code) {
         Ok(()) => Ok(want.is_some_and(|all| are_drafts(code.instrs.as_slice(), all))),
         Err(GenFault::NoMemory) => Err(AllocError),
@@ -103,4 +119,14 @@ pub fn is_code(rt: &impl Abort, alloc: Global, text: &str, want: &[Instr]) -> Re
 /// Whether no code stands for a text.
 pub fn is_unclear(rt: &impl Abort, alloc: Global, text: &str) -> Result<bool, Fail> {
     is_so(rt, alloc, text, None)
+}
+
+/// Whether code is made of a text.
+pub fn is_made(rt: &impl Abort, alloc: Global, text: &str) -> Result<bool, Fail> {
+    let bytes = text.as_bytes();
+    assert!(rt; bytes.len() <= 16777216);
+    let tokens = lex(alloc, bytes)?;
+    let (tree, to) = expr(alloc, tokens.as_slice(), 0, 1)?;
+    assert!(rt; to == tokens.len());
+    Ok(is_tree_made(alloc, &tree)?)
 }

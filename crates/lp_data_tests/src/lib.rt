@@ -1,4 +1,4 @@
-//! What no clause says of texts, cells, operators and forms.
+//! What no clause says of cells, operators and forms.
 //!
 //! The tests stand here and not beside the code, so that no library is proved twice.
 #![tactic(auto)]
@@ -9,5 +9,3 @@ mod cells;
 mod forms;
 #[cfg(test)]
 mod operators;
-#[cfg(test)]
-mod texts;

@@ -9,9 +9,9 @@ use Rattle.lp_language.specs.World.{Version}
 use Rattle.lp_instr.specs.EfunList.{is_name}
 use Rattle.lp_language.specs.Resolve.{Heritage, Heir, Heritages, NoParent, OneParent, Found, Function, Part, found_in, moved, shown, resolve, resolve_last, own_function, part_at, parts, parts_from, parents_parts, part_count, parts_before, variable_count, version_of, or_else as or_found, is_private}
 use Rattle.lp_types_expr.specs.Signatures.{or_else, is_private_number, has_function}
-use Rattle.lp_inherit.specs.Layout.{slot, own_slot, slot_named, slot_shown, last_slot, parts_of}
+use Rattle.lp_layout.specs.Layout.{slot, own_slot, slot_named, slot_shown, last_slot, parts_of}
 use Rattle.lp_inherit.specs.Heirs.{table, tables, with_function, own_functions, functions_in, tree_of_part, NumberLeads, IsNumbered, AreNumbered}
-use Rattle.lp_inherit.proofs.Rows.{row_laid}
+use Rattle.lp_layout.proofs.RowLaid.{row_laid}
 use Rattle.lp_inherit.proofs.Meanings.{Agree, own_agrees, last_agrees, parts_same, count_parts, rest_no}
 
 -- The trees of the parts

@@ -11,10 +11,10 @@ use Rattle.lp_code.specs.declared.tables.VarRow.{VarRow}
 use Rattle.lp_instr.specs.EfunList.{is_name}
 use Rattle.lp_language.specs.Resolve.{Heritage, Heir, Heritages, NoParent, OneParent, Variable, Sighted, own_variables, sighted_from, variable_last, variable_outside, place_shown, place_moved, is_private, variable_count, variables_before, or_else as or_place}
 use Rattle.lp_types_expr.specs.Signatures.{or_else, is_private_number}
-use Rattle.lp_inherit.specs.Layout.{bits, var_row, own_rows, row_moved, laid_variables}
+use Rattle.lp_layout.specs.Layout.{bits, var_row, own_rows, row_moved, laid_variables}
 use Rattle.lp_inherit.specs.Heirs.{table, tables, seen_from, AreDistinct, IsUnambiguous, AreUnambiguous}
 use Rattle.lp_inherit.proofs.Meanings.{private_bit, count_variables}
-use Rattle.lp_inherit.proofs.Rows.{same_name}
+use Rattle.lp_layout.proofs.RowLaid.{same_name}
 
 same_else : {A : Type 0} (a b : Option A) → or_else a b ≡ or_place a b
 same_else None b = refl

@@ -13,7 +13,7 @@ use Rattle.lp_language.specs.Resolve.{Heritage, Heritages, Heir, NoParent, OnePa
 use Rattle.lp_types_expr.specs.declared.fault.FaultAt.{FaultAt}
 use Rattle.lp_types_expr.specs.Walk.{fault_at}
 use Rattle.lp_inherit.specs.Heirs.{tables}
-use Rattle.lp_inherit.specs.LayoutFaults.{Limits, layout_faults_within, first_fault, layout_fault}
+use Rattle.lp_layout.specs.LayoutFaults.{Limits, layout_faults_within, first_fault, layout_fault}
 
 abbrev pub pragmas : Pragmas
 pragmas = record { no_clone = false; no_inherit = false; no_shadow = false; types = Weak }

@@ -10,11 +10,12 @@ use Rattle.lp_instr.specs.EfunList.{is_name}
 use Rattle.lp_types_expr.specs.Signatures.{has_function, is_private_number, or_else}
 use Rattle.lp_language.specs.World.{Version}
 use Rattle.lp_language.specs.Resolve.{Heritage, Heir, Heritages, NoParent, OneParent, Found, Function, Part, resolve, shown, number_of, part_at, version_of, own_names, without_c, variable_count, part_count, Variable, own_variables, sighted_from, variable_last, variable_outside}
-use Rattle.lp_inherit.specs.LayoutFaults.{Source, source}
-use Rattle.lp_inherit.specs.Layout.{bits, slot_named, laid_slots, laid_variables, parts_before}
+use Rattle.lp_layout.specs.LayoutFaults.{Source, source}
+use Rattle.lp_layout.specs.Layout.{bits, slot_named, laid_tables, parts_before}
 
+-- the tables that a unit and its parents make, with what the unit does not tell
 abbrev pub laid : ProgId → Version → List Tables → Tables
-laid n v ts = record { path = without_c v.path; parents = v.parents; parts = parts_before ts ++ n ∷ []; slots = laid_slots v.items ts; vars = laid_variables v.items ts 0; pragmas = v.pragmas }
+laid n v ts = record (laid_tables v.items ts) { path = without_c v.path; parents = v.parents; parts = parts_before ts ++ n ∷ []; pragmas = v.pragmas }
 
 -- the tables of each version of an inheritance tree, made from those of its parents
 abbrev mutual

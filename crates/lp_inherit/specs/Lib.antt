@@ -1,4 +1,2 @@
-pub mod Layout
-pub mod LayoutFaults
 pub mod Heirs
 pub mod Examples

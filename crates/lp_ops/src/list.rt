@@ -24,7 +24,7 @@ fn add_copies(items: &[Value], into: &mut Vec<Value>) -> Result<(), AllocError>
 pub fn copies(alloc: Global, items: &[Value]) -> Result<Vec<Value>, AllocError>
     ensures { IfOk result (λ v. v.items ≡ items.now) }
 {
-    let mut all = Vec::new(alloc);
+    let mut all = Vec::with_capacity(alloc, items.len())?;
     add_copies(items, &mut all)?;
     Ok(all)
 }
@@ -37,7 +37,7 @@ pub fn items_joined(
 ) -> Result<Vec<Value>, AllocError>
     ensures { IfOk result (λ v. v.items ≡ first.now ++ second.now) }
 {
-    let mut all = Vec::new(alloc);
+    let mut all = Vec::with_capacity(alloc, first.len().saturating_add(second.len()))?;
     add_copies(first, &mut all)?;
     add_copies(second, &mut all)?;
     Ok(all)

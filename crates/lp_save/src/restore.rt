@@ -1,8 +1,9 @@
 //! Restoring values.
-ghost use Rattle.std.specs.Prelude.{◌≡◌, ◌≤◌, ◌<◌, ◌+◌, List, ℕ, IfOk, IsUtf8, [], chars, codes, length, map, nat_eq, take, if◌then◌else◌};
+ghost use Rattle.std.specs.Prelude.{All, ◌≡◌, ◌≤◌, ◌<◌, ◌+◌, IfOk, IfSome, IsUtf8, [], chars, codes, length, map, nat_eq, take, if◌then◌else◌};
 ghost use Rattle.std.specs.Char.{is_ascii_digit};
 ghost use Rattle.std.specs.List.{list_all, position_or_len};
 ghost use Rattle.std.specs.Str.Lossy.{utf8_valid_len};
+ghost use Rattle.lp_cells.specs.Cells.{IsClosed, IsThere, KeepsThere};
 ghost use Rattle.lp_text.specs.Pieces.{pieces};
 ghost use Rattle.lp_save.specs.Desks.{Answers, AnswersLines, GivesLines, Headed, NextLine, Restores, as_line, fault_in, rest_of};
 ghost use Rattle.lp_save.specs.Reading.{bytes_at, lines_from, outcome, spoilt};
@@ -25,14 +26,32 @@ use std::alloc::{AllocError, Global};
 /// - `Line`: exactly where a line is faulty: the number of the first such line, from 1, and what is
 ///   wrong at its leftmost fault.
 ///
-/// On a fault the cells are as they were.
+/// On a fault the cells are as they were. No cell that was there changes in any case, closed cells stay
+/// closed, and what the values name is there.
 pub fn restore_text(
     alloc: Global,
     bytes: &[u8],
     names: &[Text],
     cells: &mut Cells,
 ) -> Result<Vec<Option<Value>>, RestoreFault>
-    ensures { Restores result cells.old cells.new (outcome names.now bytes.now cells.old) }
+    ensures restores { Restores result cells.old cells.new (outcome names.now bytes.now cells.old) }
+    ensures kept { take (length cells.old) cells.new ≡ cells.old }
+    ensures stay { KeepsThere cells.old cells.new }
+    ensures closed { IsClosed cells.old → IsClosed cells.new }
+    ensures there { IfOk result (λ vs. All (λ o. IfSome o (IsThere cells.new)) vs.items) }
+{
+    restored(alloc, bytes, names, cells)
+}
+
+/// Reads a saved text: the values for names, and the new cells are kept.
+fn restored(
+    alloc: Global,
+    bytes: &[u8],
+    names: &[Text],
+    cells: &mut Cells,
+) -> Result<Vec<Option<Value>>, RestoreFault>
+    ensures restores { Restores result cells.old cells.new (outcome names.now bytes.now cells.old) }
+    ensures kept { take (length cells.old) cells.new ≡ cells.old }
 {
     let first = cells.add_all(Vec::new(alloc))?;
     let (lines, made) = read_all(alloc, bytes, cells, first)?;

@@ -3,7 +3,7 @@ ghost use Rattle.std.specs.Prelude.{All, IsTrue};
 ghost use Rattle.lp_cells.specs.Cells.{IsPairThere, IsThere};
 
 use lp_cells::cells::Cells;
-use lp_save::{SaveFault, save_text};
+use lp_save::{SaveFault, restore_text, save_text};
 use lp_values::id::{CellId, ObjId};
 use lp_values::text::Text;
 use lp_values::value::{Living, Value};
@@ -123,6 +123,29 @@ impl World {
         assert_eq!(rt; text.as_str(), want);
         Ok(())
     }
+
+    /// A text of `v` and `w`, where `w` is 0, is restored beside what is there, and saved again: it is the
+    /// same text.
+    fn comes_again(&mut self, rt: &impl Abort, text: &str) -> Result<(), Fail> {
+        let names = Vec::from_array(
+            self.alloc,
+            [
+                Text::from_str(self.alloc, "v")?,
+                Text::from_str(self.alloc, "w")?,
+            ],
+        )?;
+        let values = restore_text(
+            self.alloc,
+            text.as_bytes(),
+            names.as_slice(),
+            &mut self.cells,
+        )?;
+        let v = match values.into_iter().next() {
+            Some(Some(v)) => v,
+            _ => Value::Int(-1),
+        };
+        self.saves(rt, v, text)
+    }
 }
 
 #[test]
@@ -185,6 +208,20 @@ fn shared_cells_are_spelled_once(rt: HostRuntime) -> Result<(), Fail> {
     )
 }
 
+// Shared cells, cells inside themselves and mappings, each beside what was restored before.
+#[test]
+fn what_is_restored_is_saved_as_it_was(rt: HostRuntime) -> Result<(), Fail> {
+    let mut world = World::new(rt.alloc());
+    world.comes_again(&rt, "#2:0\nv -9223372036854775808\nw 0\n")?;
+    world.comes_again(&rt, "#2:0\nv ({<1>=({0,}),<1>,})\nw 0\n")?;
+    world.comes_again(&rt, "#2:0\nv ({({0,}),({0,}),})\nw 0\n")?;
+    world.comes_again(&rt, "#2:0\nv ({<1>=({<2>=({<2>,}),5,}),<2>,<1>,})\nw 0\n")?;
+    world.comes_again(
+        &rt,
+        "#2:0\nv <1>=([1:<1>,\"a\\n\":<2>=({<1>,}),<2>:([]),])\nw 0\n",
+    )
+}
+
 // Arrays 100 deep in one another are saved, and 101 are not.
 #[test]
 fn a_hundred_levels_are_saved(rt: HostRuntime) -> Result<(), Fail> {
@@ -206,16 +243,16 @@ fn a_hundred_levels_are_saved(rt: HostRuntime) -> Result<(), Fail> {
 
 // The largest array, and ten of them in one.
 #[test]
-fn ten_thousand_values_are_saved(rt: HostRuntime) -> Result<(), Fail> {
+fn ten_thousand_values_come_again(rt: HostRuntime) -> Result<(), Fail> {
     let mut world = World::new(rt.alloc());
     let v = world.numbers(&rt)?;
-    let text = world.saved(&rt, v)?;
+    let text = String::from_utf8(world.saved(&rt, v)?)?;
     assert_eq!(rt; text.len(), 48906);
-    Ok(())
+    world.comes_again(&rt, text.as_str())
 }
 
 #[test]
-fn a_hundred_thousand_values_are_saved(rt: HostRuntime) -> Result<(), Fail> {
+fn a_hundred_thousand_values_come_again(rt: HostRuntime) -> Result<(), Fail> {
     let alloc = rt.alloc();
     let mut world = World::new(alloc);
     let mut all = Vec::new(alloc);
@@ -223,7 +260,7 @@ fn a_hundred_thousand_values_are_saved(rt: HostRuntime) -> Result<(), Fail> {
         all.push(world.numbers(&rt)?)?;
     }
     let v = world.array(&rt, all)?;
-    let text = world.saved(&rt, v)?;
+    let text = String::from_utf8(world.saved(&rt, v)?)?;
     assert_eq!(rt; text.len(), 488966);
-    Ok(())
+    world.comes_again(&rt, text.as_str())
 }

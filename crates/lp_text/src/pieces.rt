@@ -3,6 +3,7 @@ ghost use Rattle.std.specs.Prelude.{◌≡◌, ◌+◌, ◌<◌, ◌≤◌, ◌+
 ghost use Rattle.std.specs.List.{flat_map};
 ghost use Rattle.lp_text.specs.Gives.{GivesText};
 ghost use Rattle.lp_text.specs.Pieces.{AreNext, AreRoundFirst, GivesPieces, exploded, imploded, pieces as pieces_of};
+ghost use Rattle.lp_text.specs.Singles.{AreSingles};
 ghost use Rattle.lp_text.specs.Texts.{place as place_of};
 ghost use Rattle.lp_values.specs.Limits.{max_code_points};
 
@@ -39,15 +40,42 @@ pub fn law_round_trip()
     ensures { (by cs : List ℕ) → imploded by (exploded by cs) ≡ cs }
 {}
 
-/// Each code point as a text.
+/// From how many code points on the same ones share their texts.
+const MANY: usize = 1000;
+
+/// Each code point as a text. Of many, equal ones below 128 share their memory.
 fn singles(alloc: Global, s: &[char]) -> Result<Vec<Text>, AllocError>
     ensures { IfOk result (λ v. v.items ≡ map (λ c. c ∷ []) s.now) }
 {
-    let mut all = Vec::new(alloc);
+    let shared = first_singles(alloc, if s.len() < MANY { 0 } else { 128 })?;
+    let mut all = Vec::with_capacity(alloc, s.len())?;
     for c in s {
-        all.push(Text::from_slice(alloc, &[*c])?)?;
+        all.push(single(alloc, shared.as_slice(), *c)?)?;
     }
     Ok(all)
+}
+
+/// The texts of the first code points, each by itself.
+fn first_singles(alloc: Global, n: u8) -> Result<Vec<Text>, AllocError>
+    ensures { IfOk result (λ v. AreSingles v.items) }
+{
+    let mut all = Vec::new(alloc);
+    for k in 0..n {
+        all.push(Text::from_slice(alloc, &[k as char])?)?;
+    }
+    Ok(all)
+}
+
+/// A code point as a text: a shared one, where there is one.
+fn single(alloc: Global, shared: &[Text], c: char) -> Result<Text, AllocError>
+    requires { AreSingles shared.now }
+    ensures { IfOk result (λ t. t ≡ c ∷ []) }
+{
+    let k = c as usize;
+    if k < shared.len() {
+        return shared[k].copy();
+    }
+    Text::from_slice(alloc, &[c])
 }
 
 /// The pieces round a separator that is not empty.
@@ -55,14 +83,26 @@ fn pieces(alloc: Global, s: &[char], by: &[char]) -> Result<Vec<Text>, AllocErro
     requires { 0 < length by.now }
     ensures { IfOk result (λ v. v.items ≡ pieces_of by.now s.now) }
 {
+    let empty = Text::from_slice(alloc, &[])?;
     let mut all = Vec::new(alloc);
     let mut from = 0;
     while let Some(place) = next_place(s, by, from) {
-        all.push(Text::from_slice(alloc, &s[from..place])?)?;
+        all.push(piece(alloc, &empty, &s[from..place])?)?;
         from = place + by.len();
     }
-    all.push(Text::from_slice(alloc, &s[from..])?)?;
+    all.push(piece(alloc, &empty, &s[from..])?)?;
     Ok(all)
+}
+
+/// A piece as a text. Empty pieces share their memory.
+fn piece(alloc: Global, empty: &Text, part: &[char]) -> Result<Text, AllocError>
+    requires { empty.now ≡ [] }
+    ensures { IfOk result (λ t. t ≡ part.now) }
+{
+    if part.is_empty() {
+        return empty.copy();
+    }
+    Text::from_slice(alloc, part)
 }
 
 /// The next place of the separator.

@@ -8,3 +8,9 @@ pub mod Choosing
 pub mod Found
 pub mod Joins
 pub mod Misfits
+pub mod Judged
+pub mod Tallied
+pub mod Assigned
+pub mod Arms
+pub mod Clearing
+pub mod Spelled

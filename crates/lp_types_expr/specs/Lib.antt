@@ -10,3 +10,6 @@ pub mod NameMaps
 pub mod Placed
 pub mod Shown
 pub mod ParentRows
+pub mod Visits
+pub mod Clear
+pub mod Meant

@@ -29,7 +29,8 @@ fn is_varargs(mods: &[Modifier]) -> bool
     mods.iter().any(|word| is_varargs_word(*word))
 }
 
-fn param_kinds(alloc: Global, params: &[Param]) -> Result<Vec<TypeName>, AllocError>
+/// The types of parameters: a missing one is `mixed`.
+pub fn param_kinds(alloc: Global, params: &[Param]) -> Result<Vec<TypeName>, AllocError>
     ensures { IfOk result (λ v. v.items ≡ map (λ p. kind_of p.type_name) params.now) }
 {
     let mut kinds = Vec::new(alloc);

@@ -2,16 +2,17 @@
 #![tactic(auto)]
 
 pub mod around;
+pub mod assign;
 pub mod call;
 pub mod called;
 pub mod chosen;
 pub mod fault;
-mod items;
+pub mod items;
 pub mod kind;
 pub mod local;
 pub mod mark;
-mod named;
-mod names;
+pub mod named;
+pub mod names;
 pub mod parent;
 mod parents;
 mod placed;
@@ -20,5 +21,8 @@ pub mod scopes;
 pub mod shown;
 pub mod signature;
 pub mod surroundings;
-mod tables;
+pub mod tables;
 pub mod types;
+pub mod visit;
+pub mod visits;
+pub mod walk;

@@ -64,7 +64,8 @@ fn ends_in(path: &[char], name: &[char]) -> bool
     end[0] == '/' && &end[1..] == name
 }
 
-fn path_fits(path: &[char], name: &[char]) -> bool
+/// Whether a path is a name, or ends in `/` and the name.
+pub fn path_fits(path: &[char], name: &[char]) -> bool
     ensures { result ≡ path_fits name.now path.now }
 {
     path == name || ends_in(path, name)

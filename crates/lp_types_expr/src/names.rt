@@ -8,7 +8,7 @@ use std::alloc::{AllocError, Global};
 use std::collections::HashMap;
 
 /// Puts a value at a name, in place of what was there.
-pub(crate) fn put<V: Drop>(
+pub fn put<V: Drop>(
     alloc: Global,
     map: &mut HashMap<Vec<char>, V>,
     name: &[char],
@@ -33,7 +33,7 @@ fn chars_of(alloc: Global, bytes: &[u8]) -> Result<Vec<char>, AllocError>
 }
 
 /// The code points of a name in bytes: each byte is one.
-pub(crate) fn letters(alloc: Global, name: &str) -> Result<Vec<char>, AllocError>
+pub fn letters(alloc: Global, name: &str) -> Result<Vec<char>, AllocError>
     ensures { IfOk result (λ v. v.items ≡ name.now) }
 {
     chars_of(alloc, name.as_bytes())

@@ -12,8 +12,8 @@ use lp_tree::types::TypeName;
 use std::alloc::{AllocError, Global};
 use std::collections::HashMap;
 
-// Bit 0 is `private`.
-fn is_private(mods: u16) -> bool
+/// Whether modifiers have `private`, which is bit 0.
+pub fn is_private(mods: u16) -> bool
     ensures { result ≡ is_private_number mods }
 {
     (mods / 1) % 2 == 1
@@ -30,15 +30,15 @@ fn signature_of(alloc: Global, slot: &Slot) -> Result<Signature, AllocError>
     })
 }
 
-// Whether a child sees a row and wants it: with a body, or any.
-fn is_seen(bodies: bool, slot: &Slot) -> bool
+/// Whether a child sees a row and wants it: with a body, or any.
+pub fn is_seen(bodies: bool, slot: &Slot) -> bool
     ensures { result ≡ is_shown slot.now && is_wanted bodies slot.now }
 {
     !is_private(slot.mods) && (!bodies || slot.fun != 65535)
 }
 
-// Whether no earlier row has the name of the row at a place.
-fn is_first(slots: &Slots, place: usize, slot: &Slot) -> bool
+/// Whether no earlier row has the name of the row at a place. Takes no memory, and no longer with more rows.
+pub fn is_first(slots: &Slots, place: usize, slot: &Slot) -> bool
     ensures { slice_get slots.now place ≡ Some slot.now → is_some (row_named (take place slots.now) slot.now.name) ≡ not result }
 {
     match slots.place(slot.name.as_str()) {

@@ -1,3 +1,4 @@
 pub mod Errors
+pub mod Hashed
 pub mod Read
 pub mod Limits

@@ -1,11 +1,11 @@
 //! Texts of LPC.
-ghost use Rattle.std.specs.Prelude.{◌≡◌, IfOk, List, nat_eq};
+ghost use Rattle.std.specs.Prelude.{◌≡◌, ◌+◌, ◌≤◌, IfOk, List, length, nat_eq, slice_index};
 ghost use Rattle.std.specs.Cmp;
-ghost use Rattle.std.specs.Cmp.Lexicographic.{nat_list_eq_equiv, pointwise};
-ghost use Rattle.std.specs.Cmp.Rules.{hashing};
+ghost use Rattle.std.specs.Cmp.Lexicographic.{bytes_decides, nat_list_eq_equiv, pointwise};
 ghost use Rattle.std.specs.Hash as fed;
 ghost use Rattle.std.specs.Str.{chars};
-ghost use Rattle.std.proofs.Common.{rules};
+ghost use Rattle.std.specs.List.{fold};
+ghost use Rattle.lp_values.specs.Hashed.{four, fours, text_input};
 
 use std::alloc::{AllocError, Global};
 use std::hash::{Hash, Hasher};
@@ -90,11 +90,43 @@ impl Eq for Text {
 }
 
 impl Hash for Text {
-    ghost hash_input = { λ s. fed.slice fed.char s };
+    ghost hash_input = { λ s. text_input s };
 
-    ghost respects_eq = { Prim.search (hashing, rules) };
+    ghost respects_eq = { (fed.same_Alike text_input bytes_decides).fed };
 
     fn hash<H: Hasher>(&self, state: &mut H) {
-        self.as_slice().hash(state);
+        let chars = self.as_slice();
+        state.write_usize(chars.len());
+        feed(chars, state);
     }
+}
+
+/// Feeds code points to a hasher, four in one write: a hasher works as long on one as on four.
+fn feed<H: Hasher>(chars: &[char], state: &mut H)
+    ensures { state.new ≡ fold H.write state.old (fours chars.now) }
+{
+    let mut at = 0;
+    while 4 <= chars.len() - at {
+        state.write_u128(four_at(chars, at));
+        at += 4;
+    }
+    feed_last(&chars[at..], state);
+}
+
+/// Four code points in one number.
+fn four_at(chars: &[char], at: usize) -> u128
+    requires { at + 4 ≤ length chars.now }
+    ensures { result ≡ four (slice_index chars.now at) (slice_index chars.now (at + 1)) (slice_index chars.now (at + 2)) (slice_index chars.now (at + 3)) }
+{
+    let low = chars[at] as u64 + chars[at + 1] as u64 * 4294967296;
+    let high = chars[at + 2] as u64 + chars[at + 3] as u64 * 4294967296;
+    low as u128 + high as u128 * 18446744073709551616
+}
+
+/// Feeds the last code points, fewer than four, to a hasher.
+fn feed_last<H: Hasher>(chars: &[char], state: &mut H)
+    requires { length chars.now ≤ 3 }
+    ensures { state.new ≡ fold H.write state.old (fours chars.now) }
+{
+    Hash::hash_slice(chars, state);
 }

@@ -1,9 +1,18 @@
-use Rattle.std.proofs.Common.{◌∙◌, sym}
-use Rattle.lp_text.proofs.FindLemmas.{goes_on, is_here, not_past}
+use Rattle.std.proofs.Common.{rules, ◌≡◌, ◌<◌, length, arith, Some, None}
+use Rattle.lp_text.proofs.FindLemmas.{is_empty_place, is_place}
 use Rattle.lp_text.proofs.search.find.Goals as goal
 
-pub loop-i-preserved : goal.loop-i-preserved
-loop-i-preserved c = goes_on c.args.t.now c.args.s.now _ c.loop-i.i c.loop-i-test.true (sym c.starts.ensures ∙ c.if-starts.false) c.loop-i.invariant
+pub returns-then-is_empty : goal.returns-then-is_empty
+returns-then-is_empty c =
+    let none : length c.args.t.now ≡ 0 = search rules in
+    is_empty_place c.args.t.now c.args.s.now c.args.from none (omega (arith, c.if-from-s.false))
 
-pub returns-then-starts : goal.returns-then-starts
-returns-then-starts c = is_here c.args.t.now c.args.s.now _ c.loop-i.i c.loop-i-test.true (sym c.starts.ensures ∙ c.if-starts.true) (not_past c.args.t.now c.args.s.now c.args.from c.if-from-n.false ∙ c.loop-i.invariant)
+pub returns-in-Some : goal.returns-in-Some
+returns-in-Some c =
+    let some : 0 < length c.args.t.now = search rules in
+    is_place c.args.t.now c.args.s.now c.args.from some (omega (arith, c.if-from-s.false)) (Some c.in-Some.i) c.in-Some.ensures
+
+pub returns-in-None : goal.returns-in-None
+returns-in-None c =
+    let some : 0 < length c.args.t.now = search rules in
+    is_place c.args.t.now c.args.s.now c.args.from some (omega (arith, c.if-from-s.false)) None c.in-None.ensures

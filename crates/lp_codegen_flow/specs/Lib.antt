@@ -1,0 +1,5 @@
+pub mod Cleared
+pub mod Flows
+pub mod Functions
+pub mod Led
+pub mod Switches

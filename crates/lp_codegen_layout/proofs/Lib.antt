@@ -1,0 +1,4 @@
+pub mod Each
+pub mod Meant
+pub mod Entries
+pub mod Paths

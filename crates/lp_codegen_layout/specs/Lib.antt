@@ -1,0 +1,3 @@
+pub mod Each
+pub mod Laid
+pub mod Meant

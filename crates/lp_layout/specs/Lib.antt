@@ -1,0 +1,7 @@
+pub mod Layout
+pub mod LayoutFaults
+pub mod Origins
+pub mod Standing
+pub mod Pieces
+pub mod Firsts
+pub mod Caused

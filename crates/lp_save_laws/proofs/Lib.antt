@@ -1,0 +1,12 @@
+pub mod Alongside
+pub mod Bytes
+pub mod Counts
+pub mod Inside
+pub mod Keys
+pub mod Leaves
+pub mod Lines
+pub mod Numbers
+pub mod Places
+pub mod RoundTrip
+pub mod Values
+pub mod Walks

@@ -1,0 +1,179 @@
+use Rattle.std.proofs.Common.{◌≡◌, ◌∙◌, Some, ap, rules}
+use mir.Val.{to_z, of_z}
+use mir.Syntax.{w64}
+use Rattle.lp_instr.specs.declared.instr.Instr.TheVariants as variants
+use Rattle.lp_step.proofs.Dispatch.{carried, finds, keeps_alone, steps, steps_alone, steps_free, steps_ok}
+use Rattle.lp_step.proofs.step.step.Goals as goal
+
+pub unreachable-requires : goal.unreachable-requires
+unreachable-requires c = carried c.args.live.now c.args.stack.now.items c.args.frame.now c.fetch.result (finds _ _ _ _ c.requires c.fetch.ensures) c.in_default.not-PushInt c.in_default.not-PushText c.in_default.not-PushLocal c.in_default.not-SetLocal c.in_default.not-Pop c.in_default.not-Dup c.in_default.not-Dup2 c.in_default.not-Jump c.in_default.not-JumpIfZero c.in_default.not-JumpIfNotZero c.in_default.not-KeepIfZero c.in_default.not-KeepIfNotZero c.in_default.not-LoopTurn c.in_default.not-CallSlot c.in_default.not-CallFixed c.in_default.not-CallOther c.in_default.not-CallEfun c.in_default.not-CallSimul c.in_default.not-CatchBegin c.in_default.not-CatchEnd c.in_default.not-Return c.in_default.not-ReturnZero c.in_default.not-PushGlobal c.in_default.not-SetGlobal c.in_default.not-Index c.in_default.not-Binary c.in_default.not-Unary c.in_default.not-Step
+
+pub returns-in-PushInt : goal.returns-in-PushInt
+returns-in-PushInt c =
+    let q : c.in-PushInt.z ≡ to_z w64 (of_z w64 c.in-PushInt.z) = search rules in
+    record {
+      table = steps_alone (variants.PushInt (to_z w64 (of_z w64 c.in-PushInt.z))) c.args.live.now _ _ _ _ c.args.budget.now c.push_int.result (c.in-PushInt.ensures ∙ ap (λ z. Some (variants.PushInt z)) q) c.push_int.ensures.table;
+      keeps = keeps_alone c.args.live.now _ _ c.push_int.result c.push_int.ensures.keeps;
+    }
+
+pub returns-in-PushText : goal.returns-in-PushText
+returns-in-PushText c = record {
+  table = steps_alone (variants.PushText c.in-PushText.k) c.args.live.now _ _ _ _ c.args.budget.now c.push_text.result c.in-PushText.ensures c.push_text.ensures.table;
+  keeps = keeps_alone c.args.live.now _ _ c.push_text.result c.push_text.ensures.keeps;
+}
+
+pub returns-in-PushLocal : goal.returns-in-PushLocal
+returns-in-PushLocal c = record {
+  table = steps_alone (variants.PushLocal c.in-PushLocal.k) c.args.live.now _ _ _ _ c.args.budget.now c.push_local.result c.in-PushLocal.ensures c.push_local.ensures.table;
+  keeps = keeps_alone c.args.live.now _ _ c.push_local.result c.push_local.ensures.keeps;
+}
+
+pub returns-in-SetLocal : goal.returns-in-SetLocal
+returns-in-SetLocal c = record {
+  table = steps_alone (variants.SetLocal c.in-SetLocal.k) c.args.live.now _ _ _ _ c.args.budget.now c.set_local.result c.in-SetLocal.ensures c.set_local.ensures.table;
+  keeps = keeps_alone c.args.live.now _ _ c.set_local.result c.set_local.ensures.keeps;
+}
+
+pub returns-in-Dup : goal.returns-in-Dup
+returns-in-Dup c = record {
+  table = steps_alone (variants.Dup) c.args.live.now _ _ _ _ c.args.budget.now c.again_one.result c.in-Dup.ensures c.again_one.ensures.table;
+  keeps = keeps_alone c.args.live.now _ _ c.again_one.result c.again_one.ensures.keeps;
+}
+
+pub returns-in-Dup2 : goal.returns-in-Dup2
+returns-in-Dup2 c = record {
+  table = steps_alone (variants.Dup2) c.args.live.now _ _ _ _ c.args.budget.now c.again_two.result c.in-Dup2.ensures c.again_two.ensures.table;
+  keeps = keeps_alone c.args.live.now _ _ c.again_two.result c.again_two.ensures.keeps;
+}
+
+pub returns-in-CatchBegin : goal.returns-in-CatchBegin
+returns-in-CatchBegin c = record {
+  table = steps_alone (variants.CatchBegin c.in-CatchBegin.to) c.args.live.now _ _ _ _ c.args.budget.now c.catch_begin.result c.in-CatchBegin.ensures c.catch_begin.ensures.table;
+  keeps = keeps_alone c.args.live.now _ _ c.catch_begin.result c.catch_begin.ensures.keeps;
+}
+
+pub returns-in-Pop : goal.returns-in-Pop
+returns-in-Pop c = record {
+  table = steps (variants.Pop) c.args.live.now c.args.live.now _ _ _ _ c.args.budget.now c.args.budget.now c.drop_value.result c.in-Pop.ensures (c.drop_value.ensures.table c.args.live.now c.args.budget.now);
+  keeps = c.drop_value.ensures.keeps c.args.live.now;
+}
+
+pub returns-in-Jump : goal.returns-in-Jump
+returns-in-Jump c = record {
+  table = steps (variants.Jump c.in-Jump.to) c.args.live.now c.args.live.now _ _ _ _ c.args.budget.now c.args.budget.now c.jump.result c.in-Jump.ensures (c.jump.ensures.table c.args.live.now c.args.budget.now);
+  keeps = c.jump.ensures.keeps c.args.live.now;
+}
+
+pub returns-in-CallSlot : goal.returns-in-CallSlot
+returns-in-CallSlot c = record {
+  table = steps (variants.CallSlot c.in-CallSlot.k c.in-CallSlot.n) c.args.live.now c.args.live.now _ _ _ _ c.args.budget.now c.args.budget.now c.call_slot.result c.in-CallSlot.ensures (c.call_slot.ensures.table c.args.live.now c.args.budget.now);
+  keeps = c.call_slot.ensures.keeps c.args.live.now;
+}
+
+pub returns-in-CallFixed : goal.returns-in-CallFixed
+returns-in-CallFixed c = record {
+  table = steps (variants.CallFixed c.in-CallFixed.parent c.in-CallFixed.j c.in-CallFixed.n) c.args.live.now c.args.live.now _ _ _ _ c.args.budget.now c.args.budget.now c.call_fixed.result c.in-CallFixed.ensures (c.call_fixed.ensures.table c.args.live.now c.args.budget.now);
+  keeps = c.call_fixed.ensures.keeps c.args.live.now;
+}
+
+pub returns-in-CallOther : goal.returns-in-CallOther
+returns-in-CallOther c = record {
+  table = steps (variants.CallOther c.in-CallOther.n) c.args.live.now c.args.live.now _ _ _ _ c.args.budget.now c.args.budget.now c.call_other.result c.in-CallOther.ensures (c.call_other.ensures.table c.args.live.now c.args.budget.now);
+  keeps = c.call_other.ensures.keeps c.args.live.now;
+}
+
+pub returns-in-CallEfun : goal.returns-in-CallEfun
+returns-in-CallEfun c = record {
+  table = steps (variants.CallEfun c.in-CallEfun.efun c.in-CallEfun.n) c.args.live.now c.args.live.now _ _ _ _ c.args.budget.now c.args.budget.now c.call_efun.result c.in-CallEfun.ensures (c.call_efun.ensures.table c.args.live.now c.args.budget.now);
+  keeps = c.call_efun.ensures.keeps c.args.live.now;
+}
+
+pub returns-in-CallSimul : goal.returns-in-CallSimul
+returns-in-CallSimul c = record {
+  table = steps (variants.CallSimul c.in-CallSimul.k c.in-CallSimul.n) c.args.live.now c.args.live.now _ _ _ _ c.args.budget.now c.args.budget.now c.call_simul.result c.in-CallSimul.ensures (c.call_simul.ensures.table c.args.live.now c.args.budget.now);
+  keeps = c.call_simul.ensures.keeps c.args.live.now;
+}
+
+pub returns-in-CatchEnd : goal.returns-in-CatchEnd
+returns-in-CatchEnd c = record {
+  table = steps (variants.CatchEnd) c.args.live.now c.args.live.now _ _ _ _ c.args.budget.now c.args.budget.now c.catch_end.result c.in-CatchEnd.ensures (c.catch_end.ensures.table c.args.live.now c.args.budget.now);
+  keeps = c.catch_end.ensures.keeps c.args.live.now;
+}
+
+pub returns-in-Return : goal.returns-in-Return
+returns-in-Return c = record {
+  table = steps (variants.Return) c.args.live.now c.args.live.now _ _ _ _ c.args.budget.now c.args.budget.now c.returns.result c.in-Return.ensures (c.returns.ensures.table c.args.live.now c.args.budget.now);
+  keeps = c.returns.ensures.keeps c.args.live.now;
+}
+
+pub returns-in-ReturnZero : goal.returns-in-ReturnZero
+returns-in-ReturnZero c = record {
+  table = steps (variants.ReturnZero) c.args.live.now c.args.live.now _ _ _ _ c.args.budget.now c.args.budget.now c.returns_zero.result c.in-ReturnZero.ensures (c.returns_zero.ensures.table c.args.live.now c.args.budget.now);
+  keeps = c.returns_zero.ensures.keeps c.args.live.now;
+}
+
+pub returns-in-JumpIfZero : goal.returns-in-JumpIfZero
+returns-in-JumpIfZero c = record {
+  table = steps (variants.JumpIfZero c.in-JumpIfZero.to) c.args.live.now c.args.live.now _ _ _ _ c.args.budget.now c.args.budget.now c.jump_if_zero.result c.in-JumpIfZero.ensures (c.jump_if_zero.ensures.table c.args.budget.now);
+  keeps = c.jump_if_zero.ensures.keeps;
+}
+
+pub returns-in-JumpIfNotZero : goal.returns-in-JumpIfNotZero
+returns-in-JumpIfNotZero c = record {
+  table = steps (variants.JumpIfNotZero c.in-JumpIfNotZero.to) c.args.live.now c.args.live.now _ _ _ _ c.args.budget.now c.args.budget.now c.jump_if_not_zero.result c.in-JumpIfNotZero.ensures (c.jump_if_not_zero.ensures.table c.args.budget.now);
+  keeps = c.jump_if_not_zero.ensures.keeps;
+}
+
+pub returns-in-KeepIfZero : goal.returns-in-KeepIfZero
+returns-in-KeepIfZero c = record {
+  table = steps (variants.KeepIfZero c.in-KeepIfZero.to) c.args.live.now c.args.live.now _ _ _ _ c.args.budget.now c.args.budget.now c.keep_if_zero.result c.in-KeepIfZero.ensures (c.keep_if_zero.ensures.table c.args.budget.now);
+  keeps = c.keep_if_zero.ensures.keeps;
+}
+
+pub returns-in-KeepIfNotZero : goal.returns-in-KeepIfNotZero
+returns-in-KeepIfNotZero c = record {
+  table = steps (variants.KeepIfNotZero c.in-KeepIfNotZero.to) c.args.live.now c.args.live.now _ _ _ _ c.args.budget.now c.args.budget.now c.keep_if_not_zero.result c.in-KeepIfNotZero.ensures (c.keep_if_not_zero.ensures.table c.args.budget.now);
+  keeps = c.keep_if_not_zero.ensures.keeps;
+}
+
+pub returns-in-LoopTurn : goal.returns-in-LoopTurn
+returns-in-LoopTurn c = record {
+  table = steps variants.LoopTurn c.args.live.now c.args.live.now _ _ _ _ c.args.budget.now _ c.loop_turn.result c.in-LoopTurn.ensures (c.loop_turn.ensures.table c.args.live.now);
+  keeps = c.loop_turn.ensures.keeps c.args.live.now;
+}
+
+pub returns-in-PushGlobal : goal.returns-in-PushGlobal
+returns-in-PushGlobal c = record {
+  table = steps_free (variants.PushGlobal c.in-PushGlobal.k) c.args.live.now c.args.live.now _ _ _ _ c.args.budget.now c.push_global.result c.in-PushGlobal.ensures c.push_global.ensures.table;
+  keeps = c.push_global.ensures.keeps;
+}
+
+pub returns-in-SetGlobal : goal.returns-in-SetGlobal
+returns-in-SetGlobal c = record {
+  table = steps_free (variants.SetGlobal c.in-SetGlobal.k) c.args.live.now _ _ _ _ _ c.args.budget.now c.set_global.result c.in-SetGlobal.ensures c.set_global.ensures.table;
+  keeps = c.set_global.ensures.keeps;
+}
+
+pub returns-in-Index : goal.returns-in-Index
+returns-in-Index c = record {
+  table = steps_ok (variants.Index c.in-Index.edge) c.args.live.now c.args.live.now _ _ _ _ c.args.budget.now _ c.at_index.result c.in-Index.ensures c.at_index.ensures.table;
+  keeps = c.at_index.ensures.keeps;
+}
+
+pub returns-in-Binary : goal.returns-in-Binary
+returns-in-Binary c = record {
+  table = steps_ok (variants.Binary c.in-Binary.op) c.args.live.now _ _ _ _ _ c.args.budget.now _ c.binary_operator.result c.in-Binary.ensures c.binary_operator.ensures.table;
+  keeps = c.binary_operator.ensures.keeps;
+}
+
+pub returns-in-Unary : goal.returns-in-Unary
+returns-in-Unary c = record {
+  table = steps_ok (variants.Unary c.in-Unary.op) c.args.live.now _ _ _ _ _ c.args.budget.now _ c.unary_operator.result c.in-Unary.ensures c.unary_operator.ensures.table;
+  keeps = c.unary_operator.ensures.keeps;
+}
+
+pub returns-in-Step : goal.returns-in-Step
+returns-in-Step c = record {
+  table = steps_ok (variants.Step c.in-Step.up) c.args.live.now c.args.live.now _ _ _ _ c.args.budget.now _ c.step_operator.result c.in-Step.ensures c.step_operator.ensures.table;
+  keeps = c.step_operator.ensures.keeps;
+}

@@ -1,0 +1,11 @@
+-- Connections and what waits for their lines, as lists.
+use Rattle.std.specs.Prelude.{ℕ, List}
+use Rattle.lp_world.specs.declared.connections.Connection.{Connection}
+use Rattle.lp_world.specs.declared.connections.Waiting.{Waiting}
+
+-- the open connections, the highest number so far, the numbers that were connected and are not gone, and what waits
+pub record Connecting : Type 0 where
+  pub opened : List Connection
+  pub highest : ℕ
+  pub present : List ℕ
+  pub waiting : List Waiting

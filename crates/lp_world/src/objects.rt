@@ -1,0 +1,138 @@
+//! Objects of the state, by their serials.
+ghost use Rattle.std.specs.Prelude.{◌≡◌, [], List, Some, slice_get, slice_set};
+ghost use Rattle.lp_values.specs.declared.value.Value.{Value as V};
+ghost use Rattle.lp_world.specs.declared.objects.Object.{Object as O};
+ghost use Rattle.lp_world.specs.Rows.{HasPlace, IsWritten, is_live_row, live_in, variables_at, variables_in, variables_of, with_value};
+
+use crate::serials::Serials;
+use lp_cells::content::Items;
+use lp_swapper::Ticket;
+use lp_values::id::{ObjId, ProgId};
+use lp_values::value::{Living, Value};
+use std::alloc::Global;
+use std::marker::Model;
+
+/// An object's variables in memory, or the ticket of its record.
+#[derive(Drop)]
+pub enum ObjectState {
+    /// The variables, the inherited ones first.
+    Resident(Items),
+    /// A record in the swap file.
+    Swapped {
+        /// What brings it back.
+        ticket: Ticket,
+        /// The cells in memory that the record names, each as often as it names it.
+        shared: Serials,
+        /// The cells in the record, in its order. They keep their serials.
+        own: Serials,
+    },
+}
+
+/// An object. Its name is found in the table of names.
+#[derive(Drop)]
+pub struct Object {
+    /// Its version.
+    pub program: ProgId,
+    /// Whether it is live.
+    pub is_live: bool,
+    /// Whether it is living.
+    pub is_living: bool,
+    /// When it was made, or the latest entry of a function counted for it.
+    pub latest: u64,
+    /// Its variables.
+    pub state: ObjectState,
+}
+
+/// The objects by their serials. One that died before this turn, or that died while it was out, is none.
+#[derive(Drop)]
+pub struct ObjectTable {
+    rows: Vec<Option<Object>>,
+}
+
+impl Model for ObjectTable {
+    ghost use Rattle.std.specs.Prelude.{List, Option};
+    ghost use Rattle.lp_world.specs.declared.objects.Object.{Object};
+
+    ghost Value = { List (Option Object) };
+
+    ghost view = { λ t. t.rows.items };
+}
+
+/// Whether a row is that of a live object.
+fn is_live_row(row: &Option<Object>) -> bool
+    ensures { result ≡ is_live_row row.now }
+{
+    match row {
+        Some(o) => o.is_live,
+        None => false,
+    }
+}
+
+impl Living for ObjectTable {
+    ghost use Rattle.lp_world.specs.Rows.{live_in};
+
+    ghost live = { live_in };
+
+    #[tactic(auto, unfolding(crate::specs::Rows::live_in))]
+    fn is_live(&self, id: ObjId) -> bool {
+        if self.rows.len() <= id.0 as usize {
+            return false;
+        }
+        is_live_row(&self.rows[id.0 as usize])
+    }
+}
+
+/// Writes a variable of an object that is in memory, in its state.
+fn write_state(state: &mut ObjectState, i: usize, v: Value)
+    requires { HasPlace (variables_of state.old) i }
+    ensures { (vs : List V) → state.old ≡ ObjectState.Resident vs → state.new ≡ ObjectState.Resident (slice_set vs i v) }
+{
+    match state {
+        ObjectState::Resident(items) => items.write(i, v),
+        ObjectState::Swapped { .. } => unreachable!(),
+    }
+}
+
+/// The same, in its row.
+fn write_row(row: &mut Option<Object>, i: usize, v: Value)
+    requires { HasPlace (variables_in row.old) i }
+    ensures { (o : O) (vs : List V) → row.old ≡ Some o → o.state ≡ ObjectState.Resident vs → row.new ≡ Some (with_value o vs i v) }
+{
+    match row {
+        Some(o) => write_state(&mut o.state, i, v),
+        None => unreachable!(),
+    }
+}
+
+impl ObjectTable {
+    /// No objects. Takes no memory.
+    pub fn new(alloc: Global) -> ObjectTable
+        ensures { result ≡ [] }
+    {
+        ObjectTable {
+            rows: Vec::new(alloc),
+        }
+    }
+
+    /// The value of a variable of an object that is in memory. Takes no memory.
+    pub fn variable(&self, id: ObjId, i: usize) -> &Value
+        requires { HasPlace (variables_at self.now id) i }
+        ensures { (vs : List V) → variables_at self.now id ≡ Some vs → slice_get vs i ≡ Some result.now }
+    {
+        match &self.rows[id.0 as usize] {
+            Some(o) => match &o.state {
+                ObjectState::Resident(items) => &items.as_slice()[i],
+                ObjectState::Swapped { .. } => unreachable!(),
+            },
+            None => unreachable!(),
+        }
+    }
+
+    /// Writes a variable of an object that is in memory. Takes no memory.
+    pub fn set_variable(&mut self, id: ObjId, i: usize, v: Value)
+        requires { HasPlace (variables_at self.old id) i }
+        ensures { IsWritten self.old self.new id i v }
+    {
+        write_row(&mut self.rows[id.0 as usize], i, v);
+    }
+}
