@@ -1,8 +1,9 @@
 //! The files that a unit inherits.
-ghost use Rattle.std.specs.Prelude.{◌≡◌, ◌++◌, ◌∷◌, [], IfOk, OnOk, map, string_bytes};
+ghost use Rattle.std.specs.Prelude.{◌≡◌, ◌++◌, ◌∷◌, [], IfOk, OnOk, length, map, string_bytes};
 ghost use Rattle.std.specs.Str.{encode_utf8_all};
 ghost use Rattle.lp_front.specs.Names.{end_behind as end, file_of as file_named, parents_in, slash_before as slash};
 ghost use Rattle.lp_tree.specs.UnitView.{item_of};
+ghost use Rattle.lp_layout.specs.Layout.{inherits};
 
 use lp_tree::path::FilePath;
 use lp_tree::unit::Item;
@@ -75,7 +76,8 @@ fn add_parent(alloc: Global, all: &mut Vec<Parent>, item: &Item) -> Result<(), A
 
 /// The parents of a unit with these items, one for each `inherit`, in their order.
 pub fn parents_of(alloc: Global, items: &[Item]) -> Result<Vec<Parent>, AllocError>
-    ensures { IfOk result (λ v. v.items ≡ parents_in (map item_of items.now)) }
+    ensures parents { IfOk result (λ v. v.items ≡ parents_in (map item_of items.now)) }
+    ensures count { IfOk result (λ v. length v.items ≡ inherits (map item_of items.now)) }
 {
     let mut all = Vec::new(alloc);
     for item in items {

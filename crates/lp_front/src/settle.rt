@@ -1,6 +1,6 @@
 //! What a unit is with its parents.
-ghost use Rattle.std.specs.Prelude.{◌≡◌, ◌∷◌, ◌++◌, [], IfErr, IfOk, OnOk, map};
-ghost use Rattle.lp_layout.specs.Layout.{AreInside, IsSpelled};
+ghost use Rattle.std.specs.Prelude.{◌≡◌, ◌∷◌, ◌++◌, [], IfErr, IfOk, OnOk, length, map};
+ghost use Rattle.lp_layout.specs.Layout.{AreInside, IsSpelled, inherits};
 ghost use Rattle.lp_front.specs.Reading.{items_of};
 ghost use Rattle.lp_front.specs.Settling.{IsLaid, IsLayoutTold, IsSettled, IsSettledFault, IsToldAs, finished, in_file, path_of as path_in, versions_of as versions_in, with_version};
 
@@ -118,6 +118,7 @@ fn laid(
     own: ProgId,
 ) -> Result<Tables, SettleFault>
     requires inside { AreInside parents.now }
+    requires each { length parents.now ≡ inherits (items_of declared.now) }
     requires spelled { IsSpelled (items_of declared.now) }
     ensures tables { IfOk result (IsLaid file.now declared.now parents.now own) }
     ensures inside { IfOk result (λ t. AreInside (t ∷ [])) }
@@ -129,12 +130,12 @@ fn laid(
             Err(_) => Err(SettleFault::NoMemory),
         },
         Err(InheritFault::NoMemory) => Err(SettleFault::NoMemory),
-        Err(InheritFault::At(fault)) => Err(told(alloc, file, &[fault])),
+        Err(InheritFault::At { line, kind }) => Err(told(alloc, file, &[FaultAt { line, kind }])),
     }
 }
 
 /// The tables of the version that a file's unit makes with these parents, one for each `inherit`, and these names of
-/// simul efuns; `own` is the version's number. `Faults` comes exactly where there are some.
+/// simul efuns; `own` is the version's number; its tables are fine for its children. `Faults` comes exactly where there are some.
 pub fn settle(
     alloc: Global,
     file: &str,
@@ -144,6 +145,7 @@ pub fn settle(
     simuls: &Names2,
 ) -> Result<Tables, SettleFault>
     requires inside { AreInside parents.now }
+    requires each { length parents.now ≡ inherits (items_of declared.now) }
     requires spelled { IsSpelled (items_of declared.now) }
     ensures tables { IfOk result (IsSettled file.now declared.now parents.now own simuls.now) }
     ensures inside { IfOk result (λ t. AreInside (t ∷ [])) }

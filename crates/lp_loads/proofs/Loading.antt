@@ -1,5 +1,5 @@
 -- Loads, one step after another.
-use Rattle.std.proofs.Common.{◌≡◌, ◌<◌, ◌≤◌, ◌+◌, ◌∙◌, ℕ, zero, suc, List, [], ◌∷◌, ◌++◌, false, Option, Some, None, refl, sym, ap, subst, length, drop, get_or, arith}
+use Rattle.std.proofs.Common.{◌≡◌, ◌<◌, ◌≤◌, ◌+◌, ◌∙◌, ℕ, zero, suc, List, [], ◌∷◌, ◌++◌, false, Option, Some, None, refl, sym, ap, subst, length, length-append, drop, get_or, arith}
 use Rattle.std.proofs.lemmas.Option.{none-some}
 use Rattle.lp_files.specs.declared.store.Store.{Store}
 use Rattle.lp_tree.specs.declared.fault.FaultKind.{FaultKind}
@@ -126,3 +126,6 @@ pub inside_more : (ts : List Tables) (t : Tables) → AreInside ts → AreInside
 inside_more [] t h k i u e = k i u e
 inside_more (x ∷ ts) t h k zero u e = h 0 u e
 inside_more (x ∷ ts) t h k (suc i) u e = inside_more ts t (λ j v d. h (suc j) v d) k i u e
+
+pub count_more : (ts : List Tables) (t : Tables) (n : ℕ) → length ts ≡ n → length (ts ++ t ∷ []) ≡ n + 1
+count_more ts t n h = let e = length-append ts (t ∷ []) in omega (arith, e, h)

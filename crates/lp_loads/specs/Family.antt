@@ -18,9 +18,10 @@ family_of (here.Whole ts) = Whole ts.items
 family_of (here.Broken kind line) = Broken kind line
 family_of here.Lacking = Lacking
 
-abbrev pub HasFamilyInside : FamilyHere → Type 0
-HasFamilyInside (here.Whole ts) = AreInside ts.items
-HasFamilyInside _ = ⊤
+-- tables for n inherits, for whose rows there are parts
+abbrev pub HasFamilyInside : ℕ → FamilyHere → Type 0
+HasFamilyInside n (here.Whole ts) = AreInside ts.items × (length ts.items ≡ n)
+HasFamilyInside n _ = ⊤
 
 -- the load of a file that declares this
 pub record LoadsDeclared (files : Store) (simuls : List (List ℕ)) (under : List (List ℕ)) (file : List ℕ) (d : Declared) (before after : Loaded) : Type 0 where
@@ -42,5 +43,6 @@ LoadsFirst files simuls under ps n before ts between =
 -- the first parents are loaded
 pub record IsUnderWay (files : Store) (simuls : List (List ℕ)) (under : List (List ℕ)) (ps : List Parent) (n : ℕ) (ts : List Tables) (old now : Known) : Type 0 where
   pub inside : AreInside ts
+  pub count : length ts ≡ n
   pub known : SomeKnown now
   pub goes : (ls : Loaded) → IsKnown ls old → Grown (LoadsFirst files simuls under ps n ls ts) now

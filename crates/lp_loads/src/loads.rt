@@ -1,6 +1,6 @@
 //! Loads of files, with their parents first.
 ghost use Rattle.std.specs.Prelude.{◌≡◌, ◌∷◌, ◌≤◌, IfOk, OnOk, length};
-ghost use Rattle.lp_layout.specs.Layout.{AreInside, IsSpelled};
+ghost use Rattle.lp_layout.specs.Layout.{AreInside, IsSpelled, inherits};
 ghost use Rattle.lp_front.specs.Reading.{items_of};
 ghost use Rattle.lp_front.specs.Settling.{faults_of};
 ghost use Rattle.lp_loads.specs.Family.{HasFamilyInside, LoadsDeclared, family_of};
@@ -66,6 +66,7 @@ fn end_whole(
     known: &mut Known,
 ) -> Result<(), AllocError>
     requires inside { AreInside parents.now }
+    requires each { length parents.now ≡ inherits (items_of declared.now) }
     requires spelled { IsSpelled (items_of declared.now) }
     ensures { (ls : Loaded) → IsKnown ls known.old → OnOk result (IsKnown (settled file.now (items_of declared.now) declared.now.pragmas parents.now (length ls) (faults_of file.now (items_of declared.now) declared.now.pragmas parents.now simuls.now) ∷ ls) known.new) }
 {
@@ -99,7 +100,7 @@ fn end_family(
     simuls: &Names2,
     known: &mut Known,
 ) -> Result<(), AllocError>
-    requires inside { HasFamilyInside family }
+    requires inside { HasFamilyInside (inherits (items_of declared.now)) family }
     requires spelled { IsSpelled (items_of declared.now) }
     ensures { (ls : Loaded) → IsKnown ls known.old → OnOk result (IsKnown (ended simuls.now file.now (items_of declared.now) declared.now.pragmas (length ls) (family_of family) ∷ ls) known.new) }
 {
@@ -191,7 +192,7 @@ fn load_parents(
     requires room { length under.old.items ≤ 65 }
     requires known { SomeKnown known.old }
     ensures loads { (ls : Loaded) → IsKnown ls known.old → IfOk result (λ f. Grown (λ after. LoadsParents files.now simuls.now under.old.items parents.now ls after (family_of f)) known.new) }
-    ensures inside { IfOk result HasFamilyInside }
+    ensures inside { IfOk result (HasFamilyInside (length parents.now)) }
     ensures under { OnOk result (under.new.items ≡ under.old.items) }
 {
     let mut tables = Vec::new(alloc);

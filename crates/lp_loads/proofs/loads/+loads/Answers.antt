@@ -1,4 +1,4 @@
-use Rattle.std.proofs.Common.{rules, ◌≡◌, ◌∙◌, ◌∷◌, ◌++◌, ◌≤◌, ◌<◌, [], List, ℕ, refl, sym, ap, subst, arith, map}
+use Rattle.std.proofs.Common.{length, rules, ◌≡◌, ◌∙◌, ◌∷◌, ◌++◌, ◌≤◌, ◌<◌, [], List, ℕ, refl, sym, ap, subst, arith, map}
 use Rattle.std.proofs.lemmas.Result.{on_ok_weaker}
 use Rattle.lp_tree.specs.UnitView.{item_of}
 use Rattle.lp_front.specs.Names.{parents_in}
@@ -6,9 +6,10 @@ use Rattle.lp_front.specs.Reading.{IsWhy, items_of}
 use Rattle.lp_layout.specs.Layout.{AreInside}
 use Rattle.lp_loads.specs.Known.{HasFoundInside}
 use Rattle.lp_loads.specs.Family.{family_of}
+use Rattle.lp_code.specs.declared.tables.Tables.{Tables}
 use Rattle.lp_front.specs.declared.parents.Parent.{Parent}
 use Rattle.lp_loads.specs.Loads.{is_under_way, unread, itself, deep, load_of}
-use Rattle.lp_loads.proofs.Loading.{of_declared, at_parents, of_known, of_new, not_known, at_parent, at_line, at_tables, one_stands, one_wrong, one_lacks, all_stand, inside_more}
+use Rattle.lp_loads.proofs.Loading.{of_declared, at_parents, of_known, of_new, not_known, at_parent, at_line, at_tables, one_stands, one_wrong, one_lacks, all_stand, inside_more, count_more}
 use Rattle.lp_loads.proofs.loads.+loads.Goals as goal
 
 pub load-returns-in-Ok-clause-loads : goal.load-returns-in-Ok-clause-loads
@@ -33,7 +34,7 @@ load_declared-returns-clause-loads t c = λ ls k.
         family = family_of c.in_ok-family.family;
         parents = at_parents c.args.files.now c.args.simuls.now _ _ _ _ ls g.after (family_of c.in_ok-family.family)
             (c.in_ok-push.ensures.items ∙ ap (λ w. c.args.under.now.items ++ w ∷ []) c.in_ok-from_str.ensures)
-            (c.as_slice-2.ensures.value ∙ c.in_ok-parents.ensures ∙ ap (λ xs. parents_in (map item_of xs)) c.as_slice.ensures.value) g.holds;
+            (c.as_slice-2.ensures.value ∙ c.in_ok-parents.ensures.parents ∙ ap (λ xs. parents_in (map item_of xs)) c.as_slice.ensures.value) g.holds;
         is = refl;
       };
     })
@@ -106,6 +107,7 @@ load_parents-loop-parent-preserved t c =
       c.in_ok-one.ensures.under ∙ c.loop-parent.invariant.0,
       record {
         inside = subst AreInside (sym c.in_ok-push-in-Stands.ensures.items) (inside_more c.loop-parent.tables.items c.in-Stands.one c.loop-parent.invariant.1.inside (subst HasFoundInside c.in-Stands.is c.in_ok-one.ensures.inside));
+        count = ap (λ (ts : List Tables). length ts) c.in_ok-push-in-Stands.ensures.items ∙ count_more c.loop-parent.tables.items c.in-Stands.one c.loop-parent.parent-index c.loop-parent.invariant.1.count;
         known = (r0.after, r0.is);
         goes = λ ls k.
             let g = c.loop-parent.invariant.1.goes ls k in
