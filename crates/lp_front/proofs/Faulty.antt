@@ -1,10 +1,8 @@
 -- The first fault of a file.
-use Rattle.std.proofs.Common.{◌≡◌, ◌≤◌, ℕ, List, ◌∙◌, sym, subst, Result, Ok, Err}
-use Rattle.std.specs.Prelude.{IfOk, IfErr}
+use Rattle.std.proofs.Common.{◌≤◌, ℕ, List, ◌∙◌, sym, subst}
 use Rattle.lp_tree.specs.declared.unit.Unit.{Unit as UnitOf}
 use Rattle.lp_tree.specs.UnitView.{unit_of}
-use Rattle.lp_tree.specs.Units.{ItemTree, SpellsUnit, unit_height}
-use Rattle.lp_front.specs.declared.read.Declared.{Declared}
+use Rattle.lp_tree.specs.Units.{SpellsUnit, unit_height}
 use Rattle.lp_files.specs.declared.store.Store.{Store}
 use Rattle.lp_tree.specs.declared.pragma.Pragmas.{Pragmas}
 use Rattle.lp_tree.specs.declared.token.Token.{Token}
@@ -16,17 +14,11 @@ use Rattle.lp_parser_expr.specs.declared.fault.ParseFault.TheVariants as parse
 use Rattle.lp_parser.specs.Theorem.{IsFault, sight, deepest}
 use Rattle.lp_front.specs.declared.read.ReadFault.{ReadFault}
 use Rattle.lp_front.specs.declared.read.ReadFault.TheVariants.{At, NoMemory}
-use Rattle.lp_front.specs.Reading.{Declares, IsOf, items_of, IsUnitFault, IsUnitNamed, IsToldOf, IsWhy, expansion, unit}
+use Rattle.lp_front.specs.Reading.{Declares, IsUnitFault, IsUnitNamed, IsToldOf, IsWhy, expansion, unit}
 
 -- what was read of a file
-pub of_read : (files : Store) (path : List ℕ) (ts : List Token) (p : Pragmas) (u : UnitOf) (r : Result Declared ReadFault) → IsExpansion (setting files path) ts p → SpellsUnit (unit_of u) (sight ts) → unit_height (unit_of u) ≤ deepest
-    → IfOk r (λ d. (items_of d ≡ unit_of u) × (d.pragmas ≡ p)) → IfOk r (IsOf files path)
-of_read files path ts p u (Ok d) x s h e = subst (λ (is : List ItemTree). Declares files path is d.pragmas) (sym e.0) (subst (λ q. Declares files path (unit_of u) q) (sym e.1) (record { tokens = ts; expands = x; spelled = s; shallow = h }))
-of_read files path ts p u (Err f) x s h e = e
-
-pub of_memory : (files : Store) (path : List ℕ) (r : Result Declared ReadFault) → IfErr r (λ f. f ≡ NoMemory) → IfErr r (IsWhy files path)
-of_memory files path (Ok d) e = e
-of_memory files path (Err f) e = subst (IsWhy files path) (sym e) tt
+pub of_read : (files : Store) (path : List ℕ) (ts : List Token) (p : Pragmas) (u : UnitOf) → IsExpansion (setting files path) ts p → SpellsUnit (unit_of u) (sight ts) → unit_height (unit_of u) ≤ deepest → Declares files path (unit_of u) p
+of_read files path ts p u x s h = record { tokens = ts; expands = x; spelled = s; shallow = h }
 
 -- a fault of the tokens is one of the file
 pub of_unit : (files : Store) (path : List ℕ) (ts : List Token) (p : Pragmas) (f : ParseFault) (told : ReadFault) → IsExpansion (setting files path) ts p → IsFault ts f → IsUnitNamed path f told → IsWhy files path told

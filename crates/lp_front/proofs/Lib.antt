@@ -1,6 +1,6 @@
 pub mod Letters
 pub mod Faulty
-pub mod Ascii
+pub mod Units
 pub mod Behind
 pub mod Inside
 pub mod Inheriting

@@ -2,7 +2,7 @@
 #![tactic(auto)]
 
 pub mod copies;
+pub mod names;
 pub mod parents;
 pub mod read;
 pub mod settle;
-mod spelled;

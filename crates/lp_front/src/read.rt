@@ -1,11 +1,9 @@
 //! What a file declares.
-ghost use Rattle.std.specs.Prelude.{◌≡◌, IfErr, IfOk};
-ghost use Rattle.lp_tree.specs.UnitView.{unit_of};
+ghost use Rattle.std.specs.Prelude.{IfErr, IfOk};
 ghost use Rattle.lp_layout.specs.Layout.{IsSpelled};
 ghost use Rattle.lp_front.specs.Reading.{IsNamed, IsOf, IsToldOf, IsUnitNamed, IsWhy, items_of};
-ghost use Rattle.lp_front.specs.declared.read.ReadFault.TheVariants as fault;
 
-use crate::spelled::are_spelled;
+use crate::names::law_spelled;
 use lp_files::store::Store;
 use lp_parser::parse;
 use lp_parser_expr::fault::ParseFault;
@@ -69,18 +67,6 @@ fn expansion_fault(fault: PreFault) -> ReadFault
     }
 }
 
-// What was read, whose names are letters of ASCII, as those of every source are.
-fn spelled(unit: Unit, pragmas: Pragmas) -> Result<Declared, ReadFault>
-    ensures read { IfOk result (λ d. (items_of d ≡ unit_of unit) × (d.pragmas ≡ pragmas)) }
-    ensures spelled { IfOk result (λ d. IsSpelled (items_of d)) }
-    ensures fault { IfErr result (λ f. f ≡ fault.NoMemory) }
-{
-    if !are_spelled(unit.items.as_slice()) {
-        return Err(ReadFault::NoMemory);
-    }
-    Ok(Declared { unit, pragmas })
-}
-
 /// What a file declares. The fault that an `Err` tells is its first: of its expansion, or else of the unit that its tokens
 /// spell. Takes time in proportion to the file and what it includes.
 pub fn read_file(alloc: Global, files: &Store, path: &str) -> Result<Declared, ReadFault>
@@ -89,9 +75,13 @@ pub fn read_file(alloc: Global, files: &Store, path: &str) -> Result<Declared, R
     ensures fault { IfErr result (IsWhy files.now path.now) }
 {
     law_unsigned();
+    law_spelled();
     match expand(alloc, files, path) {
         Ok(expanded) => match parse(alloc, expanded.tokens.as_slice()) {
-            Ok(unit) => spelled(unit, expanded.pragmas),
+            Ok(unit) => Ok(Declared {
+                unit,
+                pragmas: expanded.pragmas,
+            }),
             Err(fault) => Err(unit_fault(alloc, path, fault)),
         },
         Err(fault) => Err(expansion_fault(fault)),

@@ -1,3 +1,5 @@
 pub mod Decision
 pub mod Ends
-pub mod Unsigned
+pub mod Expanded
+pub mod Spelling
+pub mod Reading

@@ -2,4 +2,5 @@
 #![tactic(auto)]
 
 pub mod answered;
+pub mod names;
 pub mod signs;

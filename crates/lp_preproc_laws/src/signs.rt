@@ -6,11 +6,7 @@ ghost use Rattle.lp_tree.specs.declared.token.Token.{Token as Tok};
 ghost use Rattle.lp_preproc.specs.Expansion.{IsExpansion};
 ghost use Rattle.lp_preproc.specs.State.{Setting};
 
-use lp_lexer::law_unsigned as tokens_of_a_source_are_unsigned;
-
 /// Law: no integer that comes out of an expansion is negative, because the sign is a token of its own.
 pub fn law_unsigned()
     ensures { (c : Setting) (ts : List Tok) (p : AnyPragmas) → IsExpansion c ts p → AreUnsigned ts }
-{
-    tokens_of_a_source_are_unsigned();
-}
+{}

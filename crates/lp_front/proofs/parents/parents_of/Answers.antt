@@ -1,4 +1,4 @@
-use Rattle.std.proofs.Common.{length, arith, ◌≤◌, ◌∙◌, ◌++◌, ◌∷◌, [], map, take, ap, sym}
+use Rattle.std.proofs.Common.{length, arith, ◌∙◌, ◌++◌, ◌∷◌, [], map, take, ap, sym}
 use Rattle.lp_tree.specs.UnitView.{item_of}
 use Rattle.lp_front.specs.Names.{parents_in}
 use Rattle.lp_front.proofs.Inheriting.{one_more_parent, counted}

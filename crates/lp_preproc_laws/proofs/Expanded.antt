@@ -1,4 +1,4 @@
--- No integer that comes out of an expansion is negative: each is that of a token, a line, or a truth.
+-- What comes out of an expansion is as in a source: each integer is that of a token, a line, or a truth, so none is negative, and each name is that of a token.
 use Rattle.std.proofs.Common.{◌≡◌, ℕ, ℤ, pos, ◌+◌, ◌-◌, ◌||◌, List, [], ◌∷◌, ◌++◌, Bool, true, false, Option, Some, None, subst, if◌then◌else◌, length, ◌==◌, ◌&&◌, refl, sym, codes}
 use Rattle.std.specs.Prelude.{⊤, map, reverse, nat_lt, nat_le, not}
 use Rattle.std.specs.Ordering.{int_eq}
@@ -10,7 +10,6 @@ use Rattle.lp_tree.specs.declared.token.Token.{Token}
 use Rattle.lp_tree.specs.declared.token.TokenKind.{TokenKind}
 use Rattle.lp_tree.specs.declared.token.TokenKind.TheVariants.{Name, Text, Int, Mark, Bad}
 use Rattle.lp_tree.specs.Signs.{IsUnsigned, AreUnsigned}
-use Rattle.lp_lexer.specs.Lexis.{IsLexed}
 use Rattle.lp_lexer.specs.Source.{most_bytes}
 use Rattle.lp_preproc.specs.declared.macros.Macro.{Macro}
 use Rattle.lp_preproc.specs.declared.macros.Body.{Body}
@@ -35,12 +34,14 @@ use Rattle.lp_preproc.specs.State.{Setting, State, begin, Next, Goes, Ends, Fail
 use Rattle.lp_preproc.specs.Uses.{one_more, with_text, last_text, text_after, out_by, comes_out, emit, text_of, name_of, put_argument, put_words, argument_of, argument_at, filled, folder, tokens_of, put_back, result_words, depth_of, expanded, used, use_macro, read_name, Asked, asked_name, asked_within, asked, truth, read_defined, is_defined_word, read_plain, read_named, all_of, given, closed as closed_use, argument_word, within_by, part_of, read_by, read, end_by, ended, is_open, is_close, is_comma, deepest, most_tokens, longest_text, most_put_in}
 use Rattle.lp_preproc.specs.Directives.{rest_of_line, next_lines, is_hash, is_bad, first_bad, said, behind, one_name, in_first, with_groups, stage_if, begun, begun_inside, in_condition, tested, if_name, unless_bad, elif_waiting, elif, stage_else, has_rest, else_line, endif, bytes_of, path_of, included, include_bytes, include, Parameters, new_name, more_parameters, parameters, kinds, with_parameters, definition, defined, define_name, define, undefine, skipped, carried_out, directive, most_included}
 use Rattle.lp_preproc.specs.Expansion.{word_of, past, closed as closed_file, token, directive_line, from_file, from_files, from_waiting, next, Outcome, Whole, Faulty, LeadsTo, ends, fails, goes, asks, asks_fault, reads, reads_fault, tests, tests_fault, compiled, opening_bytes, opening_found, came_out, IsExpansion}
+use Rattle.lp_preproc_laws.specs.Names.{IsNamed, AreNamed}
+use Rattle.lp_preproc_laws.proofs.Reading.{IsOfSource, AreOfSource, to-unsigned, to-named, lexed}
 
--- ---- What has no negative integer
+-- ---- What is as in a source
 
 abbrev Words : List Word → Type 0
 Words [] = ⊤
-Words (w ∷ ws) = IsUnsigned w.kind × Words ws
+Words (w ∷ ws) = IsOfSource w.kind × Words ws
 
 abbrev Lists : List (List Word) → Type 0
 Lists [] = ⊤
@@ -48,11 +49,11 @@ Lists (ws ∷ wss) = Words ws × Lists wss
 
 abbrev Kinds : List TokenKind → Type 0
 Kinds [] = ⊤
-Kinds (k ∷ ks) = IsUnsigned k × Kinds ks
+Kinds (k ∷ ks) = IsOfSource k × Kinds ks
 
 abbrev Source : List Token → Type 0
 Source [] = ⊤
-Source (t ∷ ts) = IsUnsigned t.kind × Source ts
+Source (t ∷ ts) = IsOfSource t.kind × Source ts
 
 abbrev InBody : Body → Type 0
 InBody (Tokens ks) = Kinds ks
@@ -68,7 +69,7 @@ abbrev InTable : Table → Type 0
 InTable ms = (n : List ℕ) → InMacro (ms n)
 
 abbrev InUse : Use → Type 0
-InUse u = IsUnsigned u.word.kind × InBody u.body
+InUse u = IsOfSource u.word.kind × InBody u.body
 
 abbrev InArguments : Arguments → Type 0
 InArguments a = InUse a.usage × Lists a.whole × Words a.current
@@ -85,7 +86,7 @@ InFiles (o ∷ os) = Source o.left × InFiles os
 abbrev IsClean : State → Type 0
 IsClean s = InReading s.reading × Words s.waiting × InFiles s.files × Words s.out × InTable s.macros
 
--- what comes next leads to states that have none
+-- what comes next leads to states that have such tokens only
 abbrev StaysClean : Next → Type 0
 StaysClean (Goes s) = IsClean s
 StaysClean (Ends s) = IsClean s
@@ -112,9 +113,9 @@ lists-append : (ws vs : List (List Word)) → Lists ws → Lists vs → Lists (w
 lists-append [] vs h k = k
 lists-append (w ∷ ws) vs h k = (h.0, lists-append ws vs h.1 k)
 
-source-from : (ts : List Token) → AreUnsigned ts → Source ts
+source-from : (ts : List Token) → AreOfSource ts → Source ts
 source-from [] h = tt
-source-from (t ∷ ts) h = (All-head (λ (t : Token). IsUnsigned t.kind) t ts h, source-from ts (All-tail (λ (t : Token). IsUnsigned t.kind) t ts h))
+source-from (t ∷ ts) h = (All-head (λ (t : Token). IsOfSource t.kind) t ts h, source-from ts (All-tail (λ (t : Token). IsOfSource t.kind) t ts h))
 
 kinds-of : (ts : List Token) → Source ts → Kinds (kinds ts)
 kinds-of [] h = tt
@@ -134,27 +135,27 @@ behind-clean (t ∷ ts) h = h.1
 
 -- ---- What comes out
 
-one-more : (s : State) (w : Word) → IsClean s → IsUnsigned w.kind → StaysClean (one_more s w)
+one-more : (s : State) (w : Word) → IsClean s → IsOfSource w.kind → StaysClean (one_more s w)
 one-more s w h u = either StaysClean (nat_le most_tokens (length s.out)) (Fails faults.TooManyTokens w.line) _ tt (h.0, h.1, h.2, (u, h.3), h.4)
 
 with-text : (s : State) (t : List ℕ) (us : List Word) → IsClean s → Words us → StaysClean (with_text s t us)
 with-text s t [] h k = h
 with-text s t (u ∷ us) h k = either StaysClean (nat_lt longest_text (length t)) (Fails faults.Lex u.line) _ tt (h.0, h.1, h.2, (tt, k.1), h.4)
 
-text-after : (s : State) (w : Word) (t : List ℕ) (o : Option (List ℕ)) → IsClean s → IsUnsigned w.kind → StaysClean (text_after s w t o)
+text-after : (s : State) (w : Word) (t : List ℕ) (o : Option (List ℕ)) → IsClean s → IsOfSource w.kind → StaysClean (text_after s w t o)
 text-after s w t (Some before) h u = with-text s (before ++ t) s.out h h.3
 text-after s w t None h u = either StaysClean (nat_lt longest_text (length t)) (Fails faults.Lex w.line) (one_more s w) tt (one-more s w h u)
 
-out-by : (s : State) (w : Word) (o : Option (List ℕ)) → IsClean s → IsUnsigned w.kind → StaysClean (out_by s w o)
+out-by : (s : State) (w : Word) (o : Option (List ℕ)) → IsClean s → IsOfSource w.kind → StaysClean (out_by s w o)
 out-by s w (Some t) h u = text-after s w t (last_text s.out) h u
 out-by s w None h u = one-more s w h u
 
-comes-out : (p : Purpose) (s : State) (w : Word) → IsClean s → IsUnsigned w.kind → StaysClean (comes_out p s w)
+comes-out : (p : Purpose) (s : State) (w : Word) → IsClean s → IsOfSource w.kind → StaysClean (comes_out p s w)
 comes-out purposes.File s w h u = out-by s w (text_of w.kind) h u
 comes-out purposes.Argument s w h u = (h.0, h.1, h.2, (u, h.3), h.4)
 comes-out purposes.Condition s w h u = (h.0, h.1, h.2, (u, h.3), h.4)
 
-emits : (s : State) (w : Word) → IsClean s → IsUnsigned w.kind → StaysClean (emit s w)
+emits : (s : State) (w : Word) → IsClean s → IsOfSource w.kind → StaysClean (emit s w)
 emits s w h u = comes-out s.purpose s w h u
 
 -- ---- What is put in
@@ -179,7 +180,7 @@ put-arguments : (w : Word) (d : ℕ) (hidden : List (List ℕ)) (a : List Word) 
 put-arguments w d hidden [] h = tt
 put-arguments w d hidden (x ∷ xs) h = (h.0, put-arguments w d hidden xs h.1)
 
-put-words : (w : Word) (d : ℕ) (hidden : List (List ℕ)) (a : Option (List Word)) (k : TokenKind) → InArgument a → IsUnsigned k → Words (put_words w d hidden a k)
+put-words : (w : Word) (d : ℕ) (hidden : List (List ℕ)) (a : Option (List Word)) (k : TokenKind) → InArgument a → IsOfSource k → Words (put_words w d hidden a k)
 put-words w d hidden (Some a) k h u = put-arguments w d hidden a h
 put-words w d hidden None k h u = (u, tt)
 
@@ -212,15 +213,15 @@ uses c u s args v h l =
 
 -- ---- Reading a use
 
-by-params : (c : Setting) (s : State) (w : Word) (m : Macro) (ps : Option (List (List ℕ))) → m.params ≡ ps → IsClean s → IsUnsigned w.kind → InBody m.body → StaysClean (use_macro c s w (Some m))
+by-params : (c : Setting) (s : State) (w : Word) (m : Macro) (ps : Option (List (List ℕ))) → m.params ≡ ps → IsClean s → IsOfSource w.kind → InBody m.body → StaysClean (use_macro c s w (Some m))
 by-params c s w m None e h u b = subst (λ o. StaysClean (use_macro c s w (Some (record { params = o; body = m.body })))) (sym e) (uses c (record { word = w; params = []; body = m.body }) s [] (u, b) h tt)
 by-params c s w m (Some ps) e h u b = subst (λ o. StaysClean (use_macro c s w (Some (record { params = o; body = m.body })))) (sym e) ((u, b), h.1, h.2, h.3, h.4)
 
-use-macro : (c : Setting) (s : State) (w : Word) (o : Option Macro) → IsClean s → IsUnsigned w.kind → InMacro o → StaysClean (use_macro c s w o)
+use-macro : (c : Setting) (s : State) (w : Word) (o : Option Macro) → IsClean s → IsOfSource w.kind → InMacro o → StaysClean (use_macro c s w o)
 use-macro c s w None h u m = emits s w h u
 use-macro c s w (Some m) h u b = by-params c s w m m.params refl h u b
 
-read-name : (c : Setting) (s : State) (w : Word) (n : List ℕ) → IsClean s → IsUnsigned w.kind → StaysClean (read_name c s w n)
+read-name : (c : Setting) (s : State) (w : Word) (n : List ℕ) → IsClean s → IsOfSource w.kind → StaysClean (read_name c s w n)
 read-name c s w n h u = either StaysClean (among n w.hidden) (emit s w) (use_macro c s w (macro_of n s.macros)) (emits s w h u) (use-macro c s w (macro_of n s.macros) h u (h.4 n))
 
 abbrev IsAnswered : Option Asked → Type 0
@@ -240,21 +241,21 @@ asked-clean : (ms : Table) (ws : List Word) → Words ws → IsAnswered (asked m
 asked-clean ms [] h = tt
 asked-clean ms (w ∷ ws) h = either IsAnswered (is_open w.kind) (asked_within ms ws) (asked_name ms (name_of w.kind) ws) (asked-within ms ws h.1) (asked-name ms (name_of w.kind) ws h.1)
 
-truth-unsigned : (b : Bool) → IsUnsigned (truth b)
-truth-unsigned true = tt
-truth-unsigned false = tt
+truth-of-source : (b : Bool) → IsOfSource (truth b)
+truth-of-source true = tt
+truth-of-source false = tt
 
 read-defined : (s : State) (w : Word) (o : Option Asked) → IsClean s → IsAnswered o → StaysClean (read_defined s w o)
 read-defined s w None h k = tt
-read-defined s w (Some d) h k = emits (record s { waiting = d.after }) (record w { kind = truth d.answer }) (h.0, k, h.2, h.3, h.4) (truth-unsigned d.answer)
+read-defined s w (Some d) h k = emits (record s { waiting = d.after }) (record w { kind = truth d.answer }) (h.0, k, h.2, h.3, h.4) (truth-of-source d.answer)
 
-read-plain : (c : Setting) (s : State) (w : Word) (o : Option (List ℕ)) → IsClean s → IsUnsigned w.kind → StaysClean (read_plain c s w o)
+read-plain : (c : Setting) (s : State) (w : Word) (o : Option (List ℕ)) → IsClean s → IsOfSource w.kind → StaysClean (read_plain c s w o)
 read-plain c s w None h u = emits s w h u
 read-plain c s w (Some n) h u =
     either StaysClean (is_defined_word s.purpose n) (read_defined s w (asked s.macros s.waiting)) (read_name c s w n)
     (read-defined s w (asked s.macros s.waiting) h (asked-clean s.macros s.waiting h.1)) (read-name c s w n h u)
 
-read-named : (s : State) (u : Use) (w : Word) → IsClean s → InUse u → IsUnsigned w.kind → StaysClean (read_named s u w)
+read-named : (s : State) (u : Use) (w : Word) → IsClean s → InUse u → IsOfSource w.kind → StaysClean (read_named s u w)
 read-named s u w h v k =
     either StaysClean (is_open w.kind) (Goes (record s { reading = Within (record { usage = u; nested = 0; whole = []; current = [] }) })) (emit (record s { waiting = w ∷ s.waiting }) u.word)
     ((v, tt, tt), h.1, h.2, h.3, h.4) (emits (record s { waiting = w ∷ s.waiting }) u.word (h.0, (k, h.1), h.2, h.3, h.4) v.0)
@@ -273,10 +274,10 @@ given-clean (p ∷ ps) args h = h
 closes-use : (c : Setting) (s : State) (u : Use) (args : List (List Word)) → IsClean s → InUse u → Lists args → StaysClean (closed_use c s u args)
 closes-use c s u args h v l = either StaysClean (length args == length u.params) (used c u s args) (Fails faults.MacroArgs u.word.line) (uses c u s args v h l) tt
 
-argument-word : (s : State) (a : Arguments) (n : ℕ) (w : Word) → IsClean s → InArguments a → IsUnsigned w.kind → StaysClean (argument_word s a n w)
+argument-word : (s : State) (a : Arguments) (n : ℕ) (w : Word) → IsClean s → InArguments a → IsOfSource w.kind → StaysClean (argument_word s a n w)
 argument-word s a n w h k u = ((k.0, k.1, words-append a.current (w ∷ []) k.2 (u, tt)), h.1, h.2, h.3, h.4)
 
-within-by : (c : Setting) (s : State) (a : Arguments) (w : Word) (p : Part) → IsClean s → InArguments a → IsUnsigned w.kind → StaysClean (within_by c s a w p)
+within-by : (c : Setting) (s : State) (a : Arguments) (w : Word) (p : Part) → IsClean s → InArguments a → IsOfSource w.kind → StaysClean (within_by c s a w p)
 within-by c s a w Closes h k u =
     either StaysClean (a.nested == 0) (closed_use c s a.usage (given a.usage.params (all_of a))) _
     (closes-use c s a.usage (given a.usage.params (all_of a)) h k.0 (given-clean a.usage.params (all_of a) (all-of a k))) (argument-word s a (a.nested - 1) w h k u)
@@ -286,12 +287,12 @@ within-by c s a w Parts h k u =
 within-by c s a w Opens h k u = argument-word s a (a.nested + 1) w h k u
 within-by c s a w Other h k u = argument-word s a a.nested w h k u
 
-read-by : (c : Setting) (s : State) (w : Word) (r : Reading) → IsClean s → InReading r → IsUnsigned w.kind → StaysClean (read_by c s w r)
+read-by : (c : Setting) (s : State) (w : Word) (r : Reading) → IsClean s → InReading r → IsOfSource w.kind → StaysClean (read_by c s w r)
 read-by c s w Plain h k u = read-plain c s w (name_of w.kind) h u
 read-by c s w (Named v) h k u = read-named s v w h k u
 read-by c s w (Within a) h k u = within-by c s a w (part_of w.kind) h k u
 
-reads-word : (c : Setting) (s : State) (w : Word) → IsClean s → IsUnsigned w.kind → StaysClean (read c s w)
+reads-word : (c : Setting) (s : State) (w : Word) → IsClean s → IsOfSource w.kind → StaysClean (read c s w)
 reads-word c s w h u = read-by c (record s { reading = Plain }) w s.reading (tt, h.1, h.2, h.3, h.4) h.0 u
 
 end-by : (s : State) (r : Reading) → IsClean s → InReading r → StaysClean (end_by s r)
@@ -471,7 +472,7 @@ closes-file : (s : State) (o : Open) (os : List Open) (gs : List Group) → IsCl
 closes-file s o os [] h l = (h.0, h.1, l, h.3, h.4)
 closes-file s o os (g ∷ gs) h l = tt
 
-token-clean : (c : Setting) (s : State) (o : Open) (os : List Open) (t : Token) (ts : List Token) → IsClean s → InFiles os → IsUnsigned t.kind → Source ts → StaysClean (token c s o os t ts)
+token-clean : (c : Setting) (s : State) (o : Open) (os : List Open) (t : Token) (ts : List Token) → IsClean s → InFiles os → IsOfSource t.kind → Source ts → StaysClean (token c s o os t ts)
 token-clean c s o os t ts h l u k =
     either StaysClean (skips o.groups) (Goes (past s o os ts)) _ (h.0, h.1, (k, l), h.3, h.4)
     (either StaysClean (is_bad t.kind) (Fails faults.Lex (line_or o.included t.line)) (read c (past s o os ts) (word_of o t)) tt (reads-word c (past s o os ts) (word_of o t) (h.0, h.1, (k, l), h.3, h.4) u))
@@ -497,24 +498,20 @@ next-clean c s h = from-waiting c s s.waiting h h.1
 
 -- ---- Where it leads
 
--- what a source's tokens promise
-abbrev SourcesAreUnsigned : Type 0
-SourcesAreUnsigned = (bs : List ℕ) (ts : List Token) → IsLexed bs ts → AreUnsigned ts
-
 abbrev IsCleanEnd : Outcome → Type 0
 IsCleanEnd (Whole s) = IsClean s
 IsCleanEnd (Faulty kind line) = ⊤
 
-leads-clean : SourcesAreUnsigned → {c : Setting} {n : Next} {o : Outcome} → LeadsTo c n o → StaysClean n → IsCleanEnd o
-leads-clean law ends h = h
-leads-clean law fails h = tt
-leads-clean law {c} (goes {s} l) h = leads-clean law l (next-clean c s h)
-leads-clean law {c} (asks {q} {r} l m) h = leads-clean law m (h.1 r (leads-clean law l h.0))
-leads-clean law (asks_fault l) h = tt
-leads-clean law (reads {bytes} {ts = ts} x m) h = leads-clean law m (h ts (source-from ts (law bytes ts x)))
-leads-clean law (reads_fault at kind f) h = tt
-leads-clean law (tests {z = z} v m) h = leads-clean law m (h z)
-leads-clean law (tests_fault v) h = tt
+leads-clean : {c : Setting} {n : Next} {o : Outcome} → LeadsTo c n o → StaysClean n → IsCleanEnd o
+leads-clean ends h = h
+leads-clean fails h = tt
+leads-clean {c} (goes {s} l) h = leads-clean l (next-clean c s h)
+leads-clean {c} (asks {q} {r} l m) h = leads-clean m (h.1 r (leads-clean l h.0))
+leads-clean (asks_fault l) h = tt
+leads-clean (reads {bytes} {ts = ts} x m) h = leads-clean m (h ts (source-from ts (lexed bytes ts x)))
+leads-clean (reads_fault at kind f) h = tt
+leads-clean (tests {z = z} v m) h = leads-clean m (h z)
+leads-clean (tests_fault v) h = tt
 
 -- ---- The whole
 
@@ -536,11 +533,20 @@ opening-found : (c : Setting) (o : Option (List ℕ)) → StaysClean (opening_fo
 opening-found c None = tt
 opening-found c (Some bytes) = opening-bytes c bytes
 
-came-out : (ws : List Word) → Words ws → AreUnsigned (map came_out ws)
-came-out [] h = All-nil (λ (t : Token). IsUnsigned t.kind)
-came-out (w ∷ ws) h = All-cons (λ (t : Token). IsUnsigned t.kind) (came_out w) (map came_out ws) h.0 (came-out ws h.1)
+came-unsigned : (ws : List Word) → Words ws → AreUnsigned (map came_out ws)
+came-unsigned [] h = All-nil (λ (t : Token). IsUnsigned t.kind)
+came-unsigned (w ∷ ws) h = All-cons (λ (t : Token). IsUnsigned t.kind) (came_out w) (map came_out ws) (to-unsigned w.kind h.0) (came-unsigned ws h.1)
 
-pub expansion_unsigned : SourcesAreUnsigned → (c : Setting) (ts : List Token) (p : Pragmas) → IsExpansion c ts p → AreUnsigned ts
-expansion_unsigned law c ts p h =
-    let clean : IsClean h.0 = leads-clean law h.1 (opening-found c (c.files c.path)) in
-    subst AreUnsigned h.2 (came-out (reverse h.0.out) (words-reverse h.0.out clean.3))
+came-named : (ws : List Word) → Words ws → AreNamed (map came_out ws)
+came-named [] h = All-nil (λ (t : Token). IsNamed t.kind)
+came-named (w ∷ ws) h = All-cons (λ (t : Token). IsNamed t.kind) (came_out w) (map came_out ws) (to-named w.kind h.0) (came-named ws h.1)
+
+-- the words that come out are as in a source
+whole-clean : (c : Setting) (ts : List Token) (p : Pragmas) → (x : IsExpansion c ts p) → Words (reverse x.0.out)
+whole-clean c ts p x = let clean : IsClean x.0 = leads-clean x.1 (opening-found c (c.files c.path)) in words-reverse x.0.out clean.3
+
+pub expansion_unsigned : (c : Setting) (ts : List Token) (p : Pragmas) → IsExpansion c ts p → AreUnsigned ts
+expansion_unsigned c ts p x = subst AreUnsigned x.2 (came-unsigned (reverse x.0.out) (whole-clean c ts p x))
+
+pub expansion_named : (c : Setting) (ts : List Token) (p : Pragmas) → IsExpansion c ts p → AreNamed ts
+expansion_named c ts p x = subst AreNamed x.2 (came-named (reverse x.0.out) (whole-clean c ts p x))
