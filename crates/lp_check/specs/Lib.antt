@@ -1,3 +1,3 @@
-pub mod Faults
 pub mod Report
 pub mod Sources
+pub mod Told

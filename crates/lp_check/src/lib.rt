@@ -1,8 +1,10 @@
-//! What is wrong with the files of a mudlib, as far as expansion and parsing go.
+//! What is wrong with the files of a mudlib: what loading each of them finds, its parents first and running nothing.
 #![tactic(auto)]
 
-mod found;
+mod all;
+pub mod law;
 mod lines;
+mod simul;
 mod sources;
 
 pub use sources::Sources;

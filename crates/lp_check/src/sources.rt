@@ -1,11 +1,14 @@
 //! The files of a script, and their report.
 ghost use Rattle.std.specs.Prelude.{◌≡◌, ◌++◌, ◌∷◌, [], ℕ, List, IfOk, OnOk};
+ghost use Rattle.std.specs.Option.{option_copied};
 ghost use Rattle.lp_check.specs.Report.{IsReport, is_source as source_path};
 ghost use Rattle.lp_check.specs.Sources.{AreFiles};
 
-use crate::found::fault_in;
-use crate::lines::{put_counts, put_fault};
+use crate::all::load_all;
+use crate::lines::{put_counts, put_known};
+use crate::simul::load_simul;
 use lp_files::store::Store;
+use lp_loads::known::Known;
 use lp_tree::path::FilePath;
 use std::alloc::{AllocError, Global};
 
@@ -45,20 +48,26 @@ impl Sources {
         Ok(())
     }
 
-    /// The report of the files: a line `FILE line N: TEXT` for each that is compiled and has a fault of
-    /// its expansion or of its unit, in the order in which they came, and the line `F files, E faults`.
-    pub fn report(&self, alloc: Global) -> Result<Vec<u8>, AllocError>
-        ensures { (files : List (List ℕ × List ℕ)) → AreFiles files self.now → IfOk result (λ v. IsReport files v.items) }
+    /// The report of the files: a line `FILE line N: TEXT` for each fault that loading those finds that are compiled, their
+    /// parents first and running nothing, by the paths of the files, and the line `F files, E faults`, where F counts the
+    /// files that are compiled. Where `simul` is the path of one of them, it is loaded before the others, and each other
+    /// file may call the functions of its version that any object may call. Takes time in proportion to the files with what
+    /// they include, and to the tables of their parents.
+    pub fn report(&self, alloc: Global, simul: Option<&str>) -> Result<Vec<u8>, AllocError>
+        ensures { (files : List (List ℕ × List ℕ)) → AreFiles files self.now → IfOk result (λ v. IsReport (option_copied simul.entry) files v.items) }
     {
+        let mut known = Known::new(alloc);
+        let names = load_simul(alloc, &self.store, self.paths.as_slice(), simul, &mut known)?;
+        load_all(
+            alloc,
+            &self.store,
+            &names,
+            self.paths.as_slice(),
+            &mut known,
+        )?;
         let mut out = Vec::new(alloc);
-        let mut faults: usize = 0;
-        for path in self.paths.as_slice() {
-            if let Some(fault) = fault_in(alloc, &self.store, path.as_str())? {
-                put_fault(alloc, &mut out, &fault)?;
-                faults += 1;
-            }
-        }
-        put_counts(alloc, &mut out, self.paths.len() as u64, faults as u64)?;
+        let faults = put_known(alloc, &mut out, &known)?;
+        put_counts(alloc, &mut out, self.paths.len() as u64, faults)?;
         Ok(out)
     }
 }
