@@ -1,11 +1,11 @@
 -- Reading the files of a script that is checked, and its report.
-use Rattle.std.proofs.Common.{subst, ◌≡◌, ◌∙◌, ◌≤◌, ◌⊎◌, inl, inr, ℕ, List, [], ◌∷◌, ◌++◌, length, take, drop, Bool, true, false, Option, Some, None, refl, sym, ap, arith, append_assoc}
-use Rattle.std.specs.Prelude.{Ok, Err, option_map}
-use Rattle.std.proofs.lemmas.List.{append-nil, take-append-drop, take_all}
+use Rattle.std.proofs.Common.{subst, ◌≡◌, ◌∙◌, ◌≤◌, ◌⊎◌, inl, inr, ℕ, List, [], ◌∷◌, ◌++◌, length, take, false, Option, Some, refl, sym, ap, arith}
+use Rattle.std.specs.Prelude.{Ok}
+use Rattle.std.proofs.lemmas.List.{append-nil, take_all}
 use Rattle.lp_io.specs.Told.{after_adding}
 use Rattle.lp_events.specs.declared.item.Item.{Item}
 use Rattle.lp_events.specs.declared.item.Item.TheVariants as items
-use Rattle.lp_events.specs.Script.{beginning, IsScript, files_of, longest_input}
+use Rattle.lp_events.specs.Script.{IsScript, files_of, longest_input}
 use Rattle.lp_small.specs.Run.{BeginsWithItems, before as none_begun}
 use Rattle.lp_script.specs.declared.fault.ScriptFault.{ScriptFault}
 use Rattle.lp_script.specs.declared.fault.ScriptFault.TheVariants as script
@@ -16,7 +16,7 @@ use Rattle.lp_check.specs.Sources.{AreFiles}
 use Rattle.lp_top.specs.declared.status.Status.{Status}
 use Rattle.lp_top.specs.declared.status.Status.TheVariants as ends
 use Rattle.lp_top.specs.Check.{EndsCheck, WroteCheck, Checks, IsGathering, IsGathered, EndsGathering}
-use Rattle.lp_top.specs.Replay.{Replays, Finishes, IsFrontOf, IsReadingEnd, IsReplayEnd, status_of_fault, is_end}
+use Rattle.lp_top.specs.Replay.{Replays, Finishes, IsReadingEnd, IsReplayEnd, status_of_fault, is_end}
 use Rattle.lp_top.proofs.Reading.{begins_with}
 use Rattle.lp_top.proofs.Filing.{files-append}
 use Rattle.lp_top.proofs.Completeness.{OneSpelling, bad-not-script}
@@ -50,30 +50,30 @@ added_none : (before : Option (List ℕ)) (old : List ℕ) → before ≡ Some o
 added_none before old e = e ∙ ap (λ xs. Some xs) (sym (append-nil old))
 
 -- nothing was written before the end of the script
-wrote_none : (b : List ℕ) (before : Option (List ℕ)) (s : Status) (xs : List Item) → EndsCheck b xs s → ((piece : List ℕ) → piece ≡ [] → WroteCheck xs piece s) → Checks b s before before
-wrote_none b before s xs e w = record { read = xs; ends = e; wrote = λ old f. ([], added_none before old f, w [] refl) }
+wrote_none : (simul : Option (List ℕ)) (b : List ℕ) (before : Option (List ℕ)) (s : Status) (xs : List Item) → EndsCheck b xs s → ((piece : List ℕ) → piece ≡ [] → WroteCheck simul xs piece s) → Checks simul b s before before
+wrote_none simul b before s xs e w = record { read = xs; ends = e; wrote = λ old f. ([], added_none before old f, w [] refl) }
 
-pub checks_early : (b : List ℕ) (before : Option (List ℕ)) (s : Status) → EndsGathering b s → IsReadingEnd s → Checks b s before before
-checks_early b before ends.Done h k = absurd k
-checks_early b before ends.BadWords h k = absurd k
-checks_early b before (ends.BadScript at) h k = wrote_none b before (ends.BadScript at) h.read h.ends (λ piece e. e)
-checks_early b before (ends.NoMaster faults) h k = absurd k
-checks_early b before ends.TooLarge h k = wrote_none b before ends.TooLarge h.read h.ends (λ piece e. e)
-checks_early b before ends.InputFault h k = wrote_none b before ends.InputFault h.read h.ends (λ piece e. e)
-checks_early b before ends.OutputFault h k = absurd k
-checks_early b before ends.NoMemory h k = wrote_none b before ends.NoMemory h.read h.ends (λ piece e. e)
+pub checks_early : (simul : Option (List ℕ)) (b : List ℕ) (before : Option (List ℕ)) (s : Status) → EndsGathering b s → IsReadingEnd s → Checks simul b s before before
+checks_early simul b before ends.Done h k = absurd k
+checks_early simul b before ends.BadWords h k = absurd k
+checks_early simul b before (ends.BadScript at) h k = wrote_none simul b before (ends.BadScript at) h.read h.ends (λ piece e. e)
+checks_early simul b before (ends.NoMaster faults) h k = absurd k
+checks_early simul b before ends.TooLarge h k = wrote_none simul b before ends.TooLarge h.read h.ends (λ piece e. e)
+checks_early simul b before ends.InputFault h k = wrote_none simul b before ends.InputFault h.read h.ends (λ piece e. e)
+checks_early simul b before ends.OutputFault h k = absurd k
+checks_early simul b before ends.NoMemory h k = wrote_none simul b before ends.NoMemory h.read h.ends (λ piece e. e)
 
 -- a script that was read whole is what the input begins with
 whole_begins : (b : List ℕ) (xs : List Item) → IsScript b xs → length b ≤ longest_input → BeginsWithItems (take longest_input b) xs
 whole_begins b xs s l = record { others = []; spelled = take_all longest_input b l ∙ s.spelled ∙ sym (append-nil _); fit = s.fit }
 
 -- no memory for the report
-pub checks_no_memory : (b : List ℕ) (before : Option (List ℕ)) (sources : Sources) → IsGathered b sources → Checks b ends.NoMemory before before
-checks_no_memory b before sources h = wrote_none b before ends.NoMemory h.read (whole_begins b h.read h.script h.short) (λ piece e. e)
+pub checks_no_memory : (simul : Option (List ℕ)) (b : List ℕ) (before : Option (List ℕ)) (sources : Sources) → IsGathered b sources → Checks simul b ends.NoMemory before before
+checks_no_memory simul b before sources h = wrote_none simul b before ends.NoMemory h.read (whole_begins b h.read h.script h.short) (λ piece e. e)
 
 -- no memory before anything was read
-pub checks_unread : (b : List ℕ) (told : Option (List ℕ)) → Checks b ends.NoMemory told told
-checks_unread b told = wrote_none b told ends.NoMemory [] (record { others = take longest_input b; spelled = refl; fit = tt }) (λ piece e. e)
+pub checks_unread : (simul : Option (List ℕ)) (b : List ℕ) (told : Option (List ℕ)) → Checks simul b ends.NoMemory told told
+checks_unread simul b told = wrote_none simul b told ends.NoMemory [] (record { others = take longest_input b; spelled = refl; fit = tt }) (λ piece e. e)
 
 pub replays_unread : (b : List ℕ) (told : Option (List ℕ)) → Replays b ends.NoMemory told told
 replays_unread b told = record {
@@ -86,15 +86,15 @@ added : (before after : Option (List ℕ)) (old piece : List ℕ) → after ≡ 
 added before after old piece e f = e ∙ ap (λ o. after_adding o piece) f
 
 -- the report was written, or a front of it
-pub checks_finished : (b : List ℕ) (before after : Option (List ℕ)) (sources : Sources) (whole : List ℕ) (s : Status) (h : IsGathered b sources) → IsReport (files_of h.read) whole → Finishes whole before after s → Checks b s before after
-checks_finished b before after sources whole ends.Done h r i = record { read = h.read; ends = (h.script, h.short); wrote = λ old f. (whole, added before after old whole i f, r) }
-checks_finished b before after sources whole ends.OutputFault h r i = record { read = h.read; ends = (h.script, h.short); wrote = λ old f. (i.0, added before after old i.0 i.2 f, (whole, r, i.1)) }
-checks_finished b before after sources whole ends.BadWords h r i = absurd i
-checks_finished b before after sources whole (ends.BadScript at) h r i = absurd i
-checks_finished b before after sources whole (ends.NoMaster fs) h r i = absurd i
-checks_finished b before after sources whole ends.TooLarge h r i = absurd i
-checks_finished b before after sources whole ends.InputFault h r i = absurd i
-checks_finished b before after sources whole ends.NoMemory h r i = absurd i
+pub checks_finished : (simul : Option (List ℕ)) (b : List ℕ) (before after : Option (List ℕ)) (sources : Sources) (whole : List ℕ) (s : Status) (h : IsGathered b sources) → IsReport simul (files_of h.read) whole → Finishes whole before after s → Checks simul b s before after
+checks_finished simul b before after sources whole ends.Done h r i = record { read = h.read; ends = (h.script, h.short); wrote = λ old f. (whole, added before after old whole i f, r) }
+checks_finished simul b before after sources whole ends.OutputFault h r i = record { read = h.read; ends = (h.script, h.short); wrote = λ old f. (i.0, added before after old i.0 i.2 f, (whole, r, i.1)) }
+checks_finished simul b before after sources whole ends.BadWords h r i = absurd i
+checks_finished simul b before after sources whole (ends.BadScript at) h r i = absurd i
+checks_finished simul b before after sources whole (ends.NoMaster fs) h r i = absurd i
+checks_finished simul b before after sources whole ends.TooLarge h r i = absurd i
+checks_finished simul b before after sources whole ends.InputFault h r i = absurd i
+checks_finished simul b before after sources whole ends.NoMemory h r i = absurd i
 
 pub kind_of_finish : (whole : List ℕ) (before after : Option (List ℕ)) (s : Status) → Finishes whole before after s → IsReplayEnd s
 kind_of_finish whole before after ends.BadWords i = absurd i

@@ -1,7 +1,6 @@
 -- What a check ends with, by the bytes of its input, and what it has written then.
-use Rattle.std.specs.Prelude.{◌≡◌, ℕ, ◌≤◌, List, [], ◌∷◌, ◌++◌, length, take, Option, Some, ◌⊎◌}
+use Rattle.std.specs.Prelude.{◌≡◌, ℕ, ◌≤◌, List, [], ◌++◌, length, take, Option, Some}
 use Rattle.lp_events.specs.declared.item.Item.{Item}
-use Rattle.lp_events.specs.declared.item.Item.TheVariants as items
 use Rattle.lp_events.specs.Script.{IsScript, IsBadScript, IsTooLarge, files_of, longest_input}
 use Rattle.lp_small.specs.Run.{BeginsWithItems}
 use Rattle.lp_script.specs.Reader.{Reading, GoesOn, HasGiven}
@@ -23,17 +22,19 @@ EndsCheck bytes xs NoMemory = BeginsWithItems (take longest_input bytes) xs
 EndsCheck bytes xs BadWords = ⊥
 EndsCheck bytes xs (NoMaster faults) = ⊥
 
--- What was written at an end: the report of the script's files, or where the sink failed a front of it, and else nothing.
-abbrev pub WroteCheck : List Item → List ℕ → Status → Type 0
-WroteCheck xs piece Done = IsReport (files_of xs) piece
-WroteCheck xs piece OutputFault = (whole : List ℕ) × IsReport (files_of xs) whole × IsFrontOf piece whole
-WroteCheck xs piece status = piece ≡ []
+-- What was written at an end: the report of the script's files, where this path was given for the simul efuns, or where
+-- the sink failed a front of it, and else nothing.
+abbrev pub WroteCheck : Option (List ℕ) → List Item → List ℕ → Status → Type 0
+WroteCheck simul xs piece Done = IsReport simul (files_of xs) piece
+WroteCheck simul xs piece OutputFault = (whole : List ℕ) × IsReport simul (files_of xs) whole × IsFrontOf piece whole
+WroteCheck simul xs piece status = piece ≡ []
 
--- What a check of these bytes ended with, and what it wrote behind what was told before: by the items that it read.
-pub record Checks (bytes : List ℕ) (status : Status) (before after : Option (List ℕ)) : Type 0 where
+-- What a check of these bytes, given this path for the simul efuns, ended with, and what it wrote behind what was told
+-- before: by the items that it read.
+pub record Checks (simul : Option (List ℕ)) (bytes : List ℕ) (status : Status) (before after : Option (List ℕ)) : Type 0 where
   pub read : List Item
   pub ends : EndsCheck bytes read status
-  pub wrote : (old : List ℕ) → before ≡ Some old → (piece : List ℕ) × (after ≡ Some (old ++ piece)) × WroteCheck read piece status
+  pub wrote : (old : List ℕ) → before ≡ Some old → (piece : List ℕ) × (after ≡ Some (old ++ piece)) × WroteCheck simul read piece status
 
 -- The reader has given these items, and their files were gathered.
 pub record IsGathering (r : Reading) (sources : Sources) : Type 0 where

@@ -1,19 +1,22 @@
 -- The words of the command line.
-use Rattle.std.specs.Prelude.{◌≡◌, ℕ, List, [], ◌∷◌, map, bytes_eq, codes, Bool, true, false, not, ◌&&◌, ◌||◌, Option, Some, None, if◌then◌else◌, String, string_bytes}
+use Rattle.std.specs.Prelude.{◌≡◌, ◌==◌, ℕ, List, [], ◌∷◌, map, bytes_eq, codes, Bool, true, false, not, ◌&&◌, Option, Some, None, if◌then◌else◌, String, string_bytes}
 use Rattle.std.specs.List.{list_all}
 use Rattle.std.specs.declared.alloc.Global.{Global}
 use Rattle.clap.specs.Kinds.{Kinds}
-use Rattle.clap.specs.Words.{App, new_app, fault_of}
+use Rattle.clap.specs.Words.{App, Rule, new_app, new_rule, with_rule, fault_of, matches_of, first_of}
+use Rattle.clap.specs.declared.builder.action.ArgAction.TheVariants.{Set}
 use Rattle.lp_top.specs.declared.words.Command.{Command}
 use Rattle.lp_top.specs.declared.words.Command.TheVariants.{Replay, Check}
+use Rattle.lp_top.specs.declared.words.CommandName.{CommandName}
+use Rattle.lp_top.specs.declared.words.CommandName.TheVariants as name
 
 -- the command that a word names
-abbrev pub command_named : List ℕ → Option Command
-command_named word = if bytes_eq word (codes "replay") then Some Replay else (if bytes_eq word (codes "check") then Some Check else None)
+abbrev pub command_named : List ℕ → Option CommandName
+command_named word = if bytes_eq word (codes "replay") then Some name.Replay else (if bytes_eq word (codes "check") then Some name.Check else None)
 
-abbrev pub command_name : Command → List ℕ
-command_name Replay = codes "replay"
-command_name Check = codes "check"
+abbrev pub text_of : CommandName → List ℕ
+text_of name.Replay = codes "replay"
+text_of name.Check = codes "check"
 
 -- a word that is not one of those that no command takes, whatever clap says of them
 abbrev pub is_free_word : List ℕ → Bool
@@ -22,22 +25,50 @@ is_free_word word = not (bytes_eq word (codes "--")) && not (bytes_eq word (code
 abbrev pub are_free : List (List ℕ) → Bool
 are_free words = list_all is_free_word words
 
--- the words of a command as clap has them: its name, and no options yet
-abbrev pub line_of : Command → App
-line_of command = new_app (command_name command)
+-- the option `--simul`, with one value
+abbrev pub simul_option : Rule
+simul_option = record (new_rule (codes "simul")) { long = Some (codes "simul"); action = Some Set }
+
+-- the words of a command as clap has them: its name, and its options
+abbrev pub line_of : CommandName → App
+line_of name.Replay = new_app (codes "replay")
+line_of name.Check = with_rule (new_app (codes "check")) simul_option
 
 abbrev pub has_some : Kinds → Bool
 has_some [] = false
 has_some (k ∷ ks) = true
 
 -- clap finds fault with the words of a command, of which the first is its name
-abbrev pub fault_in_line : Command → List (List ℕ) → Bool
-fault_in_line command words = has_some (fault_of (line_of command) words)
+abbrev pub fault_in_line : CommandName → List (List ℕ) → Bool
+fault_in_line name words = has_some (fault_of (line_of name) words)
+
+-- the value that clap has for `--simul`, if the words have the option
+abbrev pub simul_in : List (List ℕ) → Option (List ℕ)
+simul_in words = first_of (codes "simul") (matches_of (line_of name.Check) words)
+
+-- a value of an option is not empty, and does not begin with `-` (45)
+abbrev pub is_value : List ℕ → Bool
+is_value [] = false
+is_value (c ∷ rest) = not (c == 45)
+
+-- a check with the value of `--simul`, if that may be one
+abbrev pub check_with : Option (List ℕ) → Option Command
+check_with None = Some (Check None)
+check_with (Some value) = if is_value value then Some (Check (Some value)) else None
+
+-- the command of this name with its values
+abbrev pub with_values : CommandName → List (List ℕ) → Option Command
+with_values name.Replay words = Some Replay
+with_values name.Check words = check_with (simul_in words)
+
+-- the command of this name, if clap takes the words
+abbrev pub taken_with : CommandName → List (List ℕ) → Option Command
+taken_with name words = if fault_in_line name words then None else with_values name words
 
 -- the command, if the words belong to it
-abbrev pub command_with : Option Command → List (List ℕ) → Option Command
+abbrev pub command_with : Option CommandName → List (List ℕ) → Option Command
 command_with None words = None
-command_with (Some command) words = if are_free words && not (fault_in_line command words) then Some command else None
+command_with (Some name) words = if are_free words then taken_with name words else None
 
 -- the command that the words, without the program's name, name
 abbrev pub command_in : List (List ℕ) → Option Command

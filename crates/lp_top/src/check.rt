@@ -1,5 +1,6 @@
 //! The command `check`: reads a script, and tells what is wrong with its files.
 ghost use Rattle.std.specs.Prelude.{◌≡◌, ℕ, ◌≤◌, List, [], ◌∷◌, ◌++◌, Some, IfOk, IfErr, OnOk};
+ghost use Rattle.std.specs.Option.{option_copied};
 ghost use Rattle.lp_events.specs.declared.item.Item.{Item as I};
 ghost use Rattle.lp_events.specs.Script.{files_of};
 ghost use Rattle.lp_io.specs.Told.{IsPassedOn};
@@ -57,9 +58,15 @@ fn gather<S: Source>(alloc: Global, reader: &mut Reader, input: &mut S) -> Resul
     }
 }
 
-/// Checks a script: reads the whole of it, and then writes the report of its files.
-pub(crate) fn check<S: Source, K: Sink>(alloc: Global, input: &mut S, out: &mut K) -> Status
-    ensures checks { (b : List ℕ) → S.remaining input.old ≡ Some b → Checks b result (K.written out.old) (K.written out.new) }
+/// Checks a script: reads the whole of it, and then writes the report of its files, where this path
+/// is given for the simul efuns.
+pub(crate) fn check<S: Source, K: Sink>(
+    alloc: Global,
+    simul: Option<&str>,
+    input: &mut S,
+    out: &mut K,
+) -> Status
+    ensures checks { (b : List ℕ) → S.remaining input.old ≡ Some b → Checks (option_copied simul.entry) b result (K.written out.old) (K.written out.new) }
     ensures whole { result ≡ Status.Done → (b : List ℕ) → S.remaining input.old ≡ Some b → S.remaining input.new ≡ Some [] }
     ensures most { (b : List ℕ) → S.remaining input.old ≡ Some b → GoneAtMost b (S.remaining input.new) }
     ensures passed { result ≡ Status.Done → IsPassedOn (K.passed out.new) }
@@ -74,7 +81,7 @@ pub(crate) fn check<S: Source, K: Sink>(alloc: Global, input: &mut S, out: &mut 
     };
     // the script's bytes are copied in the sources
     drop(reader);
-    match sources.report(alloc) {
+    match sources.report(alloc, simul) {
         Ok(report) => finish(out, report.as_slice()),
         Err(_) => Status::NoMemory,
     }

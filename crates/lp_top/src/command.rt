@@ -1,5 +1,6 @@
 //! The call that carries out a command.
-ghost use Rattle.std.specs.Prelude.{◌≡◌, ℕ, ◌≤◌, List, [], None, ◌⊎◌, length, map, string_bytes};
+ghost use Rattle.std.specs.Prelude.{◌≡◌, ℕ, ◌≤◌, List, [], Option, None, ◌⊎◌, length, map, string_bytes};
+ghost use Rattle.std.specs.Option.{option_copied};
 ghost use Rattle.lp_io.specs.Counts.{Rose};
 ghost use Rattle.lp_io.specs.Told.{IsPassedOn};
 ghost use Rattle.lp_events.specs.declared.item.Item.{Item as I};
@@ -18,12 +19,33 @@ use crate::status::Status;
 use crate::words::{Command, WordsFault, command_of};
 use lp_io::{Sink, Source};
 use lp_script::one_spelling;
+use lp_tree::path::FilePath;
 use std::alloc::Global;
 
+// The text of a path that may have been given. Takes no memory.
+fn text_of(path: &Option<FilePath>) -> Option<&str>
+    ensures { option_copied result ≡ path.now }
+{
+    match path {
+        Some(path) => Some(path.as_str()),
+        None => None,
+    }
+}
+
 /// Carries out the command that the words name: `replay` reads a script from `input` and writes its
-/// transcript to `out`; `check` reads a script and writes a line `FILE line N: TEXT` for each of its
-/// files that ends in `.c` and has a fault of its expansion or its unit, by path, and then the line
-/// `F files, E faults`. A check runs nothing.
+/// transcript to `out`; `check` reads a script and tells what is wrong with its files, running nothing.
+///
+/// A check loads each file that ends in `.c`, by path and its parents first. It writes a line
+/// `FILE line N: TEXT` for each fault, by the paths of the files and each file's faults once, and then
+/// the line `F files, E faults`, where F counts the script's files that end in `.c`. A file has its
+/// first fault of expansion, or else of grammar; or else all of its types; or else the first of its
+/// tables. One whose parent is missing or faulty has at most that of expansion or grammar. A missing
+/// parent has `no such file` in line 0, in its place by path. An `inherit` of a file whose load is
+/// under way is the fault `inherits itself`.
+///
+/// With `--simul PATH` each file but that one and its parents sees, as simul efuns, the functions of
+/// that file's version that every object may call. There are none where PATH is no file of the script
+/// that ends in `.c`, or where it or a parent of it is missing or faulty.
 ///
 /// - `Done`: the input was read to its end and is a script, and the bytes written are its transcript
 ///   or its report.
@@ -54,7 +76,7 @@ pub fn run<S: Source, K: Sink>(
     ensures refused { command_in (map string_bytes words.now) ≡ None → (result ≡ Status.BadWords) ⊎ (result ≡ Status.NoMemory) }
     ensures untouched { command_in (map string_bytes words.now) ≡ None → (input.new ≡ input.old) × (out.new ≡ out.old) }
     ensures replays { Name words.now Command.Replay → (b : List ℕ) → S.remaining input.old ≡ Some b → Replays b result (K.written out.old) (K.written out.new) }
-    ensures checks { Name words.now Command.Check → (b : List ℕ) → S.remaining input.old ≡ Some b → Checks b result (K.written out.old) (K.written out.new) }
+    ensures checks { (simul : Option (List ℕ)) → Name words.now (Command.Check simul) → (b : List ℕ) → S.remaining input.old ≡ Some b → Checks simul b result (K.written out.old) (K.written out.new) }
     ensures whole { result ≡ Status.Done → (b : List ℕ) → S.remaining input.old ≡ Some b → S.remaining input.new ≡ Some [] }
     ensures most { (b : List ℕ) → S.remaining input.old ≡ Some b → GoneAtMost b (S.remaining input.new) }
     ensures passed { result ≡ Status.Done → IsPassedOn (K.passed out.new) }
@@ -65,14 +87,14 @@ pub fn run<S: Source, K: Sink>(
         → (Rose (S.faults input.old) (S.faults input.new) → ⊥) → (Rose (K.faults out.old) (K.faults out.new) → ⊥) → (Rose (K.zeros out.old) (K.zeros out.new) → ⊥)
         → (result ≡ Status.Done) ⊎ (result ≡ Status.NoMemory) }
     // Each script, over devices that do not fail, is checked to its end.
-    ensures complete_check { (b : List ℕ) (xs : List I) → Name words.now Command.Check → S.remaining input.old ≡ Some b → length b ≤ longest_input → IsScript b xs
+    ensures complete_check { (simul : Option (List ℕ)) (b : List ℕ) (xs : List I) → Name words.now (Command.Check simul) → S.remaining input.old ≡ Some b → length b ≤ longest_input → IsScript b xs
         → (Rose (S.faults input.old) (S.faults input.new) → ⊥) → (Rose (K.faults out.old) (K.faults out.new) → ⊥) → (Rose (K.zeros out.old) (K.zeros out.new) → ⊥)
         → (result ≡ Status.Done) ⊎ (result ≡ Status.NoMemory) }
 {
     one_spelling();
     match command_of(alloc, words) {
         Ok(Command::Replay) => replay(alloc, input, out),
-        Ok(Command::Check) => check(alloc, input, out),
+        Ok(Command::Check { simul }) => check(alloc, text_of(&simul), input, out),
         Err(WordsFault::BadWords) => Status::BadWords,
         Err(WordsFault::NoMemory) => Status::NoMemory,
     }

@@ -1,20 +1,31 @@
 //! The words of the command line.
-ghost use Rattle.std.specs.Prelude.{◌≡◌, true, false, None, Some, Err, IfOk, map, string_bytes};
+ghost use Rattle.std.specs.Prelude.{◌≡◌, true, false, Err, IfOk, map, string_bytes};
 ghost use Rattle.std.specs.List.{list_all};
-ghost use Rattle.lp_top.specs.Words.{command_in, command_named as named, is_free_word, command_name, fault_in_line};
+ghost use Rattle.std.specs.Option.{option_copied};
+ghost use Rattle.clap.specs.Words.{HasMatchesOf, app_of, fault_of, is_simple_and_free};
+ghost use Rattle.lp_top.specs.Words.{check_with, command_in, command_named as named, has_some, is_free_word, is_value as may_be_value, line_of, taken_with, text_of};
 ghost use Rattle.lp_top.specs.declared.words.WordsFault.TheVariants as fault;
 
-use clap::Command as Line;
 use clap::error::ErrorKind;
+use clap::{Arg, ArgAction, ArgMatches, Command as Line};
+use lp_tree::path::FilePath;
 use std::alloc::{AllocError, Global};
 use thiserror::Error;
 
 /// What the program is asked to do.
-#[derive(Clone, Copy, Debug, PartialEq, Eq)]
+#[derive(Debug, Drop)]
 pub enum Command {
     /// Reads a script and writes its transcript.
     Replay,
-    /// Reads a script and tells what is wrong with its files.
+    /// Reads a script and tells what is wrong with its files. With `simul` they see the functions of
+    /// the file with this path as simul efuns.
+    Check { simul: Option<FilePath> },
+}
+
+/// The names of the commands.
+#[derive(Clone, Copy, Debug, PartialEq, Eq)]
+pub enum CommandName {
+    Replay,
     Check,
 }
 
@@ -28,15 +39,25 @@ pub enum WordsFault {
     NoMemory,
 }
 
+impl From<AllocError> for WordsFault {
+    ghost use Rattle.lp_top.specs.declared.words.WordsFault.TheVariants.{NoMemory};
+
+    ghost from_gives = { λ _ e. e ≡ NoMemory };
+
+    fn from(_fault: AllocError) -> WordsFault {
+        WordsFault::NoMemory
+    }
+}
+
 // The command that a word names. Takes no memory.
-fn command_named(word: &str) -> Option<Command>
+fn command_named(word: &str) -> Option<CommandName>
     ensures { result ≡ named word.now }
 {
     if word == "replay" {
-        return Some(Command::Replay);
+        return Some(CommandName::Replay);
     }
     if word == "check" {
-        return Some(Command::Check);
+        return Some(CommandName::Check);
     }
     None
 }
@@ -55,28 +76,84 @@ fn may_all_stand(words: &[String]) -> bool
     words.iter().all(|word| may_stand(word.as_str()))
 }
 
-// The name of a command.
-fn name_of(command: Command) -> &'static str
-    ensures { result.now ≡ command_name command }
+// The text of a command's name.
+fn name_of<'a>(name: CommandName) -> &'a str
+    ensures { result.now ≡ text_of name }
 {
-    match command {
-        Command::Replay => "replay",
-        Command::Check => "check",
+    match name {
+        CommandName::Replay => "replay",
+        CommandName::Check => "check",
     }
 }
 
-// Whether clap takes the words of a command, of which the first is its name.
-fn taken(alloc: Global, command: Command, words: &[String]) -> Result<(), WordsFault>
-    ensures taken { IfOk result (λ _. fault_in_line command (map string_bytes words.now) ≡ false) }
-    ensures refused { result ≡ Err fault.BadWords → fault_in_line command (map string_bytes words.now) ≡ true }
+// The words of a command as clap has them.
+fn line<'a>(alloc: Global, name: CommandName) -> Result<Line<'a>, AllocError>
+    ensures { IfOk result (λ l. app_of l ≡ line_of name) }
 {
-    let name = name_of(command);
-    match Line::new(alloc, name).try_get_matches_from(words) {
-        Ok(_matches) => Ok(()),
+    let line = Line::new(alloc, name_of(name));
+    match name {
+        CommandName::Replay => Ok(line),
+        CommandName::Check => {
+            let simul = Arg::new(alloc, "simul")
+                .long("simul")
+                .action(ArgAction::Set);
+            line.arg(simul)
+        }
+    }
+}
+
+// What clap reads in the words of a command, of which the first is its name.
+fn matched<'a>(line: Line<'a>, words: &'a [String]) -> Result<ArgMatches<'a>, WordsFault>
+    requires { is_simple_and_free (app_of line) ≡ true }
+    ensures taken { IfOk result (λ m. has_some (fault_of (app_of line.entry) (map string_bytes words.now)) ≡ false) }
+    ensures matches { IfOk result (HasMatchesOf (app_of line.entry) (map string_bytes words.now)) }
+    ensures refused { result ≡ Err fault.BadWords → has_some (fault_of (app_of line.entry) (map string_bytes words.now)) ≡ true }
+{
+    match line.try_get_matches_from(words) {
+        Ok(matches) => Ok(matches),
         Err(error) => match error.kind() {
             ErrorKind::OutOfMemory => Err(WordsFault::NoMemory),
             _ => Err(WordsFault::BadWords),
         },
+    }
+}
+
+// Whether a text may be the value of an option. Takes no memory.
+fn is_value(text: &str) -> bool
+    ensures { result ≡ may_be_value text.now }
+{
+    match text.as_bytes().first() {
+        Some(byte) => *byte != b'-',
+        None => false,
+    }
+}
+
+// A check with the value of `--simul`.
+fn check_of(alloc: Global, simul: Option<&str>) -> Result<Command, WordsFault>
+    ensures named { IfOk result (λ c. check_with (option_copied simul.entry) ≡ Some c) }
+    ensures refused { result ≡ Err fault.BadWords → check_with (option_copied simul.entry) ≡ None }
+{
+    match simul {
+        None => Ok(Command::Check { simul: None }),
+        Some(path) => {
+            if !is_value(path) {
+                return Err(WordsFault::BadWords);
+            }
+            let path = FilePath::from_str(alloc, path)?;
+            Ok(Command::Check { simul: Some(path) })
+        }
+    }
+}
+
+// The command of this name, with its values in the words, of which the first is the name.
+fn command_with(alloc: Global, name: CommandName, words: &[String]) -> Result<Command, WordsFault>
+    ensures named { IfOk result (λ c. taken_with name (map string_bytes words.now) ≡ Some c) }
+    ensures refused { result ≡ Err fault.BadWords → taken_with name (map string_bytes words.now) ≡ None }
+{
+    let matches = matched(line(alloc, name)?, words)?;
+    match name {
+        CommandName::Replay => Ok(Command::Replay),
+        CommandName::Check => check_of(alloc, matches.get_str("simul")),
     }
 }
 
@@ -91,13 +168,12 @@ pub fn command_of(alloc: Global, words: &[String]) -> Result<Command, WordsFault
         Some(word) => word,
         None => return Err(WordsFault::BadWords),
     };
-    let command = match command_named(word.as_str()) {
-        Some(command) => command,
+    let name = match command_named(word.as_str()) {
+        Some(name) => name,
         None => return Err(WordsFault::BadWords),
     };
     if !may_all_stand(words) {
         return Err(WordsFault::BadWords);
     }
-    taken(alloc, command, words)?;
-    Ok(command)
+    command_with(alloc, name, words)
 }

@@ -1,13 +1,13 @@
-use Rattle.std.proofs.Common.{◌≡◌, ◌∙◌, ◌<◌, ◌≤◌, ◌++◌, ◌∷◌, [], subst, sym, refl, ap, arith}
+use Rattle.std.proofs.Common.{◌∙◌, ◌<◌, ◌≤◌, ◌++◌, ◌∷◌, [], subst, sym, ap, arith}
 use Rattle.std.proofs.Math.Nat.{le_trans}
 use Rattle.std.specs.Prelude.{Ok}
 use Rattle.lp_events.specs.Script.{files_of, longest_input}
-use Rattle.lp_script.specs.Reader.{HasGiven, IsAfter}
+use Rattle.lp_script.specs.Reader.{IsAfter}
 use Rattle.lp_top.specs.Check.{EndsGathering}
 use Rattle.lp_top.proofs.Reading.{goes_on, cut_within, gone, says-of, taken-after, script_within, begins_with}
 use Rattle.lp_top.proofs.Filing.{end-is}
 use Rattle.lp_top.proofs.Going.{read-whole}
-use Rattle.lp_top.proofs.Checking.{ends_gathering, gathering_fresh, goes_after_item, files_same}
+use Rattle.lp_top.proofs.Checking.{ends_gathering, goes_after_item, files_same}
 use Rattle.lp_top.proofs.check.gather.Goals as goal
 
 pub returns-in-Err-clause-end : goal.returns-in-Err-clause-end

@@ -1,4 +1,4 @@
-use Rattle.std.proofs.Common.{refl, subst, sym, ap, ◌++◌, ◌∷◌, []}
+use Rattle.std.proofs.Common.{subst, sym, ap, ◌++◌, ◌∷◌, []}
 use Rattle.std.specs.Prelude.{OnOk}
 use Rattle.lp_events.specs.declared.item.Item.TheVariants.{File}
 use Rattle.lp_events.specs.Script.{files_of}

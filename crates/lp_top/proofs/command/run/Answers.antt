@@ -13,7 +13,7 @@ returns-in-Ok-Replay-clause-complete g c = λ b xs w words told short script yet
     completes c.one_spelling.ensures b r.read xs w c.replay.result short script yet starts (λ e. source (c.replay.ensures.input_cause e)) (λ e. either_not (c.replay.ensures.output_cause e) sink zeros) r.ends
 
 pub returns-in-Ok-Check-clause-complete_check : goal.returns-in-Ok-Check-clause-complete_check
-returns-in-Ok-Check-clause-complete_check g c = λ b xs words told short script source sink zeros.
+returns-in-Ok-Check-clause-complete_check g c = λ simul b xs words told short script source sink zeros.
     let r = c.check.ensures.checks b told in
     completes_check c.one_spelling.ensures b r.read xs c.check.result short script (λ e. source (c.check.ensures.input_cause e)) (λ e. either_not (c.check.ensures.output_cause e) sink zeros) r.ends
 
@@ -21,4 +21,4 @@ pub returns-in-Err-NoMemory-clause-replays : goal.returns-in-Err-NoMemory-clause
 returns-in-Err-NoMemory-clause-replays g c = λ named b told. replays_unread b _
 
 pub returns-in-Err-NoMemory-clause-checks : goal.returns-in-Err-NoMemory-clause-checks
-returns-in-Err-NoMemory-clause-checks g c = λ named b told. checks_unread b _
+returns-in-Err-NoMemory-clause-checks g c = λ simul named b told. checks_unread simul b _
