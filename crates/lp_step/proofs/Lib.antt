@@ -7,3 +7,8 @@ pub mod Indexed
 pub mod Operated
 pub mod Prefixed
 pub mod Counted
+pub mod Written
+pub mod Paired
+pub mod Spelled
+pub mod Ranged
+pub mod Brought

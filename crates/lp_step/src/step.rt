@@ -12,9 +12,13 @@ use crate::jumps::{
     catch_begin, catch_end, jump, jump_if_not_zero, jump_if_zero, keep_if_not_zero, keep_if_zero,
     loop_turn, returns, returns_zero,
 };
+use crate::literals::{make_array, make_map};
 use crate::next::Next;
 use crate::pushes::{again_one, again_two, drop_value, push_int, push_local, push_text, set_local};
+use crate::ranges::cut_range;
+use crate::rotation::rotate;
 use crate::unaries::unary_operator;
+use crate::writes::set_index;
 use lp_instr::instr::Instr;
 use lp_values::value::Value;
 use lp_world::frame::Frame;
@@ -68,6 +72,11 @@ pub fn step(
         Instr::Binary(op) => binary_operator(live, stack, frame, budget, op),
         Instr::Unary(op) => unary_operator(live, stack, frame, budget, op),
         Instr::Step(up) => step_operator(live, stack, frame, budget, up),
+        Instr::SetIndex(edge) => set_index(live, stack, frame, budget, edge),
+        Instr::MakeArray(n) => make_array(live, stack, frame, budget, n),
+        Instr::MakeMap(n) => make_map(live, stack, frame, budget, n),
+        Instr::Range(from, to) => cut_range(live, stack, frame, budget, from, to),
+        Instr::Rotate(n) => rotate(stack, frame, n),
         _ => unreachable!(),
     }
 }

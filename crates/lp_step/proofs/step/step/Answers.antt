@@ -6,7 +6,7 @@ use Rattle.lp_step.proofs.Dispatch.{carried, finds, keeps_alone, steps, steps_al
 use Rattle.lp_step.proofs.step.step.Goals as goal
 
 pub unreachable-requires : goal.unreachable-requires
-unreachable-requires c = carried c.args.live.now c.args.stack.now.items c.args.frame.now c.fetch.result (finds _ _ _ _ c.requires c.fetch.ensures) c.in_default.not-PushInt c.in_default.not-PushText c.in_default.not-PushLocal c.in_default.not-SetLocal c.in_default.not-Pop c.in_default.not-Dup c.in_default.not-Dup2 c.in_default.not-Jump c.in_default.not-JumpIfZero c.in_default.not-JumpIfNotZero c.in_default.not-KeepIfZero c.in_default.not-KeepIfNotZero c.in_default.not-LoopTurn c.in_default.not-CallSlot c.in_default.not-CallFixed c.in_default.not-CallOther c.in_default.not-CallEfun c.in_default.not-CallSimul c.in_default.not-CatchBegin c.in_default.not-CatchEnd c.in_default.not-Return c.in_default.not-ReturnZero c.in_default.not-PushGlobal c.in_default.not-SetGlobal c.in_default.not-Index c.in_default.not-Binary c.in_default.not-Unary c.in_default.not-Step
+unreachable-requires c = carried c.args.live.now c.args.stack.now.items c.args.frame.now c.fetch.result (finds _ _ _ _ c.requires c.fetch.ensures) c.in_default.not-PushInt c.in_default.not-PushText c.in_default.not-PushLocal c.in_default.not-SetLocal c.in_default.not-Pop c.in_default.not-Dup c.in_default.not-Dup2 c.in_default.not-Jump c.in_default.not-JumpIfZero c.in_default.not-JumpIfNotZero c.in_default.not-KeepIfZero c.in_default.not-KeepIfNotZero c.in_default.not-LoopTurn c.in_default.not-CallSlot c.in_default.not-CallFixed c.in_default.not-CallOther c.in_default.not-CallEfun c.in_default.not-CallSimul c.in_default.not-CatchBegin c.in_default.not-CatchEnd c.in_default.not-Return c.in_default.not-ReturnZero c.in_default.not-PushGlobal c.in_default.not-SetGlobal c.in_default.not-Index c.in_default.not-Binary c.in_default.not-Unary c.in_default.not-Step c.in_default.not-SetIndex c.in_default.not-MakeArray c.in_default.not-MakeMap c.in_default.not-Range c.in_default.not-Rotate
 
 pub returns-in-PushInt : goal.returns-in-PushInt
 returns-in-PushInt c =
@@ -176,4 +176,34 @@ pub returns-in-Step : goal.returns-in-Step
 returns-in-Step c = record {
   table = steps_ok (variants.Step c.in-Step.up) c.args.live.now c.args.live.now _ _ _ _ c.args.budget.now _ c.step_operator.result c.in-Step.ensures c.step_operator.ensures.table;
   keeps = c.step_operator.ensures.keeps;
+}
+
+pub returns-in-SetIndex : goal.returns-in-SetIndex
+returns-in-SetIndex c = record {
+  table = steps_ok (variants.SetIndex c.in-SetIndex.edge) c.args.live.now _ _ _ _ _ c.args.budget.now _ c.set_index.result c.in-SetIndex.ensures c.set_index.ensures.table;
+  keeps = c.set_index.ensures.keeps;
+}
+
+pub returns-in-MakeArray : goal.returns-in-MakeArray
+returns-in-MakeArray c = record {
+  table = steps_ok (variants.MakeArray c.in-MakeArray.n) c.args.live.now _ _ _ _ _ c.args.budget.now _ c.make_array.result c.in-MakeArray.ensures c.make_array.ensures.table;
+  keeps = c.make_array.ensures.keeps;
+}
+
+pub returns-in-MakeMap : goal.returns-in-MakeMap
+returns-in-MakeMap c = record {
+  table = steps_ok (variants.MakeMap c.in-MakeMap.n) c.args.live.now _ _ _ _ _ c.args.budget.now _ c.make_map.result c.in-MakeMap.ensures c.make_map.ensures.table;
+  keeps = c.make_map.ensures.keeps;
+}
+
+pub returns-in-Range : goal.returns-in-Range
+returns-in-Range c = record {
+  table = steps_ok (variants.Range c.in-Range.from c.in-Range.to) c.args.live.now _ _ _ _ _ c.args.budget.now _ c.cut_range.result c.in-Range.ensures c.cut_range.ensures.table;
+  keeps = c.cut_range.ensures.keeps;
+}
+
+pub returns-in-Rotate : goal.returns-in-Rotate
+returns-in-Rotate c = record {
+  table = steps_alone (variants.Rotate c.in-Rotate.n) c.args.live.now _ _ _ _ c.args.budget.now c.rotate.result c.in-Rotate.ensures c.rotate.ensures.table;
+  keeps = keeps_alone c.args.live.now _ _ c.rotate.result c.rotate.ensures.keeps;
 }
