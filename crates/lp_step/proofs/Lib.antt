@@ -7,3 +7,7 @@ pub mod Indexed
 pub mod Operated
 pub mod Prefixed
 pub mod Counted
+pub mod Switched
+pub mod Begun
+pub mod Turned
+pub mod Scanned

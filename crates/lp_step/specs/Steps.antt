@@ -9,6 +9,7 @@ use Rattle.lp_instr.specs.Code.{parent_row}
 use Rattle.lp_instr.specs.Sound.{Bounds, IsNamed}
 use Rattle.lp_language.specs.Course.{Gives, Internal, Parent, OfEfun, Failed, Spent, here}
 use Rattle.lp_language.specs.Eval.{simul_object}
+use Rattle.lp_instr.specs.declared.instr.Instr.TheVariants.{EachBegin, EachNext, Scan, Switch}
 use Rattle.lp_isa.specs.Machine.{Moment, Next, Goes, Ended, Awaits, Wrong, act, awaits, on_some, on_two, step, stopped, take_arguments}
 use Rattle.lp_values.specs.declared.value.Value.TheVariants as values
 use Rattle.lp_world.specs.declared.frame.Frame.{Frame}
@@ -64,6 +65,10 @@ Finds live stack frame (CatchBegin to) = length stack < 2 ^ 32
 Finds live stack frame CatchEnd = 1 ≤ length frame.catches.items
 Finds live stack frame Return = 1 ≤ length stack
 Finds live stack frame ReturnZero = ⊤
+Finds live stack frame (Switch k) = (1 ≤ length stack) × (k < length frame.code.switches)
+Finds live stack frame (Scan n) = 2 ≤ length stack
+Finds live stack frame (EachBegin n) = 1 ≤ length stack
+Finds live stack frame (EachNext to n) = 2 ≤ length stack
 Finds live stack frame (PushGlobal k) = HasPlace (variables_at live.objects frame.this) (frame.base + k)
 Finds live stack frame (SetGlobal k) = HasPlace (variables_at live.objects frame.this) (frame.base + k) × (1 ≤ length stack)
 Finds live stack frame (Index edge) = 2 ≤ length stack

@@ -4,6 +4,7 @@ ghost use Rattle.lp_step.specs.Steps.{CanStep, Keeps, Steps, instr_at};
 
 use crate::binaries::binary_operator;
 use crate::calls::{call_efun, call_fixed, call_other, call_simul, call_slot};
+use crate::copies::each_begin;
 use crate::counting::step_operator;
 use crate::fault::StepFault;
 use crate::globals::{push_global, set_global};
@@ -14,6 +15,9 @@ use crate::jumps::{
 };
 use crate::next::Next;
 use crate::pushes::{again_one, again_two, drop_value, push_int, push_local, push_text, set_local};
+use crate::scans::scan_operator;
+use crate::switches::switch_on;
+use crate::turns::each_next;
 use crate::unaries::unary_operator;
 use lp_instr::instr::Instr;
 use lp_values::value::Value;
@@ -62,6 +66,10 @@ pub fn step(
         Instr::CatchEnd => Ok(catch_end(stack, frame)),
         Instr::Return => Ok(returns(stack, frame)),
         Instr::ReturnZero => Ok(returns_zero(stack, frame)),
+        Instr::Switch(k) => Ok(switch_on(live, stack, frame, k)),
+        Instr::Scan(n) => scan_operator(live, stack, frame, budget, n),
+        Instr::EachBegin(_) => each_begin(live, stack, frame),
+        Instr::EachNext(to, n) => each_next(live, stack, frame, to, n),
         Instr::PushGlobal(k) => push_global(live, stack, frame, k),
         Instr::SetGlobal(k) => set_global(live, stack, frame, k),
         Instr::Index(edge) => at_index(live, stack, frame, budget, edge),

@@ -6,7 +6,7 @@ use Rattle.lp_step.proofs.Dispatch.{carried, finds, keeps_alone, steps, steps_al
 use Rattle.lp_step.proofs.step.step.Goals as goal
 
 pub unreachable-requires : goal.unreachable-requires
-unreachable-requires c = carried c.args.live.now c.args.stack.now.items c.args.frame.now c.fetch.result (finds _ _ _ _ c.requires c.fetch.ensures) c.in_default.not-PushInt c.in_default.not-PushText c.in_default.not-PushLocal c.in_default.not-SetLocal c.in_default.not-Pop c.in_default.not-Dup c.in_default.not-Dup2 c.in_default.not-Jump c.in_default.not-JumpIfZero c.in_default.not-JumpIfNotZero c.in_default.not-KeepIfZero c.in_default.not-KeepIfNotZero c.in_default.not-LoopTurn c.in_default.not-CallSlot c.in_default.not-CallFixed c.in_default.not-CallOther c.in_default.not-CallEfun c.in_default.not-CallSimul c.in_default.not-CatchBegin c.in_default.not-CatchEnd c.in_default.not-Return c.in_default.not-ReturnZero c.in_default.not-PushGlobal c.in_default.not-SetGlobal c.in_default.not-Index c.in_default.not-Binary c.in_default.not-Unary c.in_default.not-Step
+unreachable-requires c = carried c.args.live.now c.args.stack.now.items c.args.frame.now c.fetch.result (finds _ _ _ _ c.requires c.fetch.ensures) c.in_default.not-PushInt c.in_default.not-PushText c.in_default.not-PushLocal c.in_default.not-SetLocal c.in_default.not-Pop c.in_default.not-Dup c.in_default.not-Dup2 c.in_default.not-Jump c.in_default.not-JumpIfZero c.in_default.not-JumpIfNotZero c.in_default.not-KeepIfZero c.in_default.not-KeepIfNotZero c.in_default.not-LoopTurn c.in_default.not-CallSlot c.in_default.not-CallFixed c.in_default.not-CallOther c.in_default.not-CallEfun c.in_default.not-CallSimul c.in_default.not-CatchBegin c.in_default.not-CatchEnd c.in_default.not-Return c.in_default.not-ReturnZero c.in_default.not-PushGlobal c.in_default.not-SetGlobal c.in_default.not-Index c.in_default.not-Binary c.in_default.not-Unary c.in_default.not-Step c.in_default.not-Switch c.in_default.not-Scan c.in_default.not-EachBegin c.in_default.not-EachNext
 
 pub returns-in-PushInt : goal.returns-in-PushInt
 returns-in-PushInt c =
@@ -176,4 +176,28 @@ pub returns-in-Step : goal.returns-in-Step
 returns-in-Step c = record {
   table = steps_ok (variants.Step c.in-Step.up) c.args.live.now c.args.live.now _ _ _ _ c.args.budget.now _ c.step_operator.result c.in-Step.ensures c.step_operator.ensures.table;
   keeps = c.step_operator.ensures.keeps;
+}
+
+pub returns-in-Switch : goal.returns-in-Switch
+returns-in-Switch c = record {
+  table = steps (variants.Switch c.in-Switch.k) c.args.live.now c.args.live.now _ _ _ _ c.args.budget.now c.args.budget.now c.switch_on.result c.in-Switch.ensures (c.switch_on.ensures.table c.args.budget.now);
+  keeps = c.switch_on.ensures.keeps;
+}
+
+pub returns-in-Scan : goal.returns-in-Scan
+returns-in-Scan c = record {
+  table = steps_ok (variants.Scan c.in-Scan.n) c.args.live.now c.args.live.now _ _ _ _ c.args.budget.now _ c.scan_operator.result c.in-Scan.ensures c.scan_operator.ensures.table;
+  keeps = c.scan_operator.ensures.keeps;
+}
+
+pub returns-in-EachBegin : goal.returns-in-EachBegin
+returns-in-EachBegin c = record {
+  table = steps_free (variants.EachBegin _) c.args.live.now _ _ _ _ _ c.args.budget.now c.each_begin.result c.in-EachBegin.ensures (c.each_begin.ensures.table _);
+  keeps = c.each_begin.ensures.keeps;
+}
+
+pub returns-in-EachNext : goal.returns-in-EachNext
+returns-in-EachNext c = record {
+  table = steps_free (variants.EachNext c.in-EachNext.to c.in-EachNext.n) c.args.live.now c.args.live.now _ _ _ _ c.args.budget.now c.each_next.result c.in-EachNext.ensures c.each_next.ensures.table;
+  keeps = c.each_next.ensures.keeps;
 }
