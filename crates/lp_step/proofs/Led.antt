@@ -33,12 +33,12 @@ pub data Left (stack : List Value) (at : ℕ) : Worked → Led → List Value �
   spent : Left stack at worked.Spent nexts.Spent stack at
 
 -- by the kinds of what it came to
-abbrev IsLeft : List Value → ℕ → Worked → Led → List Value → ℕ → Type 0
+abbrev pub IsLeft : List Value → ℕ → Worked → Led → List Value → ℕ → Type 0
 IsLeft stack at (worked.Value v) n s p = (n ≡ nexts.Again) × (s ≡ stack ++ v ∷ []) × (p ≡ at + 1)
 IsLeft stack at (worked.Error e) n s p = (n ≡ nexts.Error e) × (s ≡ stack) × (p ≡ at)
 IsLeft stack at worked.Spent n s p = (n ≡ nexts.Spent) × (s ≡ stack) × (p ≡ at)
 
-is_left : (stack : List Value) (at : ℕ) (d : Worked) (n : Led) (s : List Value) (p : ℕ) → Left stack at d n s p → IsLeft stack at d n s p
+pub is_left : (stack : List Value) (at : ℕ) (d : Worked) (n : Led) (s : List Value) (p : ℕ) → Left stack at d n s p → IsLeft stack at d n s p
 is_left stack at _ _ _ _ (value e) = (refl, e, refl)
 is_left stack at _ _ _ _ error = (refl, refl, refl)
 is_left stack at _ _ _ _ spent = (refl, refl, refl)

@@ -11,3 +11,8 @@ pub mod Switched
 pub mod Begun
 pub mod Turned
 pub mod Scanned
+pub mod Written
+pub mod Paired
+pub mod Spelled
+pub mod Ranged
+pub mod Brought

@@ -1,19 +1,21 @@
 -- What one instruction does: what the table says, in every world for which the state stands.
-use Rattle.std.specs.Prelude.{◌≡◌, ℕ, ◌+◌, ◌-◌, ◌<◌, ◌≤◌, ◌^◌, List, [], ◌∷◌, Bool, true, false, ⊤, All, Option, Some, length, slice_get, nat_lt}
+use Rattle.std.specs.Prelude.{◌≡◌, ℕ, ◌+◌, ◌++◌, ◌*◌, ◌-◌, ◌<◌, ◌≤◌, ◌^◌, List, [], ◌∷◌, Bool, true, false, ⊤, All, Option, Some, length, slice_get, nat_lt}
+use Rattle.std.specs.List.{remove}
+use Rattle.lp_values.specs.declared.id.ObjId.{ObjId}
 use Rattle.lp_values.specs.declared.value.Value.{Value}
 use Rattle.lp_cells.specs.Cells.{IsThere}
 use Rattle.lp_instr.specs.declared.efun.Efun.TheVariants as efun
 use Rattle.lp_instr.specs.declared.instr.Instr.{Instr}
-use Rattle.lp_instr.specs.declared.instr.Instr.TheVariants.{PushInt, PushText, PushLocal, SetLocal, Pop, Dup, Dup2, Jump, JumpIfZero, JumpIfNotZero, KeepIfZero, KeepIfNotZero, Index, PushGlobal, SetGlobal, Binary, Unary, Step, LoopTurn, CallSlot, CallFixed, CallOther, CallEfun, CallSimul, CatchBegin, CatchEnd, Return, ReturnZero}
+use Rattle.lp_instr.specs.declared.instr.Instr.TheVariants.{PushInt, PushText, PushLocal, SetLocal, Pop, Dup, Dup2, Jump, JumpIfZero, JumpIfNotZero, KeepIfZero, KeepIfNotZero, Index, SetIndex, Range, Rotate, MakeArray, MakeMap, PushGlobal, SetGlobal, Binary, Unary, Step, LoopTurn, CallSlot, CallFixed, CallOther, CallEfun, CallSimul, CatchBegin, CatchEnd, Switch, Scan, EachBegin, EachNext, Return, ReturnZero}
 use Rattle.lp_instr.specs.Code.{parent_row}
-use Rattle.lp_instr.specs.Sound.{Bounds, IsNamed}
+use Rattle.lp_instr.specs.Sound.{Bounds, IsNamed, end_count}
 use Rattle.lp_language.specs.Course.{Gives, Internal, Parent, OfEfun, Failed, Spent, here}
 use Rattle.lp_language.specs.Eval.{simul_object}
-use Rattle.lp_instr.specs.declared.instr.Instr.TheVariants.{EachBegin, EachNext, Scan, Switch}
 use Rattle.lp_isa.specs.Machine.{Moment, Next, Goes, Ended, Awaits, Wrong, act, awaits, on_some, on_two, step, stopped, take_arguments}
 use Rattle.lp_values.specs.declared.value.Value.TheVariants as values
 use Rattle.lp_world.specs.declared.frame.Frame.{Frame}
 use Rattle.lp_world.specs.declared.live.Live.{Live}
+use Rattle.lp_world.specs.declared.objects.Object.{Object}
 use Rattle.lp_world.specs.Closed.{IsClosed}
 use Rattle.lp_world.specs.Rows.{HasPlace, variables_at}
 use Rattle.lp_world.specs.Matches.{Around, Matches}
@@ -31,6 +33,10 @@ PaysBy false n old paid new = (paid ≡ true) × (new ≡ old - n)
 
 abbrev pub Pays : ℕ → ℕ → Bool → ℕ → Type 0
 Pays n old paid new = PaysBy (nat_lt old n) n old paid new
+
+-- the n-th value from the top comes to the top
+abbrev pub Brings : ℕ → List Value → List Value → Type 0
+Brings n old new = (v : Value) × (slice_get old (length old - n) ≡ Some v) × (new ≡ remove old (length old - n) ++ v ∷ [])
 
 -- the instruction that comes next
 abbrev pub instr_at : Frame → Option Instr
@@ -75,8 +81,11 @@ Finds live stack frame (Index edge) = 2 ≤ length stack
 Finds live stack frame (Binary op) = 2 ≤ length stack
 Finds live stack frame (Unary op) = 1 ≤ length stack
 Finds live stack frame (Step op) = 1 ≤ length stack
--- all others are not carried out yet
-Finds live stack frame _ = ⊥
+Finds live stack frame (SetIndex edge) = 3 ≤ length stack
+Finds live stack frame (MakeArray n) = n ≤ length stack
+Finds live stack frame (MakeMap n) = 2 * n ≤ length stack
+Finds live stack frame (Range from to) = 1 + end_count from + end_count to ≤ length stack
+Finds live stack frame (Rotate n) = (1 ≤ n) × (n ≤ length stack)
 
 -- There is an instruction, which finds what it needs, and the place behind it has a number.
 pub record CanStep (live : Live) (stack : List Value) (frame : Frame) : Type 0 where
@@ -98,6 +107,10 @@ IsEndThere live nexts.Spent = ⊤
 -- The state stays closed, and what the values on the stack name stays there.
 abbrev pub Keeps : Live → List Value → Led → Live → List Value → Type 0
 Keeps live0 stack0 n live1 stack1 = IsFit live0 stack0 → IsFit live1 stack1 × IsEndThere live1 n
+
+-- Each object that is in memory stays there, with as many variables.
+abbrev pub KeepsVariables : List (Option Object) → List (Option Object) → Type 0
+KeepsVariables old new = (o : ObjId) (vs : List Value) → variables_at old o ≡ Some vs → (us : List Value) × (variables_at new o ≡ Some us) × (length us ≡ length vs)
 
 -- Worlds
 

@@ -105,6 +105,7 @@ pub fn each_begin(
     requires closed { IsClosed live.old.cells }
     ensures table { (variables : _) → IfOk result (λ n. (budget : _) → Performs (Instr.EachBegin variables) live.old stack.old.items frame.old budget n live.new stack.new.items frame.new budget) }
     ensures keeps { IfOk result (λ n. Keeps live.old stack.old.items n live.new stack.new.items) }
+    ensures home { live.new.objects ≡ live.old.objects }
 {
     match copy_top(live.alloc, stack, &mut live.cells, &live.objects) {
         Ok(copy) => {

@@ -23,7 +23,7 @@ use lp_world::objects::ObjectTable;
 use std::alloc::Global;
 
 /// Whether an index counts from behind.
-fn is_back(edge: Edge) -> bool
+pub fn is_back(edge: Edge) -> bool
     ensures { result ≡ is_back edge }
 {
     match edge {

@@ -1,6 +1,6 @@
 //! One instruction.
 ghost use Rattle.std.specs.Prelude.{◌≡◌, ◌<◌, IfOk, IsSome, Some};
-ghost use Rattle.lp_step.specs.Steps.{CanStep, Keeps, Steps, instr_at};
+ghost use Rattle.lp_step.specs.Steps.{CanStep, Keeps, KeepsVariables, Steps, instr_at};
 
 use crate::binaries::binary_operator;
 use crate::calls::{call_efun, call_fixed, call_other, call_simul, call_slot};
@@ -13,12 +13,16 @@ use crate::jumps::{
     catch_begin, catch_end, jump, jump_if_not_zero, jump_if_zero, keep_if_not_zero, keep_if_zero,
     loop_turn, returns, returns_zero,
 };
+use crate::literals::{make_array, make_map};
 use crate::next::Next;
 use crate::pushes::{again_one, again_two, drop_value, push_int, push_local, push_text, set_local};
+use crate::ranges::cut_range;
+use crate::rotation::rotate;
 use crate::scans::scan_operator;
 use crate::switches::switch_on;
 use crate::turns::each_next;
 use crate::unaries::unary_operator;
+use crate::writes::set_index;
 use lp_instr::instr::Instr;
 use lp_values::value::Value;
 use lp_world::frame::Frame;
@@ -42,6 +46,7 @@ pub fn step(
     requires { CanStep live.old stack.old.items frame.old }
     ensures table { IfOk result (λ n. Steps live.old stack.old.items frame.old budget.old n live.new stack.new.items frame.new budget.new) }
     ensures keeps { IfOk result (λ n. Keeps live.old stack.old.items n live.new stack.new.items) }
+    ensures home { IfOk result (λ n. KeepsVariables live.old.objects live.new.objects) }
 {
     match fetch(frame) {
         Instr::PushInt(z) => push_int(stack, frame, z),
@@ -76,6 +81,10 @@ pub fn step(
         Instr::Binary(op) => binary_operator(live, stack, frame, budget, op),
         Instr::Unary(op) => unary_operator(live, stack, frame, budget, op),
         Instr::Step(up) => step_operator(live, stack, frame, budget, up),
-        _ => unreachable!(),
+        Instr::SetIndex(edge) => set_index(live, stack, frame, budget, edge),
+        Instr::MakeArray(n) => make_array(live, stack, frame, budget, n),
+        Instr::MakeMap(n) => make_map(live, stack, frame, budget, n),
+        Instr::Range(from, to) => cut_range(live, stack, frame, budget, from, to),
+        Instr::Rotate(n) => rotate(stack, frame, n),
     }
 }

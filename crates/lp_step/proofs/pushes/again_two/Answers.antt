@@ -1,4 +1,4 @@
-use Rattle.std.proofs.Common.{ap, ◌∙◌, ◌+◌, ◌++◌, ◌∷◌, [], ◌≡◌, rules, length}
+use Rattle.std.proofs.Common.{ap, ◌∙◌, ◌++◌, ◌∷◌, [], ◌≡◌, rules, length}
 use Rattle.lp_step.proofs.Moves.{two_again}
 use Rattle.lp_step.proofs.Fits.{pushed_fit, got_there}
 use Rattle.lp_step.proofs.pushes.again_two.Goals as goal
