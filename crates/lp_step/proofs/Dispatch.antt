@@ -1,23 +1,17 @@
 -- From an instruction to the step.
-use Rattle.std.proofs.Common.{◌≡◌, ◌∙◌, ℕ, ℤ, List, Some, Result, Ok, Err, refl, ap, sym, subst, slice_get, unwrap_or}
+use Rattle.std.proofs.Common.{◌≡◌, ◌∙◌, ℕ, List, Option, Some, Result, Ok, Err, refl, ap, sym, subst, slice_get}
 use Rattle.std.specs.Prelude.{IfOk}
 use Rattle.lp_values.specs.declared.value.Value.{Value}
-use Rattle.lp_instr.specs.declared.efun.Efun.{Efun}
-use Rattle.lp_tree.specs.declared.expr.Edge.{Edge}
-use Rattle.lp_tree.specs.declared.operator.BinOp.{BinOp}
-use Rattle.lp_tree.specs.declared.operator.Step.{Step as StepOp}
-use Rattle.lp_tree.specs.declared.operator.UnOp.{UnOp}
-use Rattle.lp_instr.specs.declared.instr.EndKind.{EndKind}
 use Rattle.lp_instr.specs.declared.instr.Instr.{Instr}
-use Rattle.lp_instr.specs.declared.instr.Instr.TheVariants.{PushInt, PushText, PushLocal, SetLocal, Pop, Dup, Dup2, Jump, JumpIfZero, JumpIfNotZero, KeepIfZero, KeepIfNotZero, LoopTurn, CallSlot, CallFixed, CallOther, CallEfun, CallSimul, CatchBegin, CatchEnd, Return, ReturnZero, PushGlobal, SetGlobal, Index, Binary, Unary, Step, SetIndex, MakeArray, MakeMap, Range, Rotate}
 use Rattle.lp_isa.specs.Machine.{Moment, Goes, act_at, step}
 use Rattle.lp_world.specs.declared.frame.Frame.{Frame}
 use Rattle.lp_world.specs.declared.live.Live.{Live}
+use Rattle.lp_world.specs.declared.objects.Object.{Object}
 use Rattle.lp_world.specs.Matches.{Around, Matches}
 use Rattle.lp_step.specs.declared.fault.StepFault.{StepFault}
 use Rattle.lp_step.specs.declared.next.Next.{Next as Led}
 use Rattle.lp_step.specs.declared.next.Next.TheVariants as nexts
-use Rattle.lp_step.specs.Steps.{AreNamed, CanStep, Finds, IsFine, Keeps, LeadsTo, Performs, Steps, instr_at}
+use Rattle.lp_step.specs.Steps.{AreNamed, IsFine, Keeps, KeepsVariables, LeadsTo, Performs, Steps, instr_at}
 
 -- the instruction of the frame is that of the code
 pub instr_same : (a : Around) (live : Live) (stack : List Value) (frame : Frame) (budget : ℕ) (m : Moment) (i : Instr) → Matches a live stack frame budget m → instr_at frame ≡ Some i → slice_get a.code.instrs m.place ≡ Some i
@@ -30,10 +24,6 @@ steps i live0 live1 stack0 stack1 frame0 frame1 budget0 budget1 n e p = λ a m h
     let q = instr_same a live0 stack0 frame0 budget0 m i h e in
     subst (λ o. LeadsTo a n live1 stack1 frame1 budget1 (act_at a.code a.scene o m)) (sym q)
     (p a m h (subst (λ o. IsFine (act_at a.code a.scene o m)) q fine) (named i q))
-
--- what the instruction needs is there
-pub finds : (live : Live) (stack : List Value) (frame : Frame) (i : Instr) → CanStep live stack frame → instr_at frame ≡ Some i → Finds live stack frame i
-finds live stack frame i h e = subst (Finds live stack frame) (ap (λ o. unwrap_or o i) (sym h.found ∙ e)) h.finds
 
 -- an instruction that may run out of memory
 pub steps_ok : (i : Instr) (live0 live1 : Live) (stack0 stack1 : List Value) (frame0 frame1 : Frame) (budget0 budget1 : ℕ) (r : Result Led StepFault) → instr_at frame0 ≡ Some i
@@ -66,73 +56,15 @@ two_steps live0 live1 live2 stack0 stack1 stack2 frame0 frame1 frame2 budget0 bu
     let l = p a m h fine named in
     (l.m, l.told, λ f k. q a l.m l.matches f k)
 
--- only the instructions that are carried out find what they need
-pub carried : (live : Live) (stack : List Value) (frame : Frame) (i : Instr) → Finds live stack frame i
-    → ((z : ℤ) → i ≡ PushInt z → ⊥)
-    → ((k : ℕ) → i ≡ PushText k → ⊥)
-    → ((k : ℕ) → i ≡ PushLocal k → ⊥)
-    → ((k : ℕ) → i ≡ SetLocal k → ⊥)
-    → (i ≡ Pop → ⊥)
-    → (i ≡ Dup → ⊥)
-    → (i ≡ Dup2 → ⊥)
-    → ((t : ℕ) → i ≡ Jump t → ⊥)
-    → ((t : ℕ) → i ≡ JumpIfZero t → ⊥)
-    → ((t : ℕ) → i ≡ JumpIfNotZero t → ⊥)
-    → ((t : ℕ) → i ≡ KeepIfZero t → ⊥)
-    → ((t : ℕ) → i ≡ KeepIfNotZero t → ⊥)
-    → (i ≡ LoopTurn → ⊥)
-    → ((k n : ℕ) → i ≡ CallSlot k n → ⊥)
-    → ((q j n : ℕ) → i ≡ CallFixed q j n → ⊥)
-    → ((n : ℕ) → i ≡ CallOther n → ⊥)
-    → ((e : Efun) (n : ℕ) → i ≡ CallEfun e n → ⊥)
-    → ((k n : ℕ) → i ≡ CallSimul k n → ⊥)
-    → ((t : ℕ) → i ≡ CatchBegin t → ⊥)
-    → (i ≡ CatchEnd → ⊥)
-    → (i ≡ Return → ⊥)
-    → (i ≡ ReturnZero → ⊥)
-    → ((k : ℕ) → i ≡ PushGlobal k → ⊥)
-    → ((k : ℕ) → i ≡ SetGlobal k → ⊥)
-    → ((e : Edge) → i ≡ Index e → ⊥)
-    → ((op : BinOp) → i ≡ Binary op → ⊥)
-    → ((op : UnOp) → i ≡ Unary op → ⊥)
-    → ((op : StepOp) → i ≡ Step op → ⊥)
-    → ((e : Edge) → i ≡ SetIndex e → ⊥)
-    → ((k : ℕ) → i ≡ MakeArray k → ⊥)
-    → ((k : ℕ) → i ≡ MakeMap k → ⊥)
-    → ((x y : EndKind) → i ≡ Range x y → ⊥)
-    → ((k : ℕ) → i ≡ Rotate k → ⊥)
-    → ⊥
-carried live stack frame (PushInt z) r n0 n1 n2 n3 n4 n5 n6 n7 n8 n9 n10 n11 n12 n13 n14 n15 n16 n17 n18 n19 n20 n21 n22 n23 n24 n25 n26 n27 n28 n29 n30 n31 n32 = n0 z refl
-carried live stack frame (PushText k) r n0 n1 n2 n3 n4 n5 n6 n7 n8 n9 n10 n11 n12 n13 n14 n15 n16 n17 n18 n19 n20 n21 n22 n23 n24 n25 n26 n27 n28 n29 n30 n31 n32 = n1 k refl
-carried live stack frame (PushLocal k) r n0 n1 n2 n3 n4 n5 n6 n7 n8 n9 n10 n11 n12 n13 n14 n15 n16 n17 n18 n19 n20 n21 n22 n23 n24 n25 n26 n27 n28 n29 n30 n31 n32 = n2 k refl
-carried live stack frame (SetLocal k) r n0 n1 n2 n3 n4 n5 n6 n7 n8 n9 n10 n11 n12 n13 n14 n15 n16 n17 n18 n19 n20 n21 n22 n23 n24 n25 n26 n27 n28 n29 n30 n31 n32 = n3 k refl
-carried live stack frame Pop r n0 n1 n2 n3 n4 n5 n6 n7 n8 n9 n10 n11 n12 n13 n14 n15 n16 n17 n18 n19 n20 n21 n22 n23 n24 n25 n26 n27 n28 n29 n30 n31 n32 = n4 refl
-carried live stack frame Dup r n0 n1 n2 n3 n4 n5 n6 n7 n8 n9 n10 n11 n12 n13 n14 n15 n16 n17 n18 n19 n20 n21 n22 n23 n24 n25 n26 n27 n28 n29 n30 n31 n32 = n5 refl
-carried live stack frame Dup2 r n0 n1 n2 n3 n4 n5 n6 n7 n8 n9 n10 n11 n12 n13 n14 n15 n16 n17 n18 n19 n20 n21 n22 n23 n24 n25 n26 n27 n28 n29 n30 n31 n32 = n6 refl
-carried live stack frame (Jump t) r n0 n1 n2 n3 n4 n5 n6 n7 n8 n9 n10 n11 n12 n13 n14 n15 n16 n17 n18 n19 n20 n21 n22 n23 n24 n25 n26 n27 n28 n29 n30 n31 n32 = n7 t refl
-carried live stack frame (JumpIfZero t) r n0 n1 n2 n3 n4 n5 n6 n7 n8 n9 n10 n11 n12 n13 n14 n15 n16 n17 n18 n19 n20 n21 n22 n23 n24 n25 n26 n27 n28 n29 n30 n31 n32 = n8 t refl
-carried live stack frame (JumpIfNotZero t) r n0 n1 n2 n3 n4 n5 n6 n7 n8 n9 n10 n11 n12 n13 n14 n15 n16 n17 n18 n19 n20 n21 n22 n23 n24 n25 n26 n27 n28 n29 n30 n31 n32 = n9 t refl
-carried live stack frame (KeepIfZero t) r n0 n1 n2 n3 n4 n5 n6 n7 n8 n9 n10 n11 n12 n13 n14 n15 n16 n17 n18 n19 n20 n21 n22 n23 n24 n25 n26 n27 n28 n29 n30 n31 n32 = n10 t refl
-carried live stack frame (KeepIfNotZero t) r n0 n1 n2 n3 n4 n5 n6 n7 n8 n9 n10 n11 n12 n13 n14 n15 n16 n17 n18 n19 n20 n21 n22 n23 n24 n25 n26 n27 n28 n29 n30 n31 n32 = n11 t refl
-carried live stack frame LoopTurn r n0 n1 n2 n3 n4 n5 n6 n7 n8 n9 n10 n11 n12 n13 n14 n15 n16 n17 n18 n19 n20 n21 n22 n23 n24 n25 n26 n27 n28 n29 n30 n31 n32 = n12 refl
-carried live stack frame (CallSlot k n) r n0 n1 n2 n3 n4 n5 n6 n7 n8 n9 n10 n11 n12 n13 n14 n15 n16 n17 n18 n19 n20 n21 n22 n23 n24 n25 n26 n27 n28 n29 n30 n31 n32 = n13 k n refl
-carried live stack frame (CallFixed q j n) r n0 n1 n2 n3 n4 n5 n6 n7 n8 n9 n10 n11 n12 n13 n14 n15 n16 n17 n18 n19 n20 n21 n22 n23 n24 n25 n26 n27 n28 n29 n30 n31 n32 = n14 q j n refl
-carried live stack frame (CallOther n) r n0 n1 n2 n3 n4 n5 n6 n7 n8 n9 n10 n11 n12 n13 n14 n15 n16 n17 n18 n19 n20 n21 n22 n23 n24 n25 n26 n27 n28 n29 n30 n31 n32 = n15 n refl
-carried live stack frame (CallEfun e n) r n0 n1 n2 n3 n4 n5 n6 n7 n8 n9 n10 n11 n12 n13 n14 n15 n16 n17 n18 n19 n20 n21 n22 n23 n24 n25 n26 n27 n28 n29 n30 n31 n32 = n16 e n refl
-carried live stack frame (CallSimul k n) r n0 n1 n2 n3 n4 n5 n6 n7 n8 n9 n10 n11 n12 n13 n14 n15 n16 n17 n18 n19 n20 n21 n22 n23 n24 n25 n26 n27 n28 n29 n30 n31 n32 = n17 k n refl
-carried live stack frame (CatchBegin t) r n0 n1 n2 n3 n4 n5 n6 n7 n8 n9 n10 n11 n12 n13 n14 n15 n16 n17 n18 n19 n20 n21 n22 n23 n24 n25 n26 n27 n28 n29 n30 n31 n32 = n18 t refl
-carried live stack frame CatchEnd r n0 n1 n2 n3 n4 n5 n6 n7 n8 n9 n10 n11 n12 n13 n14 n15 n16 n17 n18 n19 n20 n21 n22 n23 n24 n25 n26 n27 n28 n29 n30 n31 n32 = n19 refl
-carried live stack frame Return r n0 n1 n2 n3 n4 n5 n6 n7 n8 n9 n10 n11 n12 n13 n14 n15 n16 n17 n18 n19 n20 n21 n22 n23 n24 n25 n26 n27 n28 n29 n30 n31 n32 = n20 refl
-carried live stack frame ReturnZero r n0 n1 n2 n3 n4 n5 n6 n7 n8 n9 n10 n11 n12 n13 n14 n15 n16 n17 n18 n19 n20 n21 n22 n23 n24 n25 n26 n27 n28 n29 n30 n31 n32 = n21 refl
-carried live stack frame (PushGlobal k) r n0 n1 n2 n3 n4 n5 n6 n7 n8 n9 n10 n11 n12 n13 n14 n15 n16 n17 n18 n19 n20 n21 n22 n23 n24 n25 n26 n27 n28 n29 n30 n31 n32 = n22 k refl
-carried live stack frame (SetGlobal k) r n0 n1 n2 n3 n4 n5 n6 n7 n8 n9 n10 n11 n12 n13 n14 n15 n16 n17 n18 n19 n20 n21 n22 n23 n24 n25 n26 n27 n28 n29 n30 n31 n32 = n23 k refl
-carried live stack frame (Index e) r n0 n1 n2 n3 n4 n5 n6 n7 n8 n9 n10 n11 n12 n13 n14 n15 n16 n17 n18 n19 n20 n21 n22 n23 n24 n25 n26 n27 n28 n29 n30 n31 n32 = n24 e refl
-carried live stack frame (Binary op) r n0 n1 n2 n3 n4 n5 n6 n7 n8 n9 n10 n11 n12 n13 n14 n15 n16 n17 n18 n19 n20 n21 n22 n23 n24 n25 n26 n27 n28 n29 n30 n31 n32 = n25 op refl
-carried live stack frame (Unary op) r n0 n1 n2 n3 n4 n5 n6 n7 n8 n9 n10 n11 n12 n13 n14 n15 n16 n17 n18 n19 n20 n21 n22 n23 n24 n25 n26 n27 n28 n29 n30 n31 n32 = n26 op refl
-carried live stack frame (Step op) r n0 n1 n2 n3 n4 n5 n6 n7 n8 n9 n10 n11 n12 n13 n14 n15 n16 n17 n18 n19 n20 n21 n22 n23 n24 n25 n26 n27 n28 n29 n30 n31 n32 = n27 op refl
-carried live stack frame (SetIndex e) r n0 n1 n2 n3 n4 n5 n6 n7 n8 n9 n10 n11 n12 n13 n14 n15 n16 n17 n18 n19 n20 n21 n22 n23 n24 n25 n26 n27 n28 n29 n30 n31 n32 = n28 e refl
-carried live stack frame (MakeArray k) r n0 n1 n2 n3 n4 n5 n6 n7 n8 n9 n10 n11 n12 n13 n14 n15 n16 n17 n18 n19 n20 n21 n22 n23 n24 n25 n26 n27 n28 n29 n30 n31 n32 = n29 k refl
-carried live stack frame (MakeMap k) r n0 n1 n2 n3 n4 n5 n6 n7 n8 n9 n10 n11 n12 n13 n14 n15 n16 n17 n18 n19 n20 n21 n22 n23 n24 n25 n26 n27 n28 n29 n30 n31 n32 = n30 k refl
-carried live stack frame (Range x y) r n0 n1 n2 n3 n4 n5 n6 n7 n8 n9 n10 n11 n12 n13 n14 n15 n16 n17 n18 n19 n20 n21 n22 n23 n24 n25 n26 n27 n28 n29 n30 n31 n32 = n31 x y refl
-carried live stack frame (Rotate k) r n0 n1 n2 n3 n4 n5 n6 n7 n8 n9 n10 n11 n12 n13 n14 n15 n16 n17 n18 n19 n20 n21 n22 n23 n24 n25 n26 n27 n28 n29 n30 n31 n32 = n32 k refl
-carried live stack frame i r n0 n1 n2 n3 n4 n5 n6 n7 n8 n9 n10 n11 n12 n13 n14 n15 n16 n17 n18 n19 n20 n21 n22 n23 n24 n25 n26 n27 n28 n29 n30 n31 n32 = absurd r
+-- Objects stay in memory
+
+pub kept_home : (rows : List (Option Object)) → KeepsVariables rows rows
+kept_home rows o vs e = (vs, e, refl)
+
+pub kept_ok : (rows : List (Option Object)) (r : Result Led StepFault) → IfOk r (λ n. KeepsVariables rows rows)
+kept_ok rows (Ok n) = kept_home rows
+kept_ok rows (Err f) = tt
+
+pub same_home : (old new : List (Option Object)) (r : Result Led StepFault) → new ≡ old → IfOk r (λ n. KeepsVariables old new)
+same_home old new (Ok n) e = subst (KeepsVariables old) (sym e) (kept_home old)
+same_home old new (Err f) e = tt

@@ -7,6 +7,10 @@ pub mod Indexed
 pub mod Operated
 pub mod Prefixed
 pub mod Counted
+pub mod Switched
+pub mod Begun
+pub mod Turned
+pub mod Scanned
 pub mod Written
 pub mod Paired
 pub mod Spelled

@@ -1,6 +1,7 @@
 -- Variables of objects on the state and in the world.
-use Rattle.std.proofs.Common.{◌≡◌, ◌++◌, ◌∷◌, [], ◌∙◌, ℕ, ◌+◌, ◌-◌, List, Option, Some, None, length, length-append, refl, ap, sym, subst, arith, slice_get, unwrap_or}
+use Rattle.std.proofs.Common.{◌≡◌, ◌⊎◌, inl, inr, ◌++◌, ◌∷◌, [], ◌∙◌, ℕ, ◌+◌, ◌-◌, List, Option, Some, None, length, length-append, refl, ap, sym, subst, arith, slice_get, unwrap_or}
 use Rattle.std.specs.Prelude.{slice_set}
+use Rattle.std.proofs.Math.ListN.{length-set}
 use Rattle.lp_values.specs.declared.id.ObjId.{ObjId}
 use Rattle.lp_values.specs.declared.value.Value.{Value}
 use Rattle.lp_cells.specs.Cells.{IsThere, Store}
@@ -19,9 +20,9 @@ use Rattle.lp_world.specs.Rows.{HasPlace, IsWritten, variables_at, variables_in,
 use Rattle.lp_world.specs.Stands.{ObjectIs}
 use Rattle.lp_world.specs.Matches.{Around, Matches, laid}
 use Rattle.lp_world.proofs.Closing.{closed_with_variable}
-use Rattle.lp_world.proofs.Keeping.{resident_same, stands_with_variable}
+use Rattle.lp_world.proofs.Keeping.{get_set, get_set_here, resident_same, same_or_not, stands_with_variable}
 use Rattle.lp_step.specs.declared.next.Next.TheVariants as nexts
-use Rattle.lp_step.specs.Steps.{IsFine, IsFit, LeadsTo}
+use Rattle.lp_step.specs.Steps.{IsFine, IsFit, KeepsVariables, LeadsTo}
 use Rattle.lp_step.proofs.Fits.{get_all}
 use Rattle.lp_step.proofs.Moves.{get_right, pushed}
 
@@ -118,3 +119,25 @@ variable_there live stack id k v p g f =
     let r = resident live.objects id k p in
     let there : variables_at live.objects id ≡ Some r.vs = ap (λ o. variables_in (unwrap_or o None)) r.found ∙ ap variables_of r.state in
     get_all (IsThere live.cells) r.vs k v ((f.closed.objects id.0 r.row r.found).variables r.vs (ap variables_of r.state)).1 (g r.vs there)
+
+-- an object whose variable was written is in memory with as many variables, and so is each other one
+pub written_home : (old new : List (Option Object)) (id : ObjId) (k : ℕ) (v : Value) → HasPlace (variables_at old id) k → IsWritten old new id k v → KeepsVariables old new
+written_home old new id k v p w o us e = subst (λ rows. (xs : List Value) × (variables_at rows o ≡ Some xs) × (length xs ≡ length us)) (sym (w r.row r.vs r.found r.state)) (by (same_or_not id.0 o.0))
+  where
+    r : IsResident old id
+    r = resident old id k p
+
+    row : Option Object
+    row = Some (with_value r.row r.vs k v)
+
+    was : variables_at old id ≡ Some r.vs
+    was = ap (λ q. variables_in (unwrap_or q None)) r.found ∙ ap variables_of r.state
+
+    by : (id.0 ≡ o.0) ⊎ (id.0 ≡ o.0 → ⊥) → (xs : List Value) × (variables_at (slice_set old id.0 row) o ≡ Some xs) × (length xs ≡ length us)
+    by (inl q) =
+        let same : r.vs ≡ us = ap (λ l. unwrap_or l us) (let t : Some r.vs ≡ Some us = sym was ∙ ap (λ n. variables_in (unwrap_or (slice_get old n) None)) q ∙ e in t) in (
+          slice_set r.vs k v,
+          ap (λ n. variables_in (unwrap_or (slice_get (slice_set old id.0 row) n) None)) (sym q) ∙ ap (λ l. variables_in (unwrap_or l None)) (get_set_here old id.0 row (Some r.row) r.found),
+          length-set r.vs k v ∙ ap length same,
+        )
+    by (inr d) = (us, ap (λ l. variables_in (unwrap_or l None)) (get_set old id.0 o.0 row d) ∙ e, refl)

@@ -1,11 +1,12 @@
 -- What one instruction does: what the table says, in every world for which the state stands.
 use Rattle.std.specs.Prelude.{◌≡◌, ℕ, ◌+◌, ◌++◌, ◌*◌, ◌-◌, ◌<◌, ◌≤◌, ◌^◌, List, [], ◌∷◌, Bool, true, false, ⊤, All, Option, Some, length, slice_get, nat_lt}
 use Rattle.std.specs.List.{remove}
+use Rattle.lp_values.specs.declared.id.ObjId.{ObjId}
 use Rattle.lp_values.specs.declared.value.Value.{Value}
 use Rattle.lp_cells.specs.Cells.{IsThere}
 use Rattle.lp_instr.specs.declared.efun.Efun.TheVariants as efun
 use Rattle.lp_instr.specs.declared.instr.Instr.{Instr}
-use Rattle.lp_instr.specs.declared.instr.Instr.TheVariants.{PushInt, PushText, PushLocal, SetLocal, Pop, Dup, Dup2, Jump, JumpIfZero, JumpIfNotZero, KeepIfZero, KeepIfNotZero, Index, SetIndex, Range, Rotate, MakeArray, MakeMap, PushGlobal, SetGlobal, Binary, Unary, Step, LoopTurn, CallSlot, CallFixed, CallOther, CallEfun, CallSimul, CatchBegin, CatchEnd, Return, ReturnZero}
+use Rattle.lp_instr.specs.declared.instr.Instr.TheVariants.{PushInt, PushText, PushLocal, SetLocal, Pop, Dup, Dup2, Jump, JumpIfZero, JumpIfNotZero, KeepIfZero, KeepIfNotZero, Index, SetIndex, Range, Rotate, MakeArray, MakeMap, PushGlobal, SetGlobal, Binary, Unary, Step, LoopTurn, CallSlot, CallFixed, CallOther, CallEfun, CallSimul, CatchBegin, CatchEnd, Switch, Scan, EachBegin, EachNext, Return, ReturnZero}
 use Rattle.lp_instr.specs.Code.{parent_row}
 use Rattle.lp_instr.specs.Sound.{Bounds, IsNamed, end_count}
 use Rattle.lp_language.specs.Course.{Gives, Internal, Parent, OfEfun, Failed, Spent, here}
@@ -14,6 +15,7 @@ use Rattle.lp_isa.specs.Machine.{Moment, Next, Goes, Ended, Awaits, Wrong, act, 
 use Rattle.lp_values.specs.declared.value.Value.TheVariants as values
 use Rattle.lp_world.specs.declared.frame.Frame.{Frame}
 use Rattle.lp_world.specs.declared.live.Live.{Live}
+use Rattle.lp_world.specs.declared.objects.Object.{Object}
 use Rattle.lp_world.specs.Closed.{IsClosed}
 use Rattle.lp_world.specs.Rows.{HasPlace, variables_at}
 use Rattle.lp_world.specs.Matches.{Around, Matches}
@@ -69,6 +71,10 @@ Finds live stack frame (CatchBegin to) = length stack < 2 ^ 32
 Finds live stack frame CatchEnd = 1 ≤ length frame.catches.items
 Finds live stack frame Return = 1 ≤ length stack
 Finds live stack frame ReturnZero = ⊤
+Finds live stack frame (Switch k) = (1 ≤ length stack) × (k < length frame.code.switches)
+Finds live stack frame (Scan n) = 2 ≤ length stack
+Finds live stack frame (EachBegin n) = 1 ≤ length stack
+Finds live stack frame (EachNext to n) = 2 ≤ length stack
 Finds live stack frame (PushGlobal k) = HasPlace (variables_at live.objects frame.this) (frame.base + k)
 Finds live stack frame (SetGlobal k) = HasPlace (variables_at live.objects frame.this) (frame.base + k) × (1 ≤ length stack)
 Finds live stack frame (Index edge) = 2 ≤ length stack
@@ -80,8 +86,6 @@ Finds live stack frame (MakeArray n) = n ≤ length stack
 Finds live stack frame (MakeMap n) = 2 * n ≤ length stack
 Finds live stack frame (Range from to) = 1 + end_count from + end_count to ≤ length stack
 Finds live stack frame (Rotate n) = (1 ≤ n) × (n ≤ length stack)
--- all others are not carried out yet
-Finds live stack frame _ = ⊥
 
 -- There is an instruction, which finds what it needs, and the place behind it has a number.
 pub record CanStep (live : Live) (stack : List Value) (frame : Frame) : Type 0 where
@@ -103,6 +107,10 @@ IsEndThere live nexts.Spent = ⊤
 -- The state stays closed, and what the values on the stack name stays there.
 abbrev pub Keeps : Live → List Value → Led → Live → List Value → Type 0
 Keeps live0 stack0 n live1 stack1 = IsFit live0 stack0 → IsFit live1 stack1 × IsEndThere live1 n
+
+-- Each object that is in memory stays there, with as many variables.
+abbrev pub KeepsVariables : List (Option Object) → List (Option Object) → Type 0
+KeepsVariables old new = (o : ObjId) (vs : List Value) → variables_at old o ≡ Some vs → (us : List Value) × (variables_at new o ≡ Some us) × (length us ≡ length vs)
 
 -- Worlds
 

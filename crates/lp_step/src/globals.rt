@@ -1,7 +1,7 @@
 //! Variables of objects.
 ghost use Rattle.std.specs.Prelude.{◌+◌, ◌<◌, ◌≤◌, ◌^◌, IfOk, length};
 ghost use Rattle.lp_world.specs.Rows.{HasPlace, variables_at};
-ghost use Rattle.lp_step.specs.Steps.{Keeps, Performs};
+ghost use Rattle.lp_step.specs.Steps.{Keeps, KeepsVariables, Performs};
 
 use crate::fault::StepFault;
 use crate::next::Next;
@@ -44,6 +44,7 @@ pub fn set_global(
     requires operands { 1 ≤ length stack.old.items }
     ensures table { IfOk result (λ n. (budget : _) → Performs (Instr.SetGlobal k) live.old stack.old.items frame.old budget n live.new stack.new.items frame.new budget) }
     ensures keeps { IfOk result (λ n. Keeps live.old stack.old.items n live.new stack.new.items) }
+    ensures home { IfOk result (λ n. KeepsVariables live.old.objects live.new.objects) }
 {
     let v = copy_at(stack, stack.len() - 1)?;
     live.objects

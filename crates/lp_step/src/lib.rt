@@ -6,6 +6,7 @@
 
 pub mod binaries;
 pub mod calls;
+pub mod copies;
 pub mod counting;
 pub mod fault;
 pub mod globals;
@@ -16,8 +17,11 @@ pub mod next;
 pub mod pushes;
 pub mod ranges;
 pub mod rotation;
+pub mod scans;
 pub mod stack;
 pub mod step;
+pub mod switches;
+pub mod turns;
 pub mod unaries;
 pub mod worked;
 pub mod writes;

@@ -244,6 +244,7 @@ pub fn make_array(
     requires closed { IsClosed live.old.cells }
     ensures table { IfOk result (λ d. Performs (Instr.MakeArray n) live.old stack.old.items frame.old budget.old d live.new stack.new.items frame.new budget.new) }
     ensures keeps { IfOk result (λ d. Keeps live.old stack.old.items d live.new stack.new.items) }
+    ensures home { live.new.objects ≡ live.old.objects }
 {
     let d = array_top(
         live.alloc,
@@ -278,6 +279,7 @@ pub fn make_map(
     requires closed { IsClosed live.old.cells }
     ensures table { IfOk result (λ d. Performs (Instr.MakeMap n) live.old stack.old.items frame.old budget.old d live.new stack.new.items frame.new budget.new) }
     ensures keeps { IfOk result (λ d. Keeps live.old stack.old.items d live.new stack.new.items) }
+    ensures home { live.new.objects ≡ live.old.objects }
 {
     let d = mapping_top(
         live.alloc,

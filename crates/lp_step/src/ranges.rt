@@ -205,6 +205,7 @@ pub fn cut_range(
     requires closed { IsClosed live.old.cells }
     ensures table { IfOk result (λ n. Performs (Instr.Range from to) live.old stack.old.items frame.old budget.old n live.new stack.new.items frame.new budget.new) }
     ensures keeps { IfOk result (λ n. Keeps live.old stack.old.items n live.new stack.new.items) }
+    ensures home { live.new.objects ≡ live.old.objects }
 {
     let d = operate_top(
         live.alloc,

@@ -1,9 +1,10 @@
 //! One instruction.
 ghost use Rattle.std.specs.Prelude.{◌≡◌, ◌<◌, IfOk, IsSome, Some};
-ghost use Rattle.lp_step.specs.Steps.{CanStep, Keeps, Steps, instr_at};
+ghost use Rattle.lp_step.specs.Steps.{CanStep, Keeps, KeepsVariables, Steps, instr_at};
 
 use crate::binaries::binary_operator;
 use crate::calls::{call_efun, call_fixed, call_other, call_simul, call_slot};
+use crate::copies::each_begin;
 use crate::counting::step_operator;
 use crate::fault::StepFault;
 use crate::globals::{push_global, set_global};
@@ -17,6 +18,9 @@ use crate::next::Next;
 use crate::pushes::{again_one, again_two, drop_value, push_int, push_local, push_text, set_local};
 use crate::ranges::cut_range;
 use crate::rotation::rotate;
+use crate::scans::scan_operator;
+use crate::switches::switch_on;
+use crate::turns::each_next;
 use crate::unaries::unary_operator;
 use crate::writes::set_index;
 use lp_instr::instr::Instr;
@@ -42,6 +46,7 @@ pub fn step(
     requires { CanStep live.old stack.old.items frame.old }
     ensures table { IfOk result (λ n. Steps live.old stack.old.items frame.old budget.old n live.new stack.new.items frame.new budget.new) }
     ensures keeps { IfOk result (λ n. Keeps live.old stack.old.items n live.new stack.new.items) }
+    ensures home { IfOk result (λ n. KeepsVariables live.old.objects live.new.objects) }
 {
     match fetch(frame) {
         Instr::PushInt(z) => push_int(stack, frame, z),
@@ -66,6 +71,10 @@ pub fn step(
         Instr::CatchEnd => Ok(catch_end(stack, frame)),
         Instr::Return => Ok(returns(stack, frame)),
         Instr::ReturnZero => Ok(returns_zero(stack, frame)),
+        Instr::Switch(k) => Ok(switch_on(live, stack, frame, k)),
+        Instr::Scan(n) => scan_operator(live, stack, frame, budget, n),
+        Instr::EachBegin(_) => each_begin(live, stack, frame),
+        Instr::EachNext(to, n) => each_next(live, stack, frame, to, n),
         Instr::PushGlobal(k) => push_global(live, stack, frame, k),
         Instr::SetGlobal(k) => set_global(live, stack, frame, k),
         Instr::Index(edge) => at_index(live, stack, frame, budget, edge),
@@ -77,6 +86,5 @@ pub fn step(
         Instr::MakeMap(n) => make_map(live, stack, frame, budget, n),
         Instr::Range(from, to) => cut_range(live, stack, frame, budget, from, to),
         Instr::Rotate(n) => rotate(stack, frame, n),
-        _ => unreachable!(),
     }
 }

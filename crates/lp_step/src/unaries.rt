@@ -76,6 +76,7 @@ pub fn unary_operator(
     requires there { All (IsThere live.old.cells) stack.old.items }
     ensures table { IfOk result (λ n. Performs (Instr.Unary op) live.old stack.old.items frame.old budget.old n live.new stack.new.items frame.new budget.new) }
     ensures keeps { IfOk result (λ n. Keeps live.old stack.old.items n live.new stack.new.items) }
+    ensures home { live.new.objects ≡ live.old.objects }
 {
     let d = operate_top(
         live.alloc,

@@ -192,6 +192,7 @@ pub fn set_index(
     requires closed { IsClosed live.old.cells }
     ensures table { IfOk result (λ n. Performs (Instr.SetIndex edge) live.old stack.old.items frame.old budget.old n live.new stack.new.items frame.new budget.new) }
     ensures keeps { IfOk result (λ n. Keeps live.old stack.old.items n live.new stack.new.items) }
+    ensures home { live.new.objects ≡ live.old.objects }
 {
     let d = write_top(
         live.alloc,

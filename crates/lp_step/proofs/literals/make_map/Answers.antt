@@ -1,4 +1,4 @@
-use Rattle.std.proofs.Common.{subst, ◌+◌, ◌*◌}
+use Rattle.std.proofs.Common.{refl, subst, ◌+◌, ◌*◌}
 use Rattle.lp_step.specs.declared.worked.Worked.TheVariants as worked
 use Rattle.lp_step.specs.LiteralWorks.{SpellsOn, mapping_of}
 use Rattle.lp_step.specs.Works.{IsWorkedThere}
@@ -13,6 +13,7 @@ returns-in_ok-push-in-Value c = record {
       mapping_spelled a c.args.live.now c.mapping_top.new.cells c.args.stack.now.items c.mapping_top.new.stack.items c.push.new.stack.items c.args.frame.now (c.args.frame.now.at + 1) c.args.budget.now c.mapping_top.new.budget m (2 * c.args.n) (worked.Value c.in-Value.v) _ h
       (subst (λ d. SpellsOn mapping_of (2 * c.args.n) c.args.stack.now.items c.mapping_top.new.stack.items c.args.live.now.objects c.args.live.now.cells c.args.budget.now d c.mapping_top.new.cells c.mapping_top.new.budget) c.in-Value.is c.in_ok-d.ensures.works) (value c.in_ok-push-in-Value.ensures) fine;
   keeps = λ f. let t = c.in_ok-d.ensures.works in (pushed_fit (record c.args.live.now { cells = c.mapping_top.new.cells }) _ _ _ (subst (IsWorkedThere c.mapping_top.new.cells) c.in-Value.is c.in_ok-d.ensures.keeps.1) c.in_ok-push-in-Value.ensures (spelled_fit c.args.live.now c.mapping_top.new.cells _ _ t.0 t.1 c.mapping_top.ensures.stay c.in_ok-d.ensures.keeps.0 f), tt);
+  home = refl;
 }
 
 pub returns-in-Error : goal.returns-in-Error
@@ -21,6 +22,7 @@ returns-in-Error c = record {
       mapping_spelled a c.args.live.now c.mapping_top.new.cells c.args.stack.now.items c.mapping_top.new.stack.items c.mapping_top.new.stack.items c.args.frame.now c.args.frame.now.at c.args.budget.now c.mapping_top.new.budget m (2 * c.args.n) (worked.Error c.in-Error.e) _ h
       (subst (λ d. SpellsOn mapping_of (2 * c.args.n) c.args.stack.now.items c.mapping_top.new.stack.items c.args.live.now.objects c.args.live.now.cells c.args.budget.now d c.mapping_top.new.cells c.mapping_top.new.budget) c.in-Error.is c.in_ok-d.ensures.works) error fine;
   keeps = λ f. let t = c.in_ok-d.ensures.works in (spelled_fit c.args.live.now c.mapping_top.new.cells _ _ t.0 t.1 c.mapping_top.ensures.stay c.in_ok-d.ensures.keeps.0 f, tt);
+  home = refl;
 }
 
 pub returns-in-Spent : goal.returns-in-Spent
@@ -29,4 +31,5 @@ returns-in-Spent c = record {
       mapping_spelled a c.args.live.now c.mapping_top.new.cells c.args.stack.now.items c.mapping_top.new.stack.items c.mapping_top.new.stack.items c.args.frame.now c.args.frame.now.at c.args.budget.now c.mapping_top.new.budget m (2 * c.args.n) worked.Spent _ h
       (subst (λ d. SpellsOn mapping_of (2 * c.args.n) c.args.stack.now.items c.mapping_top.new.stack.items c.args.live.now.objects c.args.live.now.cells c.args.budget.now d c.mapping_top.new.cells c.mapping_top.new.budget) c.in-Spent.is c.in_ok-d.ensures.works) spent fine;
   keeps = λ f. let t = c.in_ok-d.ensures.works in (spelled_fit c.args.live.now c.mapping_top.new.cells _ _ t.0 t.1 c.mapping_top.ensures.stay c.in_ok-d.ensures.keeps.0 f, tt);
+  home = refl;
 }
