@@ -1,0 +1,4 @@
+pub mod Counting
+pub mod Having
+pub mod Spelling
+pub mod Standing

@@ -1,0 +1,4 @@
+pub mod Finish
+pub mod Rows
+pub mod Stands
+pub mod Used

@@ -1,0 +1,5 @@
+pub mod Compiles
+pub mod Heights
+pub mod Known
+pub mod Outcomes
+pub mod Translated

@@ -1,0 +1,55 @@
+//! The program of a unit that has tables, before it is verified.
+ghost use Rattle.std.specs.Prelude.{◌≡◌, ◌≢◌, IfOk, MatchResult, map};
+ghost use Rattle.lp_tree.specs.UnitView.{item_of};
+ghost use Rattle.lp_codegen_expr.specs.declared.code.GenFault.TheVariants.{Unclear};
+ghost use Rattle.lp_compile.specs.Translated.{IsGenerated, variables_in};
+
+use crate::heights::greatest_height;
+use lp_code::listed::Listed;
+use lp_code::name::Name;
+use lp_code::program::RawProgram;
+use lp_code::tables::Tables;
+use lp_codegen_expr::code::{GenFault, counted};
+use lp_codegen_layout::layout::layout_of_tables;
+use lp_codegen_unit::unit::gen_unit;
+use lp_tree::unit::Item;
+use std::alloc::Global;
+
+// How many variables parents have together.
+fn variables_of(parents: &[Tables]) -> Result<u32, GenFault>
+    ensures { MatchResult result (λ n. n ≡ variables_in parents.now) (λ f. f ≢ Unclear) }
+{
+    let mut total = 0usize;
+    for parent in parents {
+        match total.checked_add(parent.vars.as_slice().len()) {
+            Some(sum) => total = sum,
+            None => return Err(GenFault::TooLarge),
+        }
+    }
+    counted(total)
+}
+
+/// The program of a unit with these tables, parents' tables and names of simul efuns. It is not verified. Takes time in
+/// proportion to the unit and the tables.
+pub fn generate(
+    alloc: Global,
+    items: &Vec<Item>,
+    tables: Tables,
+    parents: &[Tables],
+    simuls: &[Name],
+) -> Result<RawProgram, GenFault>
+    ensures { IfOk result (IsGenerated (map item_of items.now.items) tables parents.now simuls.now) }
+{
+    let layout = layout_of_tables(alloc, &tables, parents, simuls)?;
+    let first = variables_of(parents)?;
+    let unit = gen_unit(alloc, items, first, layout)?;
+    let max_height = greatest_height(unit.instrs.as_slice())?;
+    Ok(RawProgram {
+        instrs: Listed::from_vec(unit.instrs),
+        consts: Listed::from_vec(unit.texts),
+        switches: Listed::from_vec(unit.switches),
+        funs: Listed::from_vec(unit.funs),
+        tables,
+        max_height,
+    })
+}

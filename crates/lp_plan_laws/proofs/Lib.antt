@@ -1,0 +1,4 @@
+pub mod Known
+pub mod Laying
+pub mod Meant
+pub mod Seen
