@@ -1,2 +1,4 @@
-pub mod Finding
 pub mod Gathering
+pub mod Loading
+pub mod Telling
+pub mod Unique

@@ -1,5 +1,5 @@
 -- What the command `check` tells of the files of a script.
-use Rattle.std.specs.Prelude.{◌≡◌, ℕ, List, [], ◌∷◌, ◌++◌, Bool, not, ◌&&◌, Option, Some, None, is_some, length, map, filter, flat_map, fold, bytes_eq, nat_eq, codes, if◌then◌else◌}
+use Rattle.std.specs.Prelude.{◌≡◌, ℕ, List, [], ◌++◌, Bool, not, ◌&&◌, Option, Some, None, is_some, length, map, filter, flat_map, fold, bytes_eq, nat_eq, codes, if◌then◌else◌}
 use Rattle.std.specs.Fmt.{decimal}
 use Rattle.std.specs.List.{ends_with}
 use Rattle.lp_files.specs.declared.store.Store.{Store}
@@ -32,10 +32,10 @@ sources_of files = filter is_source (map (λ f. f.0) files)
 
 -- The names of the simul efuns
 
--- The file of the simul efuns: that with the path that was given, where it is one that is compiled.
-abbrev pub simul_file : List (List ℕ × List ℕ) → Option (List ℕ) → Option (List ℕ)
-simul_file files None = None
-simul_file files (Some path) = if lists path (sources_of files) then Some path else None
+-- The file of the simul efuns: that with the path that was given, where it is among those that are compiled.
+abbrev pub simul_file : List (List ℕ) → Option (List ℕ) → Option (List ℕ)
+simul_file sources None = None
+simul_file sources (Some path) = if lists path sources then Some path else None
 
 -- A row of a function that every other object may call: it is no prototype, and neither private nor protected nor static.
 abbrev pub is_callable : Slot → Bool
@@ -96,7 +96,7 @@ pub record IsReport (simul : Option (List ℕ)) (files : List (List ℕ × List 
   pub holds : IsStoreOf files store
   pub names : List (List ℕ)
   pub before : Loaded
-  pub simuls : LoadsSimul store (simul_file files simul) before names
+  pub simuls : LoadsSimul store (simul_file (sources_of files) simul) before names
   pub after : Loaded
   pub loads : LoadsAll store names (sources_of files) before after
   pub ended : List (List ℕ)

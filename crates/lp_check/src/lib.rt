@@ -2,6 +2,7 @@
 #![tactic(auto)]
 
 mod all;
+pub mod law;
 mod lines;
 mod simul;
 mod sources;

@@ -54,7 +54,7 @@ impl Sources {
     /// file may call the functions of its version that any object may call. Takes time in proportion to the files with what
     /// they include, and to the tables of their parents.
     pub fn report(&self, alloc: Global, simul: Option<&str>) -> Result<Vec<u8>, AllocError>
-        ensures { (files : List (List ℕ × List ℕ)) → AreFiles files self.now → IfOk result (λ v. IsReport (option_copied simul) files v.items) }
+        ensures { (files : List (List ℕ × List ℕ)) → AreFiles files self.now → IfOk result (λ v. IsReport (option_copied simul.entry) files v.items) }
     {
         let mut known = Known::new(alloc);
         let names = load_simul(alloc, &self.store, self.paths.as_slice(), simul, &mut known)?;

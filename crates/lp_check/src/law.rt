@@ -1,0 +1,9 @@
+//! Laws of what a report tells.
+ghost use Rattle.std.specs.Prelude.{◌≡◌, List, ℕ};
+ghost use Rattle.lp_loads.specs.Loads.{Loaded};
+ghost use Rattle.lp_check.specs.Report.{AreEnded};
+
+/// Law: there is one order in which the faults of loads are told.
+pub fn law_one_order()
+    ensures { (ls : Loaded) (ps qs : List (List ℕ)) → AreEnded ls ps → AreEnded ls qs → ps ≡ qs }
+{}
