@@ -1,3 +1,4 @@
 pub mod Report
 pub mod Sources
 pub mod Told
+pub mod Unique
