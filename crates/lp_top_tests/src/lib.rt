@@ -6,8 +6,16 @@
 #[cfg(test)]
 mod checks;
 #[cfg(test)]
+mod families;
+#[cfg(test)]
+mod reports;
+#[cfg(test)]
 mod running;
 #[cfg(test)]
 mod runs;
 #[cfg(test)]
 mod scripts;
+#[cfg(test)]
+mod simuls;
+#[cfg(test)]
+mod words;

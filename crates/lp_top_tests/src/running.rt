@@ -2,7 +2,7 @@
 use lp_io::{MemSink, MemSource, Octets};
 use lp_top::{Status, code, run};
 use lp_tree::fault::FaultKind;
-use std::alloc::AllocError;
+use std::alloc::{AllocError, Global};
 
 /// The master whose `logon` says hello.
 pub(crate) const HELLO: &str =
@@ -19,53 +19,94 @@ pub(crate) struct Outcome {
     pub(crate) bytes: Vec<u8>,
 }
 
-pub(crate) fn script(rt: &HostRuntime, master: &str, items: &str) -> Result<String, AllocError> {
+pub(crate) fn script(alloc: Global, master: &str, items: &str) -> Result<String, AllocError> {
     let len = master.len();
-    format!(in rt.alloc(); "mudscript 1 0 0\nfile /secure/master.c {len}\n{master}\nstart\n{items}")
+    format!(in alloc; "mudscript 1 0 0\nfile /secure/master.c {len}\n{master}\nstart\n{items}")
 }
 
 pub(crate) fn ran(
-    rt: &HostRuntime,
+    alloc: Global,
     words: &[&str],
     script: &[u8],
     failing: &[u64],
     takes: usize,
 ) -> Result<Outcome, AllocError> {
-    ran_over(rt, words, script, failing, &[], takes)
+    ran_over(alloc, words, script, failing, &[], takes)
+}
+
+// Words that are owned.
+fn owned(alloc: Global, words: &[&str]) -> Result<Vec<String>, AllocError> {
+    let mut all = Vec::new(alloc);
+    for word in words {
+        all.push(String::from_str(alloc, word)?)?;
+    }
+    Ok(all)
+}
+
+// The lines and kinds of the faults that an end names.
+fn faults_of(alloc: Global, status: &Status) -> Result<Vec<(u32, FaultKind)>, AllocError> {
+    let mut faults = Vec::new(alloc);
+    if let Status::NoMaster { faults: found } = status {
+        for fault in found.as_slice() {
+            faults.push((fault.line, fault.kind))?;
+        }
+    }
+    Ok(faults)
+}
+
+// The offset that an end names.
+fn at_of(status: &Status) -> Option<u64> {
+    match status {
+        Status::BadScript { at } => Some(*at),
+        _ => None,
+    }
+}
+
+// What a run has ended with, and what its devices tell.
+fn outcome_of(
+    alloc: Global,
+    status: &Status,
+    input: &MemSource,
+    out: &MemSink,
+) -> Result<Outcome, AllocError> {
+    Ok(Outcome {
+        status: code(status),
+        at: at_of(status),
+        reads: input.calls(),
+        writes: out.calls(),
+        faults: faults_of(alloc, status)?,
+        bytes: out.as_slice().to_vec(alloc)?,
+    })
+}
+
+// A source of bytes, of whose reads those with these numbers fail.
+fn source(alloc: Global, script: &[u8], failing: &[u64]) -> Result<MemSource, AllocError> {
+    let bytes = Octets::from_vec(script.to_vec(alloc)?);
+    Ok(MemSource::new(bytes, failing.to_vec(alloc)?))
+}
+
+// The same with words that are owned.
+fn ran_with(
+    alloc: Global,
+    words: &[String],
+    input: &mut MemSource,
+    out: &mut MemSink,
+) -> Result<Outcome, AllocError> {
+    let status = run(alloc, words, input, out);
+    outcome_of(alloc, &status, input, out)
 }
 
 /// The same over a sink whose calls with these numbers fail.
 pub(crate) fn ran_over(
-    rt: &HostRuntime,
+    alloc: Global,
     words: &[&str],
     script: &[u8],
     failing: &[u64],
     failing_writes: &[u64],
     takes: usize,
 ) -> Result<Outcome, AllocError> {
-    let mut all = Vec::new(rt.alloc());
-    for word in words {
-        all.push(String::from_str(rt.alloc(), word)?)?;
-    }
-    let bytes = Octets::from_vec(script.to_vec(rt.alloc())?);
-    let mut input = MemSource::new(bytes, failing.to_vec(rt.alloc())?);
-    let mut out = MemSink::new(rt.alloc(), failing_writes.to_vec(rt.alloc())?, takes);
-    let status = run(rt.alloc(), all.as_slice(), &mut input, &mut out);
-    let mut faults = Vec::new(rt.alloc());
-    if let Status::NoMaster { faults: found } = &status {
-        for fault in found.as_slice() {
-            faults.push((fault.line, fault.kind))?;
-        }
-    }
-    Ok(Outcome {
-        status: code(&status),
-        at: match status {
-            Status::BadScript { at } => Some(at),
-            _ => None,
-        },
-        faults,
-        reads: input.calls(),
-        writes: out.calls(),
-        bytes: out.as_slice().to_vec(rt.alloc())?,
-    })
+    let all = owned(alloc, words)?;
+    let mut input = source(alloc, script, failing)?;
+    let mut out = MemSink::new(alloc, failing_writes.to_vec(alloc)?, takes);
+    ran_with(alloc, all.as_slice(), &mut input, &mut out)
 }

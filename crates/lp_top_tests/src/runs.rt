@@ -1,6 +1,8 @@
 //! What no clause says: the bytes of worked examples, at ample memory.
-use crate::running::{HELLO, ran, ran_over, script};
+use crate::reports::ends;
+use crate::running::{HELLO, ran, script};
 use lp_tree::fault::FaultKind;
+use std::alloc::{AllocError, Global};
 use std::test::Fail;
 
 /// A master, items, and the status and transcript that they give.
@@ -67,13 +69,25 @@ const ROWS: [Row; 12] = [
     ("", "connect 1\nend\n", 0, "close 1\nend\n"),
 ];
 
+// Whether a replay of a master and items ends with this status, and has written this.
+fn is_run(alloc: Global, row: Row) -> Result<bool, AllocError> {
+    let (master, items, status, output) = row;
+    let text = script(alloc, master, items)?;
+    let well: (&[u64], &[u64], usize) = (&[], &[], 65536);
+    ends(
+        alloc,
+        &["replay"],
+        text.as_bytes(),
+        well,
+        status,
+        output.as_bytes(),
+    )
+}
+
 #[test]
 fn transcripts(rt: HostRuntime) -> Result<(), Fail> {
-    for (master, items, status, output) in ROWS {
-        let text = script(&rt, master, items)?;
-        let all = ran(&rt, &["replay"], text.as_bytes(), &[], 65536)?;
-        assert_eq!(rt; all.status, status, "{text}");
-        assert_eq!(rt; all.bytes.as_slice(), output.as_bytes(), "{text}");
+    for row in ROWS {
+        assert!(rt; is_run(rt.alloc(), row)?, "{}", row.0);
     }
     Ok(())
 }
@@ -86,74 +100,99 @@ const REFUSED: [(&str, u64, &str); 4] = [
     ("end\nx", 139, ""),
 ];
 
+// Whether a replay of these bytes is refused at this offset, and has written this.
+fn is_bad_at(alloc: Global, bytes: &[u8], at: u64, output: &str) -> Result<bool, AllocError> {
+    let all = ran(alloc, &["replay"], bytes, &[], 65536)?;
+    Ok(all.status == 2 && all.at == Some(at) && all.bytes.as_slice() == output.as_bytes())
+}
+
+// The same of items behind the master that says hello.
+fn is_refused(alloc: Global, row: (&str, u64, &str)) -> Result<bool, AllocError> {
+    let (items, at, output) = row;
+    let text = script(alloc, HELLO, items)?;
+    is_bad_at(alloc, text.as_bytes(), at, output)
+}
+
 #[test]
 fn refused_scripts(rt: HostRuntime) -> Result<(), Fail> {
-    for (items, at, output) in REFUSED {
-        let text = script(&rt, HELLO, items)?;
-        let all = ran(&rt, &["replay"], text.as_bytes(), &[], 65536)?;
-        assert_eq!(rt; all.at, Some(at), "{items}");
-        assert_eq!(rt; all.bytes.as_slice(), output.as_bytes(), "{items}");
+    for row in REFUSED {
+        assert!(rt; is_refused(rt.alloc(), row)?, "{}", row.0);
     }
     Ok(())
 }
 
+/// What fails and how much a write takes, and the status and the output with which a replay then ends.
+const DEVICES: [((&[u64], &[u64], usize), u8, &str); 4] = [
+    ((&[1], &[], 65536), 5, ""),
+    ((&[], &[], 1), 0, "to 1 6\nHello\n\nto 1 6\nWhat?\n\nend\n"),
+    ((&[], &[], 0), 6, ""),
+    ((&[], &[1], 65536), 6, ""),
+];
+
 #[test]
-fn words_and_devices(rt: HostRuntime) -> Result<(), Fail> {
-    let text = script(&rt, HELLO, "connect 1\nline 1 1\nx\nend\n")?;
-    let bytes = text.as_bytes();
-    let wrong = ran(&rt, &["replay", "--fast"], bytes, &[], 65536)?;
-    assert_eq!(rt; wrong.status, 1);
-    assert_eq!(rt; wrong.reads, 0);
-    let none = ran(&rt, &[], bytes, &[], 65536)?;
-    assert_eq!(rt; none.status, 1);
-    let failed = ran(&rt, &["replay"], bytes, &[1], 65536)?;
-    assert_eq!(rt; failed.status, 5);
-    let slow = ran(&rt, &["replay"], bytes, &[], 1)?;
-    assert_eq!(rt; slow.status, 0);
-    assert_eq!(rt;
-        slow.bytes.as_slice(),
-        b"to 1 6\nHello\n\nto 1 6\nWhat?\n\nend\n".as_slice()
-    );
-    let stuck = ran(&rt, &["replay"], bytes, &[], 0)?;
-    assert_eq!(rt; stuck.status, 6);
+fn devices(rt: HostRuntime) -> Result<(), Fail> {
+    let text = script(rt.alloc(), HELLO, "connect 1\nline 1 1\nx\nend\n")?;
+    for (fails, status, output) in DEVICES {
+        assert!(rt;
+            ends(
+                rt.alloc(),
+                &["replay"],
+                text.as_bytes(),
+                fails,
+                status,
+                output.as_bytes(),
+            )?
+        );
+    }
     Ok(())
+}
+
+// How many calls of the sink a replay makes.
+fn writes_of(alloc: Global, bytes: &[u8]) -> Result<u64, AllocError> {
+    let whole = ran(alloc, &["replay"], bytes, &[], 65536)?;
+    Ok(whole.writes)
 }
 
 // The flush is the sink's last call: a replay that left it out would be done where it fails.
 #[test]
-fn failing_sinks(rt: HostRuntime) -> Result<(), Fail> {
-    let text = script(&rt, HELLO, "connect 1\nend\n")?;
-    let bytes = text.as_bytes();
-    let whole = ran(&rt, &["replay"], bytes, &[], 65536)?;
-    assert_eq!(rt; whole.status, 0);
-    let flush = ran_over(&rt, &["replay"], bytes, &[], &[whole.writes], 65536)?;
-    assert_eq!(rt; flush.status, 6);
-    assert_eq!(rt; flush.bytes.as_slice(), whole.bytes.as_slice());
-    let write = ran_over(&rt, &["replay"], bytes, &[], &[1], 65536)?;
-    assert_eq!(rt; write.status, 6);
-    assert!(rt; write.bytes.is_empty());
+fn failing_flush(rt: HostRuntime) -> Result<(), Fail> {
+    let text = script(rt.alloc(), HELLO, "connect 1\nend\n")?;
+    let last = writes_of(rt.alloc(), text.as_bytes())?;
+    let output = b"to 1 6\nHello\n\nend\n";
+    assert!(rt;
+        ends(
+            rt.alloc(),
+            &["replay"],
+            text.as_bytes(),
+            (&[], &[last], 65536),
+            6,
+            output,
+        )?
+    );
     Ok(())
+}
+
+// Whether a replay of these bytes makes no master, with one fault of this line and kind.
+fn is_not_made(
+    alloc: Global,
+    bytes: &[u8],
+    line: u32,
+    kind: FaultKind,
+) -> Result<bool, AllocError> {
+    let all = ran(alloc, &["replay"], bytes, &[], 65536)?;
+    Ok(
+        all.status == 3
+            && all.faults.as_slice() == [(line, kind)].as_slice()
+            && all.bytes.is_empty(),
+    )
 }
 
 #[test]
 fn masters_that_are_not_made(rt: HostRuntime) -> Result<(), Fail> {
-    let none = ran(
-        &rt,
-        &["replay"],
-        b"mudscript 1 0 0\nstart\nend\n",
-        &[],
-        65536,
-    )?;
-    assert_eq!(rt; none.status, 3);
-    assert_eq!(rt; none.faults.as_slice(), [(0, FaultKind::NoFile)].as_slice());
-    let text = script(&rt, "\nint logon( {", "end\n")?;
-    let wrong = ran(&rt, &["replay"], text.as_bytes(), &[], 65536)?;
-    assert_eq!(rt; wrong.status, 3);
-    assert_eq!(rt;
-        wrong.faults.as_slice(),
-        [(2, FaultKind::Unexpected)].as_slice()
-    );
-    assert!(rt; wrong.bytes.is_empty());
+    let none = b"mudscript 1 0 0\nstart\nend\n";
+    assert!(rt; is_not_made(rt.alloc(), none, 0, FaultKind::NoFile)?);
+    let text = script(rt.alloc(), "\nint logon( {", "end\n")?;
+    assert!(rt; is_not_made(rt.alloc(), text.as_bytes(), 2, FaultKind::Unexpected)?);
     Ok(())
 }
 
@@ -162,25 +201,29 @@ fn masters_that_are_not_made(rt: HostRuntime) -> Result<(), Fail> {
 fn too_large_input(rt: HostRuntime) -> Result<(), Fail> {
     let mut bytes = b"mudscript 1 0 0\nfile /a 99999999999\n".to_vec(rt.alloc())?;
     bytes.resize(67108865, b'x')?;
-    let large = ran(&rt, &["replay"], bytes.as_slice(), &[], 65536)?;
-    assert_eq!(rt; large.status, 4);
+    let well: (&[u64], &[u64], usize) = (&[], &[], 65536);
+    assert!(rt; ends(rt.alloc(), &["replay"], bytes.as_slice(), well, 4, b"")?);
     bytes.truncate(67108864);
-    let bad = ran(&rt, &["replay"], bytes.as_slice(), &[], 65536)?;
-    assert_eq!(rt; bad.status, 2);
-    assert_eq!(rt; bad.at, Some(16));
+    assert!(rt; is_bad_at(rt.alloc(), bytes.as_slice(), 16, "")?);
     Ok(())
+}
+
+// Whether a script that is cut behind so many bytes is refused within them, at an item that it has.
+fn is_cut(alloc: Global, bytes: &[u8], len: usize) -> Result<bool, AllocError> {
+    let all = ran(alloc, &["replay"], bytes, &[], 65536)?;
+    Ok(match all.at {
+        Some(at) => at <= 156 && at as usize <= len,
+        None => false,
+    })
 }
 
 #[test]
 fn cut_scripts(rt: HostRuntime) -> Result<(), Fail> {
-    let text = script(&rt, HELLO, "connect 1\nline 1 1\nx\nend\n")?;
+    let text = script(rt.alloc(), HELLO, "connect 1\nline 1 1\nx\nend\n")?;
     let bytes = text.as_bytes();
-    assert_eq!(rt; bytes.len(), 160);
+    assert!(rt; bytes.len() == 160);
     for len in 0..bytes.len() {
-        let all = ran(&rt, &["replay"], &bytes[..len], &[], 65536)?;
-        let at = all.at.ok_or("a script that is cut is no script")?;
-        assert!(rt; at <= 156);
-        assert!(rt; at as usize <= len);
+        assert!(rt; is_cut(rt.alloc(), &bytes[..len], len)?);
     }
     Ok(())
 }

@@ -1,0 +1,87 @@
+//! Words that name no command.
+use crate::running::ran;
+use std::alloc::{AllocError, Global};
+use std::process::Abort;
+use std::test::Fail;
+
+/// Words of a command line.
+type Words = &'static [&'static str];
+
+/// Whether these words are refused before anything is read or written.
+fn is_refused(alloc: Global, words: &[&str]) -> Result<bool, AllocError> {
+    let all = ran(alloc, words, b"mudscript 1 0 0\nstart\nend\n", &[], 65536)?;
+    Ok(all.status == 1 && all.reads == 0 && all.writes == 0)
+}
+
+fn are_refused(rt: &impl Abort, alloc: Global, rows: &[Words]) -> Result<(), Fail> {
+    for words in rows {
+        assert!(rt; is_refused(alloc, words)?, "{words:?}");
+    }
+    Ok(())
+}
+
+/// Words of which the first names no command, and words behind one.
+const PLAIN: [Words; 15] = [
+    &[],
+    &[""],
+    &["chec"],
+    &["Check"],
+    &["--help"],
+    &["check --simul /s.c"],
+    &["check", "x"],
+    &["check", ""],
+    &["check", "check"],
+    &["check", "--"],
+    &["check", "-h"],
+    &["check", "--help"],
+    &["check", "--report"],
+    &["check", "-x"],
+    &["check", "-"],
+];
+
+/// Words with the option `--simul`.
+const SIMUL: [Words; 15] = [
+    // without a value, or with one that may be none
+    &["check", "--simul"],
+    &["check", "--simul", ""],
+    &["check", "--simul="],
+    &["check", "--simul", "-x"],
+    &["check", "--simul=-x"],
+    &["check", "--simul", "-"],
+    &["check", "--simul", "--"],
+    &["check", "--simul", "--help"],
+    // more than once
+    &["check", "--simul", "/s.c", "--simul", "/s.c"],
+    &["check", "--simul=/s.c", "--simul=/t.c"],
+    &["check", "--simul", "--simul"],
+    // cut, or with words that belong to nothing
+    &["check", "--sim", "/s.c"],
+    &["check", "-simul", "/s.c"],
+    &["check", "--simul", "/s.c", "x"],
+    &["check", "--simul", "/s.c", "--"],
+];
+
+/// Words in another order, and the option of another command.
+const OTHERS: [Words; 6] = [
+    &["--simul", "/s.c", "check"],
+    &["check", "x", "--simul", "/s.c"],
+    &["check", "--Simul", "/s.c"],
+    &["replay", "--simul", "/s.c"],
+    &["replay", "--simul=/s.c"],
+    &["replay", "--fast"],
+];
+
+#[test]
+fn plain(rt: HostRuntime) -> Result<(), Fail> {
+    are_refused(&rt, rt.alloc(), &PLAIN)
+}
+
+#[test]
+fn simul(rt: HostRuntime) -> Result<(), Fail> {
+    are_refused(&rt, rt.alloc(), &SIMUL)
+}
+
+#[test]
+fn others(rt: HostRuntime) -> Result<(), Fail> {
+    are_refused(&rt, rt.alloc(), &OTHERS)
+}
