@@ -1,0 +1,10 @@
+//! What no clause says of compiling: that files that should have a program get one.
+//!
+//! The tests stand here and not beside the code, so that no library is proved twice.
+#![tactic(auto)]
+
+mod build;
+#[cfg(test)]
+mod large;
+#[cfg(test)]
+mod rows;
