@@ -7,6 +7,8 @@
 ghost use Rattle.std.specs.Prelude.{IfOk};
 ghost use Rattle.lp_run.specs.Runs.{CanRun, IsLast, RunsTo, Went};
 
+pub mod catches;
+
 use lp_step::fault::StepFault;
 use lp_step::next::Next;
 use lp_step::step::step;
