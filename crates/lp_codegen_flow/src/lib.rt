@@ -5,6 +5,7 @@
 #![tactic(auto)]
 
 pub mod clears;
+pub mod closed;
 pub mod fun;
 pub mod globals;
 pub mod labels;
