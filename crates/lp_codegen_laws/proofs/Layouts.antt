@@ -1,5 +1,5 @@
 -- The layout of a unit's own tables knows what the check of types knows.
-use Rattle.std.proofs.Common.{◌≡◌, ◌≢◌, ℕ, suc, ◌+◌, List, [], ◌∷◌, ◌++◌, length, map, Bool, true, false, not, ◌&&◌, ◌||◌, cond, Option, Some, None, if◌then◌else◌, refl, sym, ap, ◌∙◌, subst, arith}
+use Rattle.std.proofs.Common.{◌≡◌, ◌≢◌, ℕ, suc, ◌+◌, List, [], ◌∷◌, ◌++◌, length, map, Bool, true, false, not, ◌&&◌, ◌||◌, cond, Option, Some, None, if◌then◌else◌, refl, sym, ap, ◌∙◌, subst, arith, append_assoc, length-append}
 use Rattle.std.specs.Prelude.{is_some, nat_eq, nat_lt, slice_get}
 use Rattle.std.specs.List.{filter, list_any}
 use Rattle.std.proofs.lemmas.Bool.{eq-eqb, lt-ltb}
@@ -8,6 +8,7 @@ use Rattle.lp_tree.specs.declared.keyword.Modifier.{Modifier}
 use Rattle.lp_tree.specs.declared.types.TypeName.{TypeName}
 use Rattle.lp_tree.specs.Statements.{DeclaratorTree}
 use Rattle.lp_tree.specs.Units.{ItemTree, Inherit, Proto, Fun, Var}
+use Rattle.lp_values.specs.declared.id.ProgId.{ProgId}
 use Rattle.lp_code.specs.declared.tables.Slot.{Slot}
 use Rattle.lp_code.specs.declared.tables.VarRow.{VarRow}
 use Rattle.lp_code.specs.declared.tables.Tables.{Tables}
@@ -19,7 +20,7 @@ use Rattle.lp_types_expr.specs.Signatures.{declared_kind, inherited_kind, is_pri
 use Rattle.lp_types_expr.specs.declared.signature.Signature.{Signature}
 use Rattle.lp_types_expr.specs.Signatures as tables
 use Rattle.lp_types_expr.specs.Known.{Around, ASimul, Nobody, as_efun, as_function, has_path, of_these}
-use Rattle.lp_layout.specs.Layout.{laid_slot, laid_variables, last_slot, own_rows, own_slot, parts_of, prototype_slot, row_moved, slot, slot_named, slot_shown, var_row}
+use Rattle.lp_layout.specs.Layout.{laid_slot, laid_variables, last_slot, own_rows, own_slot, parts_before, parts_of, prototype_slot, row_moved, slot, slot_named, slot_shown, var_row}
 use Rattle.lp_layout.proofs.RowLaid.{row_laid}
 use Rattle.lp_codegen_expr.specs.Names.{Plan, a_global, a_row, a_simul, an_efun, global_in, parent_called_in, parent_with_in, slot_in}
 use Rattle.lp_codegen_expr.specs.Clear.{IsParentCalled, row_beyond}
@@ -374,12 +375,19 @@ named_is l ts p w e f h g =
     let m = called_one 0 ts p w h g in
     subst (λ x. IsParentCalled l x w) (sym (f ∙ m.1)) (beyond l ts w (Some m.0) e refl (λ j q. subst (λ n. IsRowFrom 0 ts n w) (same_some q) m.2))
 
+-- the own part stands behind those of the parents
+own_parts : (ts : List Tables) (v : ProgId) → length (parts_before ts ++ v ∷ []) ≡ suc (0 + parts_of ts)
+own_parts [] v = refl
+own_parts (t ∷ ts) v =
+    let e = own_parts ts v in
+    ap length (append_assoc t.parts (parts_before ts) (v ∷ [])) ∙ length-append t.parts (parts_before ts ++ v ∷ []) ∙ (omega (arith, e))
+
 -- the layout of a unit's own tables knows what the check knows where no local is seen
 pub own_knows : (a : Around) (own : Tables) → AreOwn own a.items a.parents → Knows (plan_of own a.parents a.simuls) [] a []
 own_knows a own o =
     let l = plan_of own a.parents a.simuls in
     let n = length own.parts in
-    let parts : n ≡ suc (0 + parts_of a.parents) = let q = o.parts in omega (arith, q) in
+    let parts : n ≡ suc (0 + parts_of a.parents) = ap length o.parts ∙ own_parts a.parents o.version in
     record {
       variables = λ w h.
           a_variable (global_in l w)

@@ -1,13 +1,14 @@
 -- When all that a unit has code for is clear.
-use Rattle.std.specs.Prelude.{◌≡◌, ℕ, suc, List, [], ◌∷◌, None, length, map}
+use Rattle.std.specs.Prelude.{◌≡◌, ℕ, List, [], ◌∷◌, ◌++◌, None, length, map}
 use Rattle.lp_tree.specs.declared.pragma.Pragmas.{Pragmas}
 use Rattle.lp_tree.specs.declared.seen.Seen.{Seen}
 use Rattle.lp_tree.specs.Units.{ItemTree, Inherit, Proto, Fun, Var, SpellsUnit}
+use Rattle.lp_values.specs.declared.id.ProgId.{ProgId}
 use Rattle.lp_code.specs.declared.tables.Tables.{Tables}
 use Rattle.lp_language.specs.Resolve.{own_variables}
 use Rattle.lp_types_expr.specs.Known.{Around}
 use Rattle.lp_types.specs.TypeFaults.{IsWellTyped}
-use Rattle.lp_layout.specs.Layout.{inherits, laid_slots, laid_variables, parts_of}
+use Rattle.lp_layout.specs.Layout.{inherits, laid_slots, laid_variables, parts_before}
 use Rattle.lp_layout.specs.LayoutFaults.{layout_fault}
 use Rattle.lp_codegen_expr.specs.Names.{Plan}
 use Rattle.lp_codegen_layout.specs.Laid.{plan_of}
@@ -49,7 +50,8 @@ KnownUnitIsClear =
 pub record AreOwn (own : Tables) (items : List ItemTree) (parents : List Tables) : Type 0 where
   pub rows : own.slots ≡ laid_slots items parents
   pub variables : own.vars ≡ laid_variables items parents 0
-  pub parts : length own.parts ≡ suc (parts_of parents)
+  pub version : ProgId
+  pub parts : own.parts ≡ parts_before parents ++ version ∷ []
 
 -- And so it is for the layout of its own tables.
 abbrev pub FaultlessUnitIsClear : Type 0
