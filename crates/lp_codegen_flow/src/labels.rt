@@ -50,7 +50,7 @@ fn gen_range(from: &i64, to: &i64, labels: &mut Labels, into: &mut Code) -> Resu
     Ok(())
 }
 
-/// `default` stands here. There is one place for it.
+/// `default` stands here. There is one place for it, so a second one is refused.
 fn gen_default(labels: &mut Labels, into: &mut Code) -> Result<(), GenFault>
     ensures { MatchResult result (λ _. (line : ℕ) (s : ScopeOf) → PartStands (parts.Label (kinds.Default line)) labels.old labels.new s s (draft_of into.old) (draft_of into.new)) (Spares (labels.old.other ≡ None)) }
 {

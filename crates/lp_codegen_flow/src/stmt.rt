@@ -40,7 +40,8 @@ fn gen_hidden(e: &Expr, seen: usize, scope: &mut Scope, into: &mut Code) -> Resu
     }
 }
 
-/// The code of a statement, after what is there. Behind it the scope has the locals that are seen there.
+/// The code of a statement, after what is there. Behind it the scope has the locals that are seen there. A clear statement
+/// is refused for want of memory or room alone; then nothing is said of the scope.
 #[cycle(stmt)]
 pub fn gen_stmt(s: &Stmt, scope: &mut Scope, into: &mut Code) -> Result<(), GenFault>
     ensures { MatchResult result (λ _. Stands (stmt_of s.now) scope.old scope.new (draft_of into.old) (draft_of into.new)) (Spares (IsClearStmt (layout_of scope.old.layout) scope.old.locals.items (stmt_of s.now))) }
@@ -142,7 +143,7 @@ fn gen_block(stmts: &Vec<Stmt>, scope: &mut Scope, into: &mut Code) -> Result<()
     Ok(())
 }
 
-/// The code of the statements of a block.
+/// The code of the statements of a block. Clear ones are refused for want of memory or room alone.
 #[cycle(stmt)]
 pub fn gen_stmts(stmts: &Vec<Stmt>, scope: &mut Scope, into: &mut Code) -> Result<(), GenFault>
     ensures { MatchResult result (λ _. AllStand (stmt_trees (map stmt_of stmts.now.items)) scope.old scope.new (draft_of into.old) (draft_of into.new)) (Spares (AreClearStmts (layout_of scope.old.layout) scope.old.locals.items (stmt_trees (map stmt_of stmts.now.items)))) }
