@@ -10,6 +10,7 @@ use Rattle.lp_instr.specs.declared.instr.Instr.TheVariants.{SetGlobal, Pop, Retu
 use Rattle.lp_instr.specs.Code.{Code}
 use Rattle.lp_language.specs.Resolve.{Heritage, Variable, own_variables}
 use Rattle.lp_isa.specs.Translates.{MakesInitialisers}
+use Rattle.lp_codegen_expr.specs.declared.code.Draft.{Draft}
 use Rattle.lp_codegen_expr.specs.declared.code.Draft.TheVariants.{Done}
 use Rattle.lp_codegen_expr.specs.declared.scope.Scope.{Scope}
 use Rattle.lp_codegen_expr.specs.Names.{layout_of}
@@ -17,6 +18,9 @@ use Rattle.lp_codegen_expr.specs.Drafts.{Sketch, Adds, grown, line, of_expr}
 use Rattle.lp_codegen_expr.proofs.Compose.{adds_then, reform, line_none, line_adds, one_adds}
 use Rattle.lp_codegen_flow.specs.Functions.{AreDone}
 use Rattle.lp_codegen_flow.specs.Initialisers.{AddsBare, Initialises, InitialisersStand, of_init_fun, of_initialiser, of_initialisers, variables_of}
+use Rattle.lp_codegen_flow.specs.Led.{Led}
+use Rattle.lp_codegen_flow.proofs.Closing.{led_done}
+use Rattle.lp_codegen_flow.proofs.Loops.{led_adds, recoded}
 
 both : (h : Heritage) (k : ℕ) (vs ws : List Variable) (code : Code) (from mid to : ℕ) → MakesInitialisers h k vs code from mid → MakesInitialisers h (k + length vs) ws code mid to → MakesInitialisers h k (vs ++ ws) code from to
 both h k [] ws code from mid to p q = let e : k + 0 ≡ k = omega arith in subst (λ n. MakesInitialisers h k ws code n to) p (subst (λ j. MakesInitialisers h j ws code mid to) e q)
@@ -77,8 +81,8 @@ pub items_more : (s : Scope) {old mid new : Sketch} {first k next : ℕ} (is : L
 items_more s is i v w = init_as s (own_both is (i ∷ [])) (init_both s (own_variables is) (own_variables (i ∷ [])) v w)
 
 -- as a function
-pub init_stands : (s : Scope) {old mid new : Sketch} {first next from : ℕ} (vs : List Variable) → from ≡ length old.code → Initialises vs first next s old mid → new ≡ grown mid (Done ReturnZero ∷ []) → AreDone new.code from → InitialisersStand vs first s old new
-init_stands s {old} {mid} {new} {first} {next} {from} vs ef w e done = record {
-  code = λ n. adds_then (layout_of s.layout) (of_initialisers first vs) (line (ReturnZero ∷ [])) (of_init_fun first vs) old mid new (w.code n) (one_adds ReturnZero e) (λ a p q. (length mid.code, p, q));
-  done = subst (λ n. AreDone new.code n) ef done;
+pub init_stands : (s : Scope) {old mid new : Sketch} {first next from : ℕ} (vs : List Variable) (led : List Draft) → from ≡ length old.code → Initialises vs first next s old mid → new ≡ grown mid (Done ReturnZero ∷ []) → Led from from (Some from) new.code led → InitialisersStand vs first s old (recoded new led)
+init_stands s {old} {mid} {new} {first} {next} {from} vs led ef w e leads = record {
+  code = λ n. led_adds (of_init_fun first vs) from from (Some from) led ef leads (adds_then (layout_of s.layout) (of_initialisers first vs) (line (ReturnZero ∷ [])) (of_init_fun first vs) old mid new (w.code n) (one_adds ReturnZero e) (λ a p q. (length mid.code, p, q)));
+  done = subst (λ n. AreDone led n) ef (led_done from from from new.code led leads);
 }

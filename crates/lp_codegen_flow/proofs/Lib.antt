@@ -3,6 +3,8 @@ pub mod Closing
 pub mod Forms
 pub mod Initialising
 pub mod Leading
+pub mod Leaving
 pub mod Loops
 pub mod Scopes
+pub mod Sparing
 pub mod Switching

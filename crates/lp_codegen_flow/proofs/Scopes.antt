@@ -14,7 +14,7 @@ use Rattle.lp_isa.specs.Translates.{MakesOnes}
 use Rattle.lp_codegen_expr.specs.declared.code.Draft.TheVariants.{Done}
 use Rattle.lp_codegen_expr.specs.declared.scope.Scope.{Scope}
 use Rattle.lp_codegen_expr.specs.Names.{Plan, layout_of}
-use Rattle.lp_codegen_expr.specs.Drafts.{Sketch, Around, Form, Adds, grown, line, after, of_write_slot}
+use Rattle.lp_codegen_expr.specs.Drafts.{Sketch, Around, Form, Adds, grown, line, of_write_slot}
 use Rattle.lp_codegen_expr.proofs.Compose.{adds_then, reform, line_none, line_adds}
 use Rattle.lp_codegen_flow.specs.Cleared.{of_clears}
 use Rattle.lp_codegen_flow.specs.Flows.{Stands, AllStand, OnesStand, InitStands, EachStands, SecondStands, EachesStand, behind_all, of_stmt, of_stmts, of_value_if, of_ones, of_run, of_each, of_second, of_eaches}

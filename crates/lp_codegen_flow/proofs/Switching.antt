@@ -35,7 +35,7 @@ use Rattle.lp_codegen_flow.specs.declared.labels.Labels.{Labels}
 use Rattle.lp_codegen_flow.specs.Switches.{HasSwitch, OtherFits, PartStands, PartsStand, TableStands, behind_part, behind_parts, declared_part, of_parts, of_table, or_end, row_of}
 use Rattle.lp_codegen_flow.proofs.Clearing.{clear_as, clear_both, slots_both}
 use Rattle.lp_codegen_flow.proofs.Loops.{led_adds, recoded, within}
-use Rattle.lp_codegen_flow.proofs.Scopes.{forgets, there}
+use Rattle.lp_codegen_flow.proofs.Scopes.{forgets}
 
 -- locals that become 0 before the parts
 declared_more : (ps : List (Part Stmt)) (p : Part Stmt) → declared_parts (parts_of (ps ++ p ∷ [])) ≡ declared_parts (parts_of ps) ++ declared_part p

@@ -1,5 +1,5 @@
 -- What it says that code under construction stands for a function.
-use Rattle.std.specs.Prelude.{◌≡◌, ℕ, ⊤, ◌≤◌, ◌<◌, List, Bool, true, false, Option, Some, None, length, slice_get}
+use Rattle.std.specs.Prelude.{◌≡◌, ℕ, ⊤, ◌≤◌, ◌<◌, List, Option, Some, None, length, slice_get}
 use Rattle.lp_tree.specs.Statements.{StmtTrees}
 use Rattle.lp_instr.specs.declared.instr.Instr.TheVariants.{ReturnZero}
 use Rattle.lp_language.specs.Scope.{Names}
@@ -11,11 +11,6 @@ use Rattle.lp_codegen_expr.specs.Names.{layout_of}
 use Rattle.lp_codegen_expr.specs.Drafts.{Sketch, Form, Adds}
 
 -- an instruction, and no open jump
-abbrev pub is_done : Draft → Bool
-is_done (drafts.Done i) = true
-is_done drafts.Break = false
-is_done drafts.Continue = false
-
 abbrev pub IsDone : Option Draft → Type 0
 IsDone None = ⊥
 IsDone (Some (drafts.Done i)) = ⊤

@@ -1,4 +1,6 @@
+pub mod Clear
 pub mod Cleared
+pub mod Closed
 pub mod Flows
 pub mod Functions
 pub mod Initialisers

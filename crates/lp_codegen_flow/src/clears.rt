@@ -1,5 +1,5 @@
 //! The code by which locals become 0 where their declaration may be passed over.
-ghost use Rattle.std.specs.Prelude.{◌≡◌, ◌+◌, ◌++◌, IfOk, OnOk, length};
+ghost use Rattle.std.specs.Prelude.{◌≡◌, ◌≢◌, ◌+◌, ◌++◌, MatchResult, length};
 ghost use Rattle.lp_tree.specs.StatementView.{init_of, stmt_of};
 ghost use Rattle.lp_tree.specs.Pieces.{parts_of};
 ghost use Rattle.lp_language.specs.Scope.{declared, declared_each, declared_first, declared_parts, declared_second, slots_from};
@@ -25,7 +25,7 @@ pub enum Which {
 
 /// The slot behind so many more.
 pub fn past(first: u32, count: usize) -> Result<u32, GenFault>
-    ensures { IfOk result (λ k. k ≡ first + count) }
+    ensures { MatchResult result (λ k. k ≡ first + count) (λ f. f ≢ GenFault.Unclear) }
 {
     match (first as usize).checked_add(count) {
         Some(k) => counted(k),
@@ -74,7 +74,7 @@ fn eaches_count(first: &Each, second: &Option<Each>) -> usize
 
 /// The locals of a declaration, from a slot on, become 0. The answer is the slot behind them.
 fn clear_each(local: &Local, first: u32, into: &mut Code) -> Result<u32, GenFault>
-    ensures { IfOk result (λ k. Cleared (slots_from first (names_in local.now.ones.items)) first (length local.now.ones.items) k (draft_of into.old) (draft_of into.new)) }
+    ensures { MatchResult result (λ k. Cleared (slots_from first (names_in local.now.ones.items)) first (length local.now.ones.items) k (draft_of into.old) (draft_of into.new)) (λ f. f ≢ GenFault.Unclear) }
 {
     let mut slot = first;
     for _one in &local.ones {
@@ -87,7 +87,7 @@ fn clear_each(local: &Local, first: u32, into: &mut Code) -> Result<u32, GenFaul
 /// The locals of a declaration, from a slot on, become 0, where they are among those that do. The answer is the slot
 /// behind them.
 fn clear_local(local: &Local, which: Which, first: u32, into: &mut Code) -> Result<u32, GenFault>
-    ensures { IfOk result (λ k. Cleared (local_by which (names_in local.now.ones.items) first) first (length local.now.ones.items) k (draft_of into.old) (draft_of into.new)) }
+    ensures { MatchResult result (λ k. Cleared (local_by which (names_in local.now.ones.items) first) first (length local.now.ones.items) k (draft_of into.old) (draft_of into.new)) (λ f. f ≢ GenFault.Unclear) }
 {
     match which {
         Which::Loose => past(first, local.ones.len()),
@@ -99,7 +99,7 @@ fn clear_local(local: &Local, which: Which, first: u32, into: &mut Code) -> Resu
 /// Some of the locals of a statement, from a slot on, become 0. The answer is the slot behind all that are seen behind it.
 #[cycle(clears)]
 pub fn gen_clears(s: &Stmt, which: Which, first: u32, into: &mut Code) -> Result<u32, GenFault>
-    ensures { IfOk result (λ k. Cleared (cleared_by which (stmt_of s.now) first) first (length (declared (stmt_of s.now))) k (draft_of into.old) (draft_of into.new)) }
+    ensures { MatchResult result (λ k. Cleared (cleared_by which (stmt_of s.now) first) first (length (declared (stmt_of s.now))) k (draft_of into.old) (draft_of into.new)) (λ f. f ≢ GenFault.Unclear) }
 {
     match s {
         Stmt::Block { .. } => Ok(first),
@@ -152,7 +152,7 @@ pub fn gen_clears(s: &Stmt, which: Which, first: u32, into: &mut Code) -> Result
 /// The same, of a body whose locals are not seen behind its loop.
 #[cycle(clears)]
 fn clear_hidden(body: &Stmt, which: Which, first: u32, into: &mut Code) -> Result<(), GenFault>
-    ensures { OnOk result ((l : Plan) → Adds l (of_clears (hidden_by which (stmt_of body.now) first)) (draft_of into.old) (draft_of into.new)) }
+    ensures { MatchResult result (λ _. (l : Plan) → Adds l (of_clears (hidden_by which (stmt_of body.now) first)) (draft_of into.old) (draft_of into.new)) (λ f. f ≢ GenFault.Unclear) }
 {
     match which {
         Which::Loose => {
@@ -169,7 +169,7 @@ fn clear_hidden(body: &Stmt, which: Which, first: u32, into: &mut Code) -> Resul
 
 /// All locals of a part of a switch, from a slot on, become 0. The answer is the slot behind them.
 fn clear_part(part: &Part<Stmt>, first: u32, into: &mut Code) -> Result<u32, GenFault>
-    ensures { IfOk result (λ k. Cleared (slots_from first (declared_part part.now)) first (length (declared_part part.now)) k (draft_of into.old) (draft_of into.new)) }
+    ensures { MatchResult result (λ k. Cleared (slots_from first (declared_part part.now)) first (length (declared_part part.now)) k (draft_of into.old) (draft_of into.new)) (λ f. f ≢ GenFault.Unclear) }
 {
     match part {
         Part::Label(_) => Ok(first),
@@ -182,7 +182,7 @@ fn clear_part(part: &Part<Stmt>, first: u32, into: &mut Code) -> Result<u32, Gen
 
 /// All locals of the parts of a switch, from a slot on, become 0.
 pub fn clear_parts(parts: &Vec<Part<Stmt>>, first: u32, into: &mut Code) -> Result<(), GenFault>
-    ensures { OnOk result ((l : Plan) → Adds l (of_clears (slots_from first (declared_parts (parts_of parts.now.items)))) (draft_of into.old) (draft_of into.new)) }
+    ensures { MatchResult result (λ _. (l : Plan) → Adds l (of_clears (slots_from first (declared_parts (parts_of parts.now.items)))) (draft_of into.old) (draft_of into.new)) (λ f. f ≢ GenFault.Unclear) }
 {
     let mut slot = first;
     for part in parts {

@@ -1,11 +1,14 @@
 //! The code of the initialisers of a file's variables.
-ghost use Rattle.std.specs.Prelude.{◌∷◌, [], IfOk, List, OnOk, map, option_map};
+ghost use Rattle.std.specs.Prelude.{◌∷◌, [], List, MatchResult, map, option_map};
 ghost use Rattle.lp_tree.specs.declared.keyword.Modifier.{Modifier};
 ghost use Rattle.lp_tree.specs.TreeView.{tree_of};
 ghost use Rattle.lp_tree.specs.StatementView.{declarator_of};
 ghost use Rattle.lp_tree.specs.UnitView.{item_of};
 ghost use Rattle.lp_language.specs.Resolve.{own_variables};
+ghost use Rattle.lp_codegen_expr.specs.Names.{layout_of};
+ghost use Rattle.lp_codegen_expr.specs.Clear.{Spares};
 ghost use Rattle.lp_codegen_expr.specs.Drafts.{draft_of};
+ghost use Rattle.lp_codegen_flow.specs.Clear.{AreClearVariables, IsClearIf};
 ghost use Rattle.lp_codegen_flow.specs.Initialisers.{AddsBare, Initialises, of_initialiser, variables_of};
 
 use crate::clears::past;
@@ -24,7 +27,7 @@ fn gen_initialiser(
     scope: &Scope,
     into: &mut Code,
 ) -> Result<(), GenFault>
-    ensures { OnOk result (AddsBare scope.now (of_initialiser place (option_map tree_of value.now)) (draft_of into.old) (draft_of into.new)) }
+    ensures { MatchResult result (λ _. AddsBare scope.now (of_initialiser place (option_map tree_of value.now)) (draft_of into.old) (draft_of into.new)) (Spares (IsClearIf (layout_of scope.now.layout) scope.now.locals.items (option_map tree_of value.now))) }
 {
     match value {
         Some(e) => {
@@ -43,7 +46,7 @@ fn gen_declared(
     scope: &Scope,
     into: &mut Code,
 ) -> Result<u32, GenFault>
-    ensures { IfOk result (λ k. (ms : List Modifier) → Initialises (variables_of ms (map declarator_of ones.now.items)) first k scope.now (draft_of into.old) (draft_of into.new)) }
+    ensures { MatchResult result (λ k. (ms : List Modifier) → Initialises (variables_of ms (map declarator_of ones.now.items)) first k scope.now (draft_of into.old) (draft_of into.new)) (Spares ((ms : List Modifier) → AreClearVariables (layout_of scope.now.layout) scope.now.locals.items (variables_of ms (map declarator_of ones.now.items)))) }
 {
     let mut place = first;
     for one in ones {
@@ -56,7 +59,7 @@ fn gen_declared(
 /// The code of the initialisers of the variables that an item declares, from a place on. The answer is the place behind
 /// them.
 fn gen_item(item: &Item, first: u32, scope: &Scope, into: &mut Code) -> Result<u32, GenFault>
-    ensures { IfOk result (λ k. Initialises (own_variables (item_of item.now ∷ [])) first k scope.now (draft_of into.old) (draft_of into.new)) }
+    ensures { MatchResult result (λ k. Initialises (own_variables (item_of item.now ∷ [])) first k scope.now (draft_of into.old) (draft_of into.new)) (Spares (AreClearVariables (layout_of scope.now.layout) scope.now.locals.items (own_variables (item_of item.now ∷ [])))) }
 {
     match item {
         Item::Inherit { .. } => Ok(first),
@@ -77,7 +80,7 @@ pub fn gen_items(
     scope: &Scope,
     into: &mut Code,
 ) -> Result<u32, GenFault>
-    ensures { IfOk result (λ k. Initialises (own_variables (map item_of items.now.items)) first k scope.now (draft_of into.old) (draft_of into.new)) }
+    ensures { MatchResult result (λ k. Initialises (own_variables (map item_of items.now.items)) first k scope.now (draft_of into.old) (draft_of into.new)) (Spares (AreClearVariables (layout_of scope.now.layout) scope.now.locals.items (own_variables (map item_of items.now.items)))) }
 {
     let mut place = first;
     for item in items {

@@ -1,9 +1,11 @@
 //! Labels of a switch, and the row that they make.
-ghost use Rattle.std.specs.Prelude.{◌≡◌, IfOk, OnOk, ℕ};
+ghost use Rattle.std.specs.Prelude.{◌≡◌, ◌≢◌, MatchResult, None, is_some, ℕ};
 ghost use Rattle.lp_tree.specs.declared.stmt.Label.TheVariants as kinds;
 ghost use Rattle.lp_tree.specs.declared.stmt.Part.TheVariants as parts;
+ghost use Rattle.lp_codegen_expr.specs.Clear.{Spares};
 ghost use Rattle.lp_codegen_expr.specs.Drafts.{draft_of};
 ghost use Rattle.lp_codegen_expr.specs.declared.scope.Scope.{Scope as ScopeOf};
+ghost use Rattle.lp_codegen_flow.specs.Clear.{IsNew};
 ghost use Rattle.lp_codegen_flow.specs.Switches.{HasSwitch, PartStands, or_end, row_of};
 
 use lp_code::listed::Listed;
@@ -23,7 +25,7 @@ pub struct Labels {
 
 /// A label that compares with a value stands here.
 fn gen_case(value: &Constant, labels: &mut Labels, into: &mut Code) -> Result<(), GenFault>
-    ensures { OnOk result ((line : ℕ) (s : ScopeOf) → PartStands (parts.Label (kinds.Case line value.now)) labels.old labels.new s s (draft_of into.old) (draft_of into.new)) }
+    ensures { MatchResult result (λ _. (line : ℕ) (s : ScopeOf) → PartStands (parts.Label (kinds.Case line value.now)) labels.old labels.new s s (draft_of into.old) (draft_of into.new)) (λ f. f ≢ GenFault.Unclear) }
 {
     let here = into.here()?;
     match value {
@@ -41,16 +43,16 @@ fn gen_case(value: &Constant, labels: &mut Labels, into: &mut Code) -> Result<()
 
 /// A label that compares with the integers of a range stands here.
 fn gen_range(from: &i64, to: &i64, labels: &mut Labels, into: &mut Code) -> Result<(), GenFault>
-    ensures { OnOk result ((line : ℕ) (s : ScopeOf) → PartStands (parts.Label (kinds.Range line from.now to.now)) labels.old labels.new s s (draft_of into.old) (draft_of into.new)) }
+    ensures { MatchResult result (λ _. (line : ℕ) (s : ScopeOf) → PartStands (parts.Label (kinds.Range line from.now to.now)) labels.old labels.new s s (draft_of into.old) (draft_of into.new)) (λ f. f ≢ GenFault.Unclear) }
 {
     let here = into.here()?;
     labels.cases.push(Case::Ints(*from, *to, here))?;
     Ok(())
 }
 
-/// `default` stands here. There is one place for it.
+/// `default` stands here. There is one place for it, so a second one is refused.
 fn gen_default(labels: &mut Labels, into: &mut Code) -> Result<(), GenFault>
-    ensures { OnOk result ((line : ℕ) (s : ScopeOf) → PartStands (parts.Label (kinds.Default line)) labels.old labels.new s s (draft_of into.old) (draft_of into.new)) }
+    ensures { MatchResult result (λ _. (line : ℕ) (s : ScopeOf) → PartStands (parts.Label (kinds.Default line)) labels.old labels.new s s (draft_of into.old) (draft_of into.new)) (Spares (labels.old.other ≡ None)) }
 {
     let here = into.here()?;
     match labels.other {
@@ -64,7 +66,7 @@ fn gen_default(labels: &mut Labels, into: &mut Code) -> Result<(), GenFault>
 
 /// A label stands here.
 pub fn gen_label(label: &Label, labels: &mut Labels, into: &mut Code) -> Result<(), GenFault>
-    ensures { OnOk result ((s : ScopeOf) → PartStands (parts.Label label.now) labels.old labels.new s s (draft_of into.old) (draft_of into.new)) }
+    ensures { MatchResult result (λ _. (s : ScopeOf) → PartStands (parts.Label label.now) labels.old labels.new s s (draft_of into.old) (draft_of into.new)) (Spares (IsNew (is_some labels.old.other) label.now)) }
 {
     match label {
         Label::Case { value, .. } => {
@@ -95,7 +97,7 @@ fn place_or(other: Option<u32>, end: u32) -> u32
 /// The number of one more row of switches: that of these labels, where the end is the place for `default` if none stands
 /// among them.
 pub fn add_switch(labels: Labels, end: u32, into: &mut Code) -> Result<u32, GenFault>
-    ensures { IfOk result (λ k. HasSwitch k (row_of labels end) (draft_of into.old) (draft_of into.new)) }
+    ensures { MatchResult result (λ k. HasSwitch k (row_of labels end) (draft_of into.old) (draft_of into.new)) (λ f. f ≢ GenFault.Unclear) }
 {
     let row = counted(into.switches.len())?;
     let other = place_or(labels.other, end);

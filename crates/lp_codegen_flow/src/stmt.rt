@@ -1,10 +1,13 @@
 //! The code of statements.
-ghost use Rattle.std.specs.Prelude.{ℕ, IfOk, OnOk, Some, map, option_map};
+ghost use Rattle.std.specs.Prelude.{ℕ, MatchResult, Some, false, map, option_map, take};
 ghost use Rattle.lp_tree.specs.TreeView.{tree_of};
 ghost use Rattle.lp_tree.specs.Statements.{Block as BlockTree, DoWhile as DoTree, For as ForTree, Foreach as ForeachTree, MoreStmts, NoStmt, Switch as SwitchTree, While as WhileTree};
 ghost use Rattle.lp_tree.specs.Pieces.{parts_of};
 ghost use Rattle.lp_tree.specs.StatementView.{init_of, stmt_of, stmt_trees};
+ghost use Rattle.lp_codegen_expr.specs.Names.{layout_of};
+ghost use Rattle.lp_codegen_expr.specs.Clear.{IsClear, Spares};
 ghost use Rattle.lp_codegen_expr.specs.Drafts.{draft_of};
+ghost use Rattle.lp_codegen_flow.specs.Clear.{AreClearParts, AreClearStmts, IsClearOver, IsClearStmt, IsClearTurns};
 ghost use Rattle.lp_codegen_flow.specs.Flows.{AllStand, Hidden, OverStands, Stands, TurnsStand};
 ghost use Rattle.lp_codegen_flow.specs.Switches.{PartsStand, TableStands};
 
@@ -24,7 +27,7 @@ use lp_tree::stmt::{Each, Init, Part, Stmt};
 
 /// The code of an expression before which the locals from a place on are not seen. They stay.
 fn gen_hidden(e: &Expr, seen: usize, scope: &mut Scope, into: &mut Code) -> Result<(), GenFault>
-    ensures { OnOk result (Hidden (tree_of e.now) seen scope.old scope.new (draft_of into.old) (draft_of into.new)) }
+    ensures { MatchResult result (λ _. Hidden (tree_of e.now) seen scope.old scope.new (draft_of into.old) (draft_of into.new)) (Spares (IsClear (layout_of scope.old.layout) (take seen scope.old.locals.items) (tree_of e.now))) }
 {
     if seen < scope.locals.len() {
         let mut hidden = scope.locals.split_off(seen)?;
@@ -37,10 +40,11 @@ fn gen_hidden(e: &Expr, seen: usize, scope: &mut Scope, into: &mut Code) -> Resu
     }
 }
 
-/// The code of a statement, after what is there. Behind it the scope has the locals that are seen there.
+/// The code of a statement, after what is there. Behind it the scope has the locals that are seen there. A clear statement
+/// is refused for want of memory or room alone; then nothing is said of the scope.
 #[cycle(stmt)]
 pub fn gen_stmt(s: &Stmt, scope: &mut Scope, into: &mut Code) -> Result<(), GenFault>
-    ensures { OnOk result (Stands (stmt_of s.now) scope.old scope.new (draft_of into.old) (draft_of into.new)) }
+    ensures { MatchResult result (λ _. Stands (stmt_of s.now) scope.old scope.new (draft_of into.old) (draft_of into.new)) (Spares (IsClearStmt (layout_of scope.old.layout) scope.old.locals.items (stmt_of s.now))) }
 {
     match s {
         Stmt::Block { stmts, .. } => {
@@ -131,7 +135,7 @@ pub fn gen_stmt(s: &Stmt, scope: &mut Scope, into: &mut Code) -> Result<(), GenF
 /// The code of a block. Behind it the locals before it are seen.
 #[cycle(stmt)]
 fn gen_block(stmts: &Vec<Stmt>, scope: &mut Scope, into: &mut Code) -> Result<(), GenFault>
-    ensures { OnOk result ((line : ℕ) → Stands (BlockTree line (stmt_trees (map stmt_of stmts.now.items))) scope.old scope.new (draft_of into.old) (draft_of into.new)) }
+    ensures { MatchResult result (λ _. (line : ℕ) → Stands (BlockTree line (stmt_trees (map stmt_of stmts.now.items))) scope.old scope.new (draft_of into.old) (draft_of into.new)) (Spares ((line : ℕ) → IsClearStmt (layout_of scope.old.layout) scope.old.locals.items (BlockTree line (stmt_trees (map stmt_of stmts.now.items))))) }
 {
     let seen = scope.locals.len();
     gen_stmts(stmts, scope, into)?;
@@ -139,10 +143,10 @@ fn gen_block(stmts: &Vec<Stmt>, scope: &mut Scope, into: &mut Code) -> Result<()
     Ok(())
 }
 
-/// The code of the statements of a block.
+/// The code of the statements of a block. Clear ones are refused for want of memory or room alone.
 #[cycle(stmt)]
 pub fn gen_stmts(stmts: &Vec<Stmt>, scope: &mut Scope, into: &mut Code) -> Result<(), GenFault>
-    ensures { OnOk result (AllStand (stmt_trees (map stmt_of stmts.now.items)) scope.old scope.new (draft_of into.old) (draft_of into.new)) }
+    ensures { MatchResult result (λ _. AllStand (stmt_trees (map stmt_of stmts.now.items)) scope.old scope.new (draft_of into.old) (draft_of into.new)) (Spares (AreClearStmts (layout_of scope.old.layout) scope.old.locals.items (stmt_trees (map stmt_of stmts.now.items)))) }
 {
     for s in stmts {
         gen_next(s, scope, into)?;
@@ -153,7 +157,7 @@ pub fn gen_stmts(stmts: &Vec<Stmt>, scope: &mut Scope, into: &mut Code) -> Resul
 /// The code of a statement of a block: before it the locals become 0 whose declaration it may pass over.
 #[cycle(stmt)]
 fn gen_next(s: &Stmt, scope: &mut Scope, into: &mut Code) -> Result<(), GenFault>
-    ensures { OnOk result (AllStand (MoreStmts (stmt_of s.now) NoStmt) scope.old scope.new (draft_of into.old) (draft_of into.new)) }
+    ensures { MatchResult result (λ _. AllStand (MoreStmts (stmt_of s.now) NoStmt) scope.old scope.new (draft_of into.old) (draft_of into.new)) (Spares (IsClearStmt (layout_of scope.old.layout) scope.old.locals.items (stmt_of s.now))) }
 {
     let first = counted(scope.locals.len())?;
     gen_clears(s, Which::Loose, first, into)?;
@@ -164,7 +168,7 @@ fn gen_next(s: &Stmt, scope: &mut Scope, into: &mut Code) -> Result<(), GenFault
 /// The code of a `while`.
 #[cycle(stmt)]
 fn gen_while(body: &Stmt, test: &Expr, scope: &mut Scope, into: &mut Code) -> Result<(), GenFault>
-    ensures { OnOk result ((line : ℕ) → Stands (WhileTree line (tree_of test.now) (stmt_of body.now)) scope.old scope.new (draft_of into.old) (draft_of into.new)) }
+    ensures { MatchResult result (λ _. (line : ℕ) → Stands (WhileTree line (tree_of test.now) (stmt_of body.now)) scope.old scope.new (draft_of into.old) (draft_of into.new)) (Spares ((line : ℕ) → IsClearStmt (layout_of scope.old.layout) scope.old.locals.items (WhileTree line (tree_of test.now) (stmt_of body.now)))) }
 {
     let seen = scope.locals.len();
     let start = into.here()?;
@@ -184,7 +188,7 @@ fn gen_while(body: &Stmt, test: &Expr, scope: &mut Scope, into: &mut Code) -> Re
 /// The code of a `do`.
 #[cycle(stmt)]
 fn gen_do(body: &Stmt, test: &Expr, scope: &mut Scope, into: &mut Code) -> Result<(), GenFault>
-    ensures { OnOk result ((line : ℕ) → Stands (DoTree line (stmt_of body.now) (tree_of test.now)) scope.old scope.new (draft_of into.old) (draft_of into.new)) }
+    ensures { MatchResult result (λ _. (line : ℕ) → Stands (DoTree line (stmt_of body.now) (tree_of test.now)) scope.old scope.new (draft_of into.old) (draft_of into.new)) (Spares ((line : ℕ) → IsClearStmt (layout_of scope.old.layout) scope.old.locals.items (DoTree line (stmt_of body.now) (tree_of test.now)))) }
 {
     let turn = into.here()?;
     into.put(Instr::LoopTurn)?;
@@ -207,7 +211,7 @@ fn gen_for(
     scope: &mut Scope,
     into: &mut Code,
 ) -> Result<(), GenFault>
-    ensures { OnOk result ((line : ℕ) → Stands (ForTree line (init_of init.now) (option_map tree_of test.now) (option_map tree_of step.now) (stmt_of body.now)) scope.old scope.new (draft_of into.old) (draft_of into.new)) }
+    ensures { MatchResult result (λ _. (line : ℕ) → Stands (ForTree line (init_of init.now) (option_map tree_of test.now) (option_map tree_of step.now) (stmt_of body.now)) scope.old scope.new (draft_of into.old) (draft_of into.new)) (Spares ((line : ℕ) → IsClearStmt (layout_of scope.old.layout) scope.old.locals.items (ForTree line (init_of init.now) (option_map tree_of test.now) (option_map tree_of step.now) (stmt_of body.now)))) }
 {
     let seen = scope.locals.len();
     gen_init(init, scope, into)?;
@@ -225,7 +229,7 @@ fn gen_turns(
     scope: &mut Scope,
     into: &mut Code,
 ) -> Result<(), GenFault>
-    ensures { OnOk result (TurnsStand (option_map tree_of test.now) (option_map tree_of step.now) (stmt_of body.now) scope.old scope.new (draft_of into.old) (draft_of into.new)) }
+    ensures { MatchResult result (λ _. TurnsStand (option_map tree_of test.now) (option_map tree_of step.now) (stmt_of body.now) scope.old scope.new (draft_of into.old) (draft_of into.new)) (Spares (IsClearTurns (layout_of scope.old.layout) scope.old.locals.items (option_map tree_of test.now) (option_map tree_of step.now) (stmt_of body.now))) }
 {
     let seen = scope.locals.len();
     let start = into.here()?;
@@ -254,7 +258,7 @@ fn gen_foreach(
     scope: &mut Scope,
     into: &mut Code,
 ) -> Result<(), GenFault>
-    ensures { OnOk result ((line : ℕ) → Stands (ForeachTree line first.now second.now (tree_of over.now) (stmt_of body.now)) scope.old scope.new (draft_of into.old) (draft_of into.new)) }
+    ensures { MatchResult result (λ _. (line : ℕ) → Stands (ForeachTree line first.now second.now (tree_of over.now) (stmt_of body.now)) scope.old scope.new (draft_of into.old) (draft_of into.new)) (Spares ((line : ℕ) → IsClearStmt (layout_of scope.old.layout) scope.old.locals.items (ForeachTree line first.now second.now (tree_of over.now) (stmt_of body.now)))) }
 {
     let seen = scope.locals.len();
     gen_expr(over, scope, into)?;
@@ -273,7 +277,7 @@ fn gen_over(
     scope: &mut Scope,
     into: &mut Code,
 ) -> Result<(), GenFault>
-    ensures { OnOk result (OverStands first.now second.now (stmt_of body.now) scope.old scope.new (draft_of into.old) (draft_of into.new)) }
+    ensures { MatchResult result (λ _. OverStands first.now second.now (stmt_of body.now) scope.old scope.new (draft_of into.old) (draft_of into.new)) (Spares (IsClearOver (layout_of scope.old.layout) scope.old.locals.items first.now second.now (stmt_of body.now))) }
 {
     let start = into.here()?;
     into.put(Instr::Jump(0))?;
@@ -303,7 +307,7 @@ fn gen_switch(
     scope: &mut Scope,
     into: &mut Code,
 ) -> Result<(), GenFault>
-    ensures { OnOk result ((line : ℕ) → Stands (SwitchTree line (tree_of on.now) (parts_of parts.now.items)) scope.old scope.new (draft_of into.old) (draft_of into.new)) }
+    ensures { MatchResult result (λ _. (line : ℕ) → Stands (SwitchTree line (tree_of on.now) (parts_of parts.now.items)) scope.old scope.new (draft_of into.old) (draft_of into.new)) (Spares ((line : ℕ) → IsClearStmt (layout_of scope.old.layout) scope.old.locals.items (SwitchTree line (tree_of on.now) (parts_of parts.now.items)))) }
 {
     let seen = scope.locals.len();
     gen_expr(on, scope, into)?;
@@ -317,7 +321,7 @@ fn gen_switch(
 /// The code of a `switch` behind its value. The locals of its parts are still seen.
 #[cycle(stmt)]
 fn gen_table(parts: &Vec<Part<Stmt>>, scope: &mut Scope, into: &mut Code) -> Result<(), GenFault>
-    ensures { OnOk result (TableStands parts.now.items scope.old scope.new (draft_of into.old) (draft_of into.new)) }
+    ensures { MatchResult result (λ _. TableStands parts.now.items scope.old scope.new (draft_of into.old) (draft_of into.new)) (Spares (AreClearParts (layout_of scope.old.layout) scope.old.locals.items false (parts_of parts.now.items))) }
 {
     let start = into.here()?;
     into.put(Instr::Switch(0))?;
@@ -337,7 +341,7 @@ fn gen_parts(
     scope: &mut Scope,
     into: &mut Code,
 ) -> Result<Labels, GenFault>
-    ensures { IfOk result (λ ks. PartsStand parts.now.items ks scope.old scope.new (draft_of into.old) (draft_of into.new)) }
+    ensures { MatchResult result (λ ks. PartsStand parts.now.items ks scope.old scope.new (draft_of into.old) (draft_of into.new)) (Spares (AreClearParts (layout_of scope.old.layout) scope.old.locals.items false (parts_of parts.now.items))) }
 {
     let mut labels = Labels {
         cases: Vec::new(*into.instrs.allocator()),
