@@ -1,3 +1,4 @@
 pub mod Given
 pub mod Making
+pub mod Standing
 pub mod Translating

@@ -1,5 +1,6 @@
 -- The steps of compiling a file, put together.
-use Rattle.std.proofs.Common.{◌≡◌, ℕ, List, length, map, sym, ap, ◌∙◌, subst, inl, inr}
+use Rattle.std.proofs.Common.{◌≡◌, ℕ, ◌+◌, ◌-◌, List, [], ◌∷◌, ◌++◌, length, map, Some, sym, ap, ◌∙◌, subst, inl, inr, arith, length-append}
+use Rattle.std.specs.Prelude.{slice_get}
 use Rattle.lp_files.specs.declared.store.Store.{Store}
 use Rattle.lp_tree.specs.declared.fault.Fault.{Fault}
 use Rattle.lp_tree.specs.Units.{ItemTree}
@@ -7,15 +8,16 @@ use Rattle.lp_values.specs.declared.id.ProgId.{ProgId}
 use Rattle.lp_code.specs.declared.program.RawProgram.{RawProgram}
 use Rattle.lp_code.specs.declared.tables.Tables.{Tables}
 use Rattle.lp_code.specs.Programs.{code_of, table_of}
-use Rattle.lp_layout.specs.Layout.{IsSpelled}
+use Rattle.lp_layout.specs.Layout.{AreInside, IsSpelled, laid_tables}
 use Rattle.lp_front.specs.declared.read.Declared.{Declared}
 use Rattle.lp_front.specs.Names.{parents_in}
 use Rattle.lp_front.specs.Reading.{HasFault, IsOf, items_of}
-use Rattle.lp_front.specs.Settling.{IsSettled}
+use Rattle.lp_front.specs.Settling.{IsSettled, own_version}
 use Rattle.lp_language.specs.Resolve.{own_variables}
 use Rattle.lp_isa.specs.Programs.{own_functions}
 use Rattle.lp_codegen_expr.specs.Names.{Lays, Plan}
 use Rattle.lp_codegen_layout.specs.Laid.{plan_of}
+use Rattle.lp_codegen_expr.proofs.Compose.{slice_get-seam}
 use Rattle.lp_codegen_unit.specs.declared.finish.UnitCode.{UnitCode}
 use Rattle.lp_codegen_unit.specs.Rows.{initialisers, of_functions}
 use Rattle.lp_codegen_unit.specs.Stands.{IsUnitCode, at}
@@ -26,6 +28,7 @@ use Rattle.lp_compile.specs.Heights.{gains}
 use Rattle.lp_compile.specs.Known.{AreGiven, AreNotGiven, Known}
 use Rattle.lp_compile.specs.Outcomes.{IsAlone, IsMade, IsMadeOf, IsMadeOver, IsRefusedOf, IsRefusedOver}
 use Rattle.lp_compile.specs.Translated.{IsGenerated, rows_of, variables_in}
+use Rattle.lp_compile.proofs.Standing.{stands}
 use Rattle.lp_compile.proofs.Translating.{translated}
 
 -- a program that has the code of a unit
@@ -42,10 +45,11 @@ generated items t ts simuls l first u p el ef code ei et es er eb eh = record {
 }
 
 -- what was made of a unit with the tables of its version
-pub made_over : (path : List ℕ) (d : Declared) (own : ProgId) (ts : List Tables) (simuls : List (List ℕ)) (t : Tables) (p : RawProgram) → IsSpelled (items_of d) → IsSettled path d ts own simuls t → IsMade (items_of d) t ts simuls p → IsMadeOver path d own ts simuls p
-made_over path d own ts simuls t p spelled s m = record {
+pub made_over : (path : List ℕ) (d : Declared) (own : ProgId) (ts : List Tables) (simuls : List (List ℕ)) (t : Tables) (p : RawProgram) → IsSpelled (items_of d) → IsSettled path d ts own simuls t → AreInside (t ∷ []) → IsMade (items_of d) t ts simuls p → IsMadeOver path d own ts simuls p
+made_over path d own ts simuls t p spelled s inside m = record {
   faultless = s.0;
   tables = m.generated.tables ∙ s.1;
+  inside = subst (λ x. AreInside (x ∷ [])) (sym m.generated.tables) inside;
   translates = translated (items_of d) t ts simuls p spelled m.generated;
   sound = m.sound;
 }
@@ -62,6 +66,13 @@ not_given path d known simuls (Need file) h = h
 not_given path d known simuls (Faults fs) h = absurd h
 not_given path d known simuls NoMemory h = h
 
+-- a version stands behind the parts that it inherits
+last_part : (vs : List ProgId) (v : ProgId) → slice_get (vs ++ v ∷ []) (length (vs ++ v ∷ []) - 1) ≡ Some v
+last_part vs v =
+    let n : length (vs ++ v ∷ []) ≡ length vs + 1 = length-append vs (v ∷ []) in
+    let e : length (vs ++ v ∷ []) - 1 ≡ length vs = omega (arith, n) in
+    ap (slice_get (vs ++ v ∷ [])) e ∙ slice_get-seam vs [] v
+
 -- a file that declares a unit
 pub compiles : (files : Store) (path : List ℕ) (d : Declared) (own : ProgId) (known : Known) (simuls : List (List ℕ)) (p : RawProgram) → IsOf files path d → IsMadeOf path d own known simuls p → Compiles files path own known simuls p
 compiles files path d own known simuls p r m = record {
@@ -72,7 +83,10 @@ compiles files path d own known simuls p r m = record {
   given = m.given;
   faultless = m.made.faultless;
   tables = m.made.tables;
+  version = ap own_version m.made.tables ∙ last_part (laid_tables (items_of d) m.parents).parts own;
+  inside = m.made.inside;
   translates = m.made.translates;
+  stands = stands (items_of d) m.parents simuls p m.made.translates;
   sound = m.made.sound;
 }
 

@@ -1,5 +1,5 @@
 -- What it says that a file is compiled.
-use Rattle.std.specs.Prelude.{◌≡◌, ℕ, ⊤, ◌⊎◌, List, [], ◌∷◌, string_bytes}
+use Rattle.std.specs.Prelude.{◌≡◌, ℕ, ⊤, ◌⊎◌, List, [], ◌∷◌, Some, string_bytes}
 use Rattle.lp_files.specs.declared.store.Store.{Store}
 use Rattle.lp_tree.specs.declared.fault.Fault.{Fault}
 use Rattle.lp_tree.specs.declared.pragma.Pragmas.{Pragmas}
@@ -8,16 +8,18 @@ use Rattle.lp_values.specs.declared.id.ProgId.{ProgId}
 use Rattle.lp_code.specs.declared.program.RawProgram.{RawProgram}
 use Rattle.lp_code.specs.declared.tables.Tables.{Tables}
 use Rattle.lp_code.specs.Programs.{IsProgram}
+use Rattle.lp_layout.specs.Layout.{AreInside}
 use Rattle.lp_front.specs.Names.{parents_in}
 use Rattle.lp_front.specs.Reading.{Declares, HasFault}
-use Rattle.lp_front.specs.Settling.{faults_of, tables_of}
+use Rattle.lp_front.specs.Settling.{faults_of, own_version, tables_of}
 use Rattle.lp_compile.specs.Known.{AreGiven, IsFirstMissing, Known}
-use Rattle.lp_compile.specs.Translated.{Translates}
+use Rattle.lp_compile.specs.Translated.{Stands, Translates}
 use Rattle.lp_compile.specs.declared.fault.CompileFault.{CompileFault}
 use Rattle.lp_compile.specs.declared.fault.CompileFault.TheVariants.{Need, Faults, NoMemory}
 
 -- A file was compiled to a program, with this number for its version: it declares a unit, each parent is loaded, the unit has
--- no fault with its parents; the tables are the version's, and the program is sound and the translation of the unit.
+-- no fault with its parents; the tables are the version's and fine for its children, and the program is sound and the
+-- translation of the unit: it stands for each version that the unit has with such parents.
 pub record Compiles (files : Store) (path : List ℕ) (own : ProgId) (known : Known) (simuls : List (List ℕ)) (p : RawProgram) : Type 0 where
   pub items : List ItemTree
   pub pragmas : Pragmas
@@ -26,7 +28,10 @@ pub record Compiles (files : Store) (path : List ℕ) (own : ProgId) (known : Kn
   pub given : AreGiven known (parents_in items) parents
   pub faultless : faults_of path items pragmas parents simuls ≡ []
   pub tables : p.tables ≡ tables_of path items pragmas parents own
+  pub version : own_version p.tables ≡ Some own
+  pub inside : AreInside (p.tables ∷ [])
   pub translates : Translates items parents simuls p
+  pub stands : Stands items parents simuls p
   pub sound : IsProgram p
 
 -- it declares a unit of which this file is the first parent that is not loaded

@@ -6,6 +6,7 @@ use Rattle.lp_values.specs.declared.id.ProgId.{ProgId}
 use Rattle.lp_code.specs.declared.program.RawProgram.{RawProgram}
 use Rattle.lp_code.specs.declared.tables.Tables.{Tables}
 use Rattle.lp_code.specs.Programs.{IsProgram}
+use Rattle.lp_layout.specs.Layout.{AreInside}
 use Rattle.lp_front.specs.declared.read.Declared.{Declared}
 use Rattle.lp_front.specs.Names.{parents_in}
 use Rattle.lp_front.specs.Reading.{items_of}
@@ -30,6 +31,7 @@ pub record IsMade (items : List ItemTree) (t : Tables) (ts : List Tables) (simul
 pub record IsMadeOver (path : List ℕ) (d : Declared) (own : ProgId) (ts : List Tables) (simuls : List (List ℕ)) (p : RawProgram) : Type 0 where
   pub faultless : faults_of path (items_of d) d.pragmas ts simuls ≡ []
   pub tables : p.tables ≡ tables_of path (items_of d) d.pragmas ts own
+  pub inside : AreInside (p.tables ∷ [])
   pub translates : Translates (items_of d) ts simuls p
   pub sound : IsProgram p
 

@@ -6,7 +6,9 @@ use Rattle.lp_code.specs.declared.program.RawProgram.{RawProgram}
 use Rattle.lp_code.specs.declared.tables.Tables.{Tables}
 use Rattle.lp_code.specs.Programs.{code_of}
 use Rattle.lp_language.specs.Resolve.{Heritage, own_variables, parents_of, variables_before, version_of}
-use Rattle.lp_isa.specs.Programs.{AreFuns, FunRow, own_functions}
+use Rattle.lp_isa.specs.Programs.{AreFuns, FunRow, Program, StandsForVersion, own_functions}
+use Rattle.lp_inherit.specs.Heirs.{IsNumbered, IsUnambiguous, table, tables}
+use Rattle.lp_plan_laws.specs.Tables.{IsNamedOnce, table_row}
 use Rattle.lp_codegen_expr.specs.Names.{Lays}
 use Rattle.lp_codegen_layout.specs.Laid.{plan_of, row_names}
 use Rattle.lp_codegen_unit.specs.Rows.{initialisers, of_functions}
@@ -45,3 +47,23 @@ pub record IsOfUnit (is : List ItemTree) (ts : List Tables) (h : Heritage) : Typ
 abbrev pub Translates : List ItemTree → List Tables → List (List ℕ) → RawProgram → Type 0
 Translates items ts simuls p =
     (h : Heritage) → IsOfUnit items ts h → Lays (plan_of p.tables ts simuls) h (code_of p (rows_of ts)) → AreFuns h (code_of p (rows_of ts)) (own_functions items) (map row_of p.funs)
+
+-- An inheritance tree is that of a version of a unit: with these tables, over parents with these tables, compiled with these
+-- names of simul efuns. In none of its files are there more functions than rows can number, or two functions of one name, or
+-- a name of a variable that is used twice; each of these would be a fault of the file.
+pub record IsVersion (is : List ItemTree) (t : Tables) (ts : List Tables) (names : List (List ℕ)) (h : Heritage) : Type 0 where
+  pub items : (version_of h).items ≡ is
+  pub simuls : (version_of h).simuls ≡ names
+  pub own : table h ≡ t
+  pub parents : tables (parents_of h) ≡ ts
+  pub numbered : IsNumbered h
+  pub unambiguous : IsUnambiguous h
+  pub once : IsNamedOnce h
+
+-- a program, as the meaning has it, with the names in the tables of its parents
+abbrev pub program_of : RawProgram → List Tables → Program
+program_of p ts = record { code = code_of p (rows_of ts); funs = map row_of p.funs; table = map table_row p.tables.slots }
+
+-- a program stands for each version of a unit that has its tables
+abbrev pub Stands : List ItemTree → List Tables → List (List ℕ) → RawProgram → Type 0
+Stands items ts names p = (h : Heritage) → IsVersion items p.tables ts names h → StandsForVersion h (program_of p ts)

@@ -24,7 +24,7 @@ abbrev pub Own : List Slot → List Slot → Type 0
 Own all [] = ⊤
 Own all (s ∷ ss) = (slot_named all s.name ≡ Some s) × Own all ss
 
-found_named : (ss : List Slot) (w : List ℕ) (s : Slot) → slot_named ss w ≡ Some s → s.name ≡ w
+pub found_named : (ss : List Slot) (w : List ℕ) (s : Slot) → slot_named ss w ≡ Some s → s.name ≡ w
 found_named [] w s e = absurd cc
 found_named (t ∷ ss) w s e = by (found_named ss w s) (is_name t.name w) refl e
   where
@@ -40,7 +40,7 @@ laid_own : (is : List ItemTree) (ts : List Tables) (ws : List (List ℕ)) → Ow
 laid_own is ts [] = tt
 laid_own is ts (w ∷ ws) = own_with (laid_slots is ts) w (laid_slot is ts w) (laid_for is ts ws) (row_laid is ts w) (laid_own is ts ws)
 
-table_own : (h : Heritage) → Own (table h).slots (table h).slots
+pub table_own : (h : Heritage) → Own (table h).slots (table h).slots
 table_own (Heir n v ps) = laid_own v.items (tables ps) _
 
 -- The last entry of a name among the rows that a parent shows.
