@@ -39,11 +39,11 @@ settle-stops b t (DoBody line) s w = refl
 settle-stops b t (ForBody line i c p) s w = cc
 settle-stops b t (EachBody line f g e) s w = cc
 
-pub settle_goes : (b : Bool) (t u : StmtTree) (f : Frame) (s old : Stack) → old ≡ Inside f s → ended b t f ≡ Some u → settle b t old ≡ settle b u s
-settle_goes b t u f s old e w = ap (settle b t) e ∙ settle-goes b t u f s w
+pub ends_goes : (b : Bool) (t u : StmtTree) (f : Frame) (s : Stack) → ended b t f ≡ Some u → settle b t (Inside f s) ≡ settle b u s
+ends_goes b t u f s w = settle-goes b t u f s w
 
-pub settle_stops : (b : Bool) (t : StmtTree) (f : Frame) (s old : Stack) → old ≡ Inside f s → ended b t f ≡ None → settle b t old ≡ record { stmt = t; stack = Inside f s }
-settle_stops b t f s old e w = ap (settle b t) e ∙ settle-stops b t f s w
+pub ends_stops : (b : Bool) (t u : StmtTree) (f g : Frame) (s s' : Stack) → ended b t f ≡ None → g ≡ f → u ≡ t → s' ≡ Inside g s → settle b t (Inside f s) ≡ record { stmt = u; stack = s' }
+ends_stops b t u f g s s' w same rest e = settle-stops b t f s w ∙ cc
 
 pub after-is : (m : Option Mark) (role : Role) (t : Tree) (s : Stack) → after_some m role (Some t) s ≡ (if is_end m role then Some (used role t s) else None)
 after-is None role t s = refl

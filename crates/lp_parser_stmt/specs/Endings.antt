@@ -7,7 +7,9 @@ use Rattle.lp_tree.specs.Statements.{StmtTree, If, While, For, Foreach, NoElse, 
 use Rattle.lp_tree.specs.StatementView.{stmt_of}
 use Rattle.lp_parser_stmt.specs.declared.ending.Ended.{Ended}
 use Rattle.lp_parser_stmt.specs.declared.ending.Ended.TheVariants as endings
-use Rattle.lp_parser_stmt.specs.Machine.{Frame, IfYes, IfNo, WhileBody, ForBody, EachBody, Role, by_paren}
+use Rattle.lp_parser_stmt.specs.declared.ending.Settled.{Settled}
+use Rattle.lp_parser_stmt.specs.declared.ending.Settled.TheVariants as settleds
+use Rattle.lp_parser_stmt.specs.Machine.{Frame, Stack, Inside, settle, IfYes, IfNo, WhileBody, ForBody, EachBody, Role, by_paren}
 use Rattle.lp_parser_stmt.specs.View.{frame_of}
 
 -- what is whole with its last statement, before a token that is an `else` or not
@@ -24,6 +26,12 @@ abbrev pub Ends : Bool → StmtTree → Frame → Result Ended AllocError → Ty
 Ends b t f (Ok (endings.Whole u)) = ended b t f ≡ Some (stmt_of u)
 Ends b t f (Ok (endings.Stays g u)) = (ended b t f ≡ None) × ((frame_of g ≡ f) × (stmt_of u ≡ t))
 Ends b t f (Err e) = Unit {0}
+
+-- what is round it ends too, and what is round that is next; or none ends any more
+abbrev pub Settles : Bool → StmtTree → Frame → Stack → Stack → Result Settled AllocError → Type 0
+Settles b t f s s' (Ok (settleds.Goes u)) = (settle b t (Inside f s) ≡ settle b (stmt_of u) s) × (s' ≡ s)
+Settles b t f s s' (Ok (settleds.Stops u)) = settle b t (Inside f s) ≡ record { stmt = stmt_of u; stack = s' }
+Settles b t f s s' (Err e) = Unit {0}
 
 -- whether a mark ends what is read for this
 abbrev pub is_end : Option Mark → Role → Bool

@@ -3,7 +3,7 @@ ghost use Rattle.std.specs.Prelude.{◌≡◌, IfOk, option_map};
 ghost use Rattle.lp_tree.specs.StatementView.{init_of, part_trees, stmt_of};
 ghost use Rattle.lp_tree.specs.Statements.{DoWhile, Else, For, Foreach, If, Switch, While};
 ghost use Rattle.lp_tree.specs.TreeView.{tree_of};
-ghost use Rattle.lp_parser_stmt.specs.Endings.{Ends};
+ghost use Rattle.lp_parser_stmt.specs.Endings.{Ends, Settles};
 ghost use Rattle.lp_parser_stmt.specs.Machine.{IfYes, settle as settled};
 ghost use Rattle.lp_parser_stmt.specs.StackView.{stack_of};
 ghost use Rattle.lp_parser_stmt.specs.View.{frame_of, switching_of};
@@ -153,8 +153,36 @@ fn end_frame(alloc: Global, frame: Frame, stmt: Stmt, is_else: bool) -> Result<E
     }
 }
 
+/// How far a token ends statements.
+#[derive(Drop)]
+pub enum Settled {
+    /// The one round it ended too: this is whole, and what is round it is next.
+    Goes(Stmt),
+    /// None ends any more.
+    Stops(Stmt),
+}
+
+// A whole statement in the innermost open one, which was taken from the stack.
+#[tactic(auto, using(crate::proofs::Ends::ends_goes, crate::proofs::Ends::ends_stops))]
+fn settle_frame(
+    alloc: Global,
+    stack: &mut Stack,
+    frame: Frame,
+    stmt: Stmt,
+    is_else: bool,
+) -> Result<Settled, AllocError>
+    ensures { Settles is_else (stmt_of stmt) (frame_of frame) (stack_of stack.old) (stack_of stack.new) result }
+{
+    match end_frame(alloc, frame, stmt, is_else)? {
+        Ended::Whole(whole) => Ok(Settled::Goes(whole)),
+        Ended::Stays(frame, same) => {
+            stack.push(frame)?;
+            Ok(Settled::Stops(same))
+        }
+    }
+}
+
 /// Ends the statements that a token ends, which is an `else` or not. An `else` goes with the nearest `if`.
-#[tactic(auto, using(crate::proofs::Ends::settle_goes, crate::proofs::Ends::settle_stops))]
 pub fn settle(
     alloc: Global,
     stack: &mut Stack,
@@ -165,12 +193,9 @@ pub fn settle(
 {
     let mut stmt = stmt;
     while let Some(frame) = stack.pop() {
-        match end_frame(alloc, frame, stmt, is_else)? {
-            Ended::Whole(whole) => stmt = whole,
-            Ended::Stays(frame, same) => {
-                stack.push(frame)?;
-                return Ok(same);
-            }
+        match settle_frame(alloc, stack, frame, stmt, is_else)? {
+            Settled::Goes(whole) => stmt = whole,
+            Settled::Stops(same) => return Ok(same),
         }
     }
     Ok(stmt)
