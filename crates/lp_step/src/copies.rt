@@ -26,8 +26,8 @@ use lp_world::live::Live;
 use lp_world::objects::ObjectTable;
 use std::alloc::{AllocError, Global};
 
-/// A new array of the items of an array. No array with too many items is ever made: there would be no memory
-/// for another one of that kind.
+/// A new array of the items of an array. One that is longer than an array may be, which no operation makes,
+/// answers as where memory is wanting.
 fn copy_array(alloc: Global, c: CellId, cells: &mut Cells) -> Result<Value, OpFault>
     requires { IsSome (items_at cells.old c) }
     ensures { Meets (array (items_of cells.old c)) cells.old cells.new result }
@@ -48,7 +48,8 @@ fn copy_pairs<L: Living>(alloc: Global, pairs: &Pairs, live: &L) -> Result<Pairs
     Pairs::new(alloc).with_there(pairs, live)
 }
 
-/// A new mapping of the pairs of a mapping that are there. What was said of arrays holds of it too.
+/// A new mapping of the pairs of a mapping that are there. One with more pairs than a mapping may have answers
+/// as where memory is wanting.
 fn copy_mapping<L: Living>(
     alloc: Global,
     c: CellId,

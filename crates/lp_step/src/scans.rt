@@ -56,8 +56,8 @@ fn bad_operand(alloc: Global, number: u64) -> Result<Scanning, StepFault>
     Ok(Scanning::Error(RunError::bad_arg(alloc, number, "sscanf")?))
 }
 
-/// What a form without a fault assigns. No text with too many code points is ever made: there would be no
-/// memory for what comes of it.
+/// What a form without a fault assigns. A text that is longer than a text may be, which no operation makes,
+/// answers as where memory is wanting.
 fn values(alloc: Global, text: &[char], form: &[char]) -> Result<Scanning, StepFault>
     ensures { IfOk result (AreFound (scanned (parts form.now) text.now)) }
 {
