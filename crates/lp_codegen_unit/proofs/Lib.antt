@@ -1,4 +1,5 @@
 pub mod Counting
 pub mod Having
+pub mod Sparing
 pub mod Spelling
 pub mod Standing

@@ -1,28 +1,27 @@
 -- How the code of functions is put together, and how it stands in finished code.
-use Rattle.std.proofs.Common.{◌≡◌, ℕ, zero, suc, ◌+◌, ◌<◌, ◌≤◌, List, [], ◌∷◌, ◌++◌, length, take, map, Option, Some, None, Bool, true, false, refl, sym, ap, ◌∙◌, subst, ⊎_elim, arith, length-append, append_assoc}
+use Rattle.std.proofs.Common.{◌≡◌, ℕ, zero, suc, ◌<◌, ◌≤◌, List, [], ◌∷◌, ◌++◌, length, map, true, false, refl, sym, ap, ◌∙◌, subst, ⊎_elim, arith}
 use Rattle.std.proofs.lemmas.List.{length-map}
 use Rattle.std.specs.Prelude.{slice_get}
 use Rattle.std.proofs.lemmas.Bool.{cases_lt}
 use Rattle.lp_instr.specs.declared.instr.Instr.{Instr}
-use Rattle.lp_instr.specs.Code.{Code}
 use Rattle.lp_code.specs.declared.program.FunRow.{FunRow}
 use Rattle.lp_code.specs.Programs.{table_of}
-use Rattle.lp_language.specs.Resolve.{Function, Heritage, Variable, has_initialiser}
+use Rattle.lp_language.specs.Resolve.{Function, Variable, has_initialiser}
 use Rattle.lp_isa.specs.Programs.{own_functions}
 use Rattle.lp_tree.specs.Units.{ItemTree, Inherit, Proto, Fun, Var}
 use Rattle.lp_codegen_expr.specs.declared.code.Code.{Code as Built}
 use Rattle.lp_codegen_expr.specs.declared.code.Draft.{Draft}
 use Rattle.lp_codegen_expr.specs.declared.code.Draft.TheVariants.{Done}
 use Rattle.lp_codegen_expr.specs.declared.scope.Scope.{Scope}
-use Rattle.lp_codegen_expr.specs.Names.{Plan, Lays, layout_of}
+use Rattle.lp_codegen_expr.specs.Names.{Plan, layout_of}
 use Rattle.lp_codegen_expr.specs.Drafts.{Adds, Around, Form, Has, Sketch, draft_of, resolved}
 use Rattle.lp_codegen_expr.proofs.Compose.{adds_then, line_none, reform}
 use Rattle.lp_codegen_flow.specs.Functions.{AreDone, FunStands, IsDone, of_fun}
-use Rattle.lp_codegen_flow.specs.Initialisers.{InitialisersStand, of_init_fun}
+use Rattle.lp_codegen_flow.specs.Initialisers.{InitialisersStand}
 use Rattle.lp_codegen_unit.specs.declared.finish.UnitCode.{UnitCode}
 use Rattle.lp_codegen_unit.specs.Finish.{Finishes}
 use Rattle.lp_codegen_unit.specs.Rows.{Behind, IsInitRow, IsRow, init_if, initialisers, no_more, of_functions}
-use Rattle.lp_codegen_unit.specs.Stands.{FunctionsStand, HasUnit, IsUnitCode, OneStands, RowsBare, at, function_of}
+use Rattle.lp_codegen_unit.specs.Stands.{FunctionsStand, IsUnitCode, OneStands, RowsBare, at, function_of}
 
 -- Functions and what stands behind them.
 
@@ -160,3 +159,7 @@ unit_code {was} {is} {clear} start mid new b fs vs k rs ss u none same bare v w 
     subst (λ n. of_functions fs (initialisers vs k) u.funs.items (at h code) 0 n) long
     (subst (λ n. of_functions fs (initialisers vs k) u.funs.items (at h code) n (length new.code)) none
     (subst (λ x. of_functions fs (initialisers vs k) x (at h code) (length start.code) (length new.code)) (sym f.funs) made))
+
+-- no jump is open in a whole unit
+pub all_done : {was is clear : Scope} {fs : List Function} {rs ss : List FunRow} (vs : List Variable) (k : ℕ) (start mid new : Sketch) → length start.code ≡ 0 → clear.locals.items ≡ [] → FunctionsStand fs rs was is start mid → RowsBare clear (initialisers vs k) ss mid new → AreDone new.code 0
+all_done {was} {is} {clear} {fs} {rs} {ss} vs k start mid new none bare v w = subst (AreDone new.code) none (both_done start v.done (w.code bare) w.done)

@@ -10,6 +10,7 @@ use Rattle.lp_language.specs.Resolve.{Function, Heritage, Variable}
 use Rattle.lp_codegen_expr.specs.declared.scope.Scope.{Scope}
 use Rattle.lp_codegen_expr.specs.Names.{Plan, Lays, layout_of}
 use Rattle.lp_codegen_expr.specs.Drafts.{Adds, Around, Sketch}
+use Rattle.lp_codegen_flow.specs.Clear.{AreClearVariables, IsClearFun}
 use Rattle.lp_codegen_flow.specs.Functions.{AreDone, of_fun}
 use Rattle.lp_codegen_unit.specs.Rows.{Behind, IsRow, initialisers, no_more, of_functions}
 use Rattle.lp_codegen_unit.specs.declared.finish.UnitCode.{UnitCode}
@@ -49,6 +50,16 @@ pub record HasUnit (u : UnitCode) (code : Code) : Type 0 where
   pub instrs : code.instrs ≡ u.instrs.items
   pub texts : code.texts ≡ u.texts.items
   pub switches : code.switches ≡ map table_of u.switches.items
+
+-- the statements of functions are clear, where their parameters are seen
+abbrev pub AreClear : Plan → List Function → Type 0
+AreClear l [] = Unit {0}
+AreClear l (f ∷ fs) = IsClearFun l f.parameters f.body × AreClear l fs
+
+-- and so are the initialisers, where no local is seen
+pub record IsClearUnit (l : Plan) (fs : List Function) (vs : List Variable) : Type 0 where
+  pub functions : AreClear l fs
+  pub variables : AreClearVariables l [] vs
 
 -- What is made of a unit: in every finished code that has it, and whose names are laid out so, its functions are translated
 -- one behind another from the first instruction to the last, and then its initialisers, where there are some.

@@ -1,12 +1,15 @@
 //! The code of the functions of a unit.
-ghost use Rattle.std.specs.Prelude.{◌≡◌, ◌∷◌, [], IfOk, List, map};
+ghost use Rattle.std.specs.Prelude.{◌≡◌, ◌≢◌, ◌∷◌, [], IfOk, List, MatchResult, map};
 ghost use Rattle.lp_tree.specs.declared.keyword.Modifier.{Modifier};
 ghost use Rattle.lp_tree.specs.StatementView.{stmt_of, stmt_trees};
 ghost use Rattle.lp_tree.specs.UnitView.{item_of};
 ghost use Rattle.lp_isa.specs.Programs.{own_functions};
 ghost use Rattle.lp_codegen_expr.specs.Drafts.{draft_of};
+ghost use Rattle.lp_codegen_expr.specs.Clear.{Spares};
+ghost use Rattle.lp_codegen_expr.specs.Names.{layout_of};
+ghost use Rattle.lp_codegen_flow.specs.Clear.{IsClearFun};
 ghost use Rattle.lp_codegen_unit.specs.Rows.{IsRow};
-ghost use Rattle.lp_codegen_unit.specs.Stands.{FunctionsStand, OneStands, function_of, option_list};
+ghost use Rattle.lp_codegen_unit.specs.Stands.{AreClear, FunctionsStand, OneStands, function_of, option_list};
 
 use crate::letters::name_of;
 use crate::rows::{add_row, locals_count, params_count};
@@ -39,7 +42,7 @@ fn fun_row(
     stmts: &Vec<Stmt>,
     from: u32,
 ) -> Result<FunRow, GenFault>
-    ensures { IfOk result (λ r. (ms : List Modifier) → IsRow (function_of ms name.now params.now (stmt_trees (map stmt_of stmts.now.items))) from r) }
+    ensures { MatchResult result (λ r. (ms : List Modifier) → IsRow (function_of ms name.now params.now (stmt_trees (map stmt_of stmts.now.items))) from r) (λ f. f ≢ GenFault.Unclear) }
 {
     let count = params_count(params.len())?;
     let locals = slots_in_all(stmts, count as u32)?;
@@ -51,7 +54,8 @@ fn fun_row(
     })
 }
 
-/// The code of a function, behind what is there, with its row. Afterwards the locals of the scope are its parameters.
+/// The code of a function, behind what is there, with its row. Afterwards the locals of the scope are its parameters. What is
+/// clear is refused for want of memory or room alone.
 fn gen_one(
     alloc: Global,
     name: &Chars,
@@ -60,7 +64,7 @@ fn gen_one(
     scope: &mut Scope,
     into: &mut Code,
 ) -> Result<FunRow, GenFault>
-    ensures { IfOk result (λ r. (ms : List Modifier) → OneStands (function_of ms name.now params.now (stmt_trees (map stmt_of stmts.now.items))) r scope.old scope.new (draft_of into.old) (draft_of into.new)) }
+    ensures { MatchResult result (λ r. (ms : List Modifier) → OneStands (function_of ms name.now params.now (stmt_trees (map stmt_of stmts.now.items))) r scope.old scope.new (draft_of into.old) (draft_of into.new)) (Spares (IsClearFun (layout_of scope.old.layout) (map (λ p. p.name) params.now) (stmt_trees (map stmt_of stmts.now.items)))) }
 {
     let from = into.here()?;
     let row = fun_row(alloc, name, params, stmts, from)?;
@@ -76,7 +80,7 @@ fn gen_item(
     scope: &mut Scope,
     into: &mut Code,
 ) -> Result<Option<FunRow>, GenFault>
-    ensures { IfOk result (λ r. FunctionsStand (own_functions (item_of item.now ∷ [])) (option_list r) scope.old scope.new (draft_of into.old) (draft_of into.new)) }
+    ensures { MatchResult result (λ r. FunctionsStand (own_functions (item_of item.now ∷ [])) (option_list r) scope.old scope.new (draft_of into.old) (draft_of into.new)) (Spares (AreClear (layout_of scope.old.layout) (own_functions (item_of item.now ∷ [])))) }
 {
     match item {
         Item::Inherit { .. } => Ok(None),
@@ -102,7 +106,7 @@ pub(crate) fn gen_functions(
     scope: &mut Scope,
     into: &mut Code,
 ) -> Result<Vec<FunRow>, GenFault>
-    ensures { IfOk result (λ v. FunctionsStand (own_functions (map item_of items.now.items)) v.items scope.old scope.new (draft_of into.old) (draft_of into.new)) }
+    ensures { MatchResult result (λ v. FunctionsStand (own_functions (map item_of items.now.items)) v.items scope.old scope.new (draft_of into.old) (draft_of into.new)) (Spares (AreClear (layout_of scope.old.layout) (own_functions (map item_of items.now.items)))) }
 {
     let mut rows = Vec::new(alloc);
     for item in items {

@@ -1,9 +1,12 @@
 //! The code of the initialisers of a unit's variables.
-ghost use Rattle.std.specs.Prelude.{◌≡◌, IfOk, is_some, map};
+ghost use Rattle.std.specs.Prelude.{◌≡◌, MatchResult, is_some, map};
 ghost use Rattle.std.specs.List.{list_any};
 ghost use Rattle.lp_tree.specs.UnitView.{item_of};
 ghost use Rattle.lp_language.specs.Resolve.{own_variables};
+ghost use Rattle.lp_codegen_expr.specs.Clear.{Spares};
 ghost use Rattle.lp_codegen_expr.specs.Drafts.{draft_of};
+ghost use Rattle.lp_codegen_expr.specs.Names.{layout_of};
+ghost use Rattle.lp_codegen_flow.specs.Clear.{AreClearVariables};
 ghost use Rattle.lp_codegen_unit.specs.Rows.{declares_one, initialisers as behind};
 ghost use Rattle.lp_codegen_unit.specs.Stands.{RowsBare, option_list};
 
@@ -51,7 +54,7 @@ pub(crate) fn gen_last(
     scope: &Scope,
     into: &mut Code,
 ) -> Result<Option<FunRow>, GenFault>
-    ensures { IfOk result (λ r. RowsBare scope.now (behind (own_variables (map item_of items.now.items)) first) (option_list r) (draft_of into.old) (draft_of into.new)) }
+    ensures { MatchResult result (λ r. RowsBare scope.now (behind (own_variables (map item_of items.now.items)) first) (option_list r) (draft_of into.old) (draft_of into.new)) (Spares (AreClearVariables (layout_of scope.now.layout) scope.now.locals.items (own_variables (map item_of items.now.items)))) }
 {
     if !has_initialiser(items.as_slice()) {
         return Ok(None);

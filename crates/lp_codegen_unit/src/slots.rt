@@ -1,5 +1,5 @@
 //! How many slots the locals of a function take.
-ghost use Rattle.std.specs.Prelude.{◌≡◌, ◌+◌, ◌++◌, IfOk, length, map, max};
+ghost use Rattle.std.specs.Prelude.{◌≡◌, ◌≢◌, ◌++◌, MatchResult, length, map, max};
 ghost use Rattle.lp_tree.specs.Pieces.{parts_of};
 ghost use Rattle.lp_tree.specs.StatementView.{init_of, stmt_of, stmt_trees};
 ghost use Rattle.lp_language.specs.Scope.{declared_each, declared_first, declared_second, slots_in_all as slots_of_all};
@@ -82,7 +82,7 @@ fn both(first: Used, second: Used) -> Used
 /// The slots that a statement takes, where those before `first` are in use.
 #[cycle(slots)]
 pub fn slots_in(s: &Stmt, first: u32) -> Result<Used, GenFault>
-    ensures { IfOk result (UsesSlots (stmt_of s.now) first) }
+    ensures { MatchResult result (UsesSlots (stmt_of s.now) first) (λ f. f ≢ GenFault.Unclear) }
 {
     match s {
         Stmt::Block { stmts, .. } => {
@@ -141,7 +141,7 @@ pub fn slots_in(s: &Stmt, first: u32) -> Result<Used, GenFault>
 /// How many slots are in use at most in statements, where those before `first` are.
 #[cycle(slots)]
 pub fn slots_in_all(stmts: &Vec<Stmt>, first: u32) -> Result<u32, GenFault>
-    ensures { IfOk result (λ n. n ≡ slots_of_all (stmt_trees (map stmt_of stmts.now.items)) first) }
+    ensures { MatchResult result (λ n. n ≡ slots_of_all (stmt_trees (map stmt_of stmts.now.items)) first) (λ f. f ≢ GenFault.Unclear) }
 {
     let mut used = Used {
         most: 0,
@@ -157,7 +157,7 @@ pub fn slots_in_all(stmts: &Vec<Stmt>, first: u32) -> Result<u32, GenFault>
 // The slots that the parts of a switch take: at most, and behind all that they declare.
 #[cycle(slots)]
 fn slots_in_parts(parts: &Vec<Part<Stmt>>, first: u32) -> Result<Used, GenFault>
-    ensures { IfOk result (UsesParts (parts_of parts.now.items) first) }
+    ensures { MatchResult result (UsesParts (parts_of parts.now.items) first) (λ f. f ≢ GenFault.Unclear) }
 {
     let mut used = Used {
         most: 0,

@@ -1,8 +1,11 @@
-use Rattle.std.proofs.Common.{◌≡◌, ◌+◌, ◌<◌, ◌∷◌, [], ◌++◌, length, get_or, map, take, refl, sym, ap, ◌∙◌, arith}
+use Rattle.std.proofs.Common.{◌≡◌, ◌+◌, ◌<◌, ◌∷◌, [], ◌++◌, length, get_or, map, take, refl, sym, ap, ◌∙◌, subst, arith}
 use Rattle.std.proofs.lemmas.List.{take_all, take_more, map_push}
 use Rattle.lp_tree.specs.UnitView.{item_of}
 use Rattle.lp_isa.specs.Programs.{own_functions}
-use Rattle.lp_codegen_unit.specs.Stands.{option_list}
+use Rattle.lp_codegen_expr.specs.Names.{layout_of}
+use Rattle.lp_codegen_expr.proofs.Refusals.{at_exit}
+use Rattle.lp_codegen_unit.specs.Stands.{AreClear, option_list}
+use Rattle.lp_codegen_unit.proofs.Sparing.{item_clear}
 use Rattle.lp_codegen_unit.proofs.Standing.{functions_as, functions_none, items_more}
 use Rattle.lp_codegen_unit.proofs.functions.gen_functions.Goals as goal
 
@@ -23,3 +26,13 @@ pub returns : goal.returns
 returns c =
     let all = c.args.items.now.items in
     functions_as (ap (λ l. own_functions (map item_of l)) (take_all c.loop-item.item-index all (omega (arith, ap length c.deref-item-items.ensures.value)))) refl c.loop-item.invariant
+
+pub returns-in_err-row : goal.returns-in_err-row
+returns-in_err-row c =
+    let all = c.args.items.now.items in
+    let i = c.loop-item.item-index in
+    let x = c.item-item.result in
+    let lt : i < length all = omega (arith, c.loop-item-test.true, ap length c.deref-item-items.ensures.value) in
+    let is : x ≡ get_or all i x = c.item-item.is ∙ ap (λ l. get_or l i x) c.deref-item-items.ensures.value in
+    at_exit _ _ _ _ c.from_residual.ensures.1
+    (λ u k. c.in_err-row.ensures u (subst (λ y. AreClear (layout_of y) (own_functions (item_of x ∷ []))) (sym c.loop-item.invariant.layout) (item_clear (layout_of c.args.scope.now.layout) all i x lt is k)))
