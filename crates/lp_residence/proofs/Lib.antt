@@ -1,0 +1,6 @@
+pub mod PackedRecords
+pub mod Counting
+pub mod Filing
+pub mod RowChanges
+pub mod VersionChanges
+pub mod Putting

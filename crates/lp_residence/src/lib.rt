@@ -1,0 +1,11 @@
+//! What of the live state is in memory and what is out in the swap file: objects and programs go out,
+//! come back, and end.
+//!
+//! Whatever is out, the state stands for the same world.
+#![tactic(auto)]
+
+pub mod answers;
+mod objects;
+pub mod owner;
+mod packing;
+mod residence;

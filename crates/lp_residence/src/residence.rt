@@ -1,0 +1,35 @@
+//! Where objects and programs are.
+ghost use Rattle.lp_residence.specs.Residence.{IsResidence};
+
+use lp_values::id::ObjId;
+use lp_world::objects::{ObjectState, ObjectTable};
+
+/// Where something is.
+#[derive(Clone, Copy, Debug, PartialEq, Eq)]
+pub(crate) enum Residence {
+    /// There is none.
+    Missing,
+    /// It is in memory.
+    Inside,
+    /// It is out.
+    Outside,
+}
+
+/// Where a live object is.
+#[tactic(auto, unfolding(lp_world::specs::Rows::live_in))]
+pub(crate) fn object_residence(objects: &ObjectTable, ob: ObjId) -> Residence
+    ensures { IsResidence objects.now ob result }
+{
+    match objects.get(ob) {
+        Some(o) => {
+            if !o.is_live {
+                return Residence::Missing;
+            }
+            match &o.state {
+                ObjectState::Resident(_) => Residence::Inside,
+                ObjectState::Swapped { .. } => Residence::Outside,
+            }
+        }
+        None => Residence::Missing,
+    }
+}
