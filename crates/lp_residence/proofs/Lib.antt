@@ -4,3 +4,5 @@ pub mod Filing
 pub mod RowChanges
 pub mod VersionChanges
 pub mod Putting
+pub mod Unpacked
+pub mod Entered

@@ -11,6 +11,7 @@ use Rattle.lp_values.specs.declared.value.Value.TheVariants.{Int, Str, Arr, Map,
 use Rattle.lp_cells.specs.Cells.{IsThere, Store, as_items, as_pairs, content_at}
 use Rattle.lp_cells.specs.declared.content.Content.{Content}
 use Rattle.lp_code.specs.declared.program.RawProgram.{RawProgram}
+use Rattle.lp_encoding.specs.Programs.{IsEncoding}
 use Rattle.lp_image.specs.Image.{IsRecord, image}
 use Rattle.lp_swapfile.specs.Device.{AreSameOutside, Bytes, Holds, HoldsWhereTold, IsTold}
 use Rattle.lp_swapfile.specs.Room.{AreTaken, Room, after_take, covers, place_for}
@@ -23,7 +24,7 @@ use Rattle.lp_language.specs.World.{World}
 use Rattle.lp_world.specs.Closed.{IsClosed, IsObjectClosed, extents_of, object_extents, version_extents}
 use Rattle.lp_world.specs.Records.{shared_in}
 use Rattle.lp_world.specs.Rows.{object_ticket, program_ticket, row_at, variables_at, variables_in, variables_of, version_state, version_with_state}
-use Rattle.lp_world.specs.Stands.{IsObject, IsOut, IsOwn, IsVersion, Stands, VariablesAre}
+use Rattle.lp_world.specs.Stands.{IsObject, IsOut, IsOwn, IsVersion, ProgramIs, Stands, VariablesAre}
 use Rattle.lp_world.specs.declared.live.Live.{Live}
 use Rattle.lp_world.specs.declared.objects.Object.{Object}
 use Rattle.lp_world.specs.declared.objects.ObjectState.{ObjectState}
@@ -33,7 +34,7 @@ use Rattle.lp_world.specs.declared.versions.ProgramState.TheVariants as programs
 use Rattle.lp_world.specs.declared.versions.Version.{Version}
 use Rattle.lp_world.proofs.Keeping.{resident_same}
 use Rattle.lp_residence.specs.Owners.{IsObjectImage, IsVersionImage, cells_named, gone, out_row, program_image, program_of, record_of, with_room}
-use Rattle.lp_residence.specs.Puts.{IsPut, IsWrittenFree, WentOut}
+use Rattle.lp_residence.specs.Puts.{AreTakenStill, IsPut, IsWrittenFree, WentOut}
 use Rattle.lp_residence.specs.declared.owner.Owner.{Owner}
 use Rattle.lp_residence.specs.declared.owner.Owner.TheVariants as owners
 use Rattle.lp_residence.specs.declared.answers.PutOut.{PutOut}
@@ -162,3 +163,142 @@ closed_out_object live o row vs bytes t h e r k =
 
     no_variables : (us : List Value) → None ≡ Some us → ⊥
     no_variables us q = cc
+
+-- Programs
+
+pub resident_version : (r : Option Version) (p : RawProgram) → program_of (version_state r) ≡ Some p → (v : Version) × (r ≡ Some v) × (v.state ≡ programs_of.Resident p)
+resident_version None p e = cc
+resident_version (Some v) p e = (v, refl, resident_program v.state p e)
+  where
+    resident_program : (s : ProgramState) (p : RawProgram) → program_of (Some s) ≡ Some p → s ≡ programs_of.Resident p
+    resident_program (programs_of.Resident q) p e = ap (λ o. programs_of.Resident (unwrap_or o q)) e
+    resident_program (programs_of.Swapped t) p e = cc
+
+-- a version whose program goes out
+abbrev out_version : Version → Ticket → Version
+out_version v t = record v { state = programs_of.Swapped t }
+
+program_same : (told : Option Bytes) (p q : RawProgram) (s : ProgramState) → s ≡ programs_of.Resident p → ProgramIs told q s → p ≡ q
+program_same told p q s e h = subst (ProgramIs told q) e h
+
+stands_out_version : (told : Option Bytes) (programs : List RawProgram) (live : Live) (w : World) (n : ℕ) (v : Version) (p : RawProgram) (encoding : List ℕ) (t : Ticket)
+    → Stands told programs live w → slice_get live.versions n ≡ Some (Some v) → v.state ≡ programs_of.Resident p
+    → IsEncoding p encoding → IsOutAt told t (program_image encoding)
+    → Stands told programs (record live { versions = slice_set live.versions n (Some (out_version v t)) }) w
+stands_out_version told programs live w n v p encoding t h e r encodes out =
+    let is = h.versions.each n v e in
+    let same : p ≡ is.program = program_same told p is.program v.state r is.state in
+    stands_with_version told programs live w n v (out_version v t) h e (record {
+      version = is.version;
+      there = is.there;
+      latest = is.latest;
+      parents = is.parents;
+      program = is.program;
+      is = is.is;
+      outline = is.outline;
+      state = record { bytes = encoding; encoding = subst (λ x. IsEncoding x encoding) same encodes; out = out };
+      targets = is.targets;
+    })
+
+closed_out_version : (live : Live) (n : ℕ) (v : Version) (p : RawProgram) (bytes : List ℕ) (t : Ticket)
+    → IsClosed live → slice_get live.versions n ≡ Some (Some v) → v.state ≡ programs_of.Resident p → IsTicketOf bytes live.swapper t
+    → IsClosed (record live { versions = slice_set live.versions n (Some (out_version v t)); swapper = after_take (length bytes) live.swapper })
+closed_out_version live n v p bytes t h e r k =
+    let was = h.versions n v e in
+    let old_extents : version_extents (Some v) ≡ [] = ap (λ s. option_to_list (option_map extent_of (program_ticket s))) r in
+    closed_with_version live n v (out_version v t) (after_take (length bytes) live.swapper) h e refl (record {
+      lower = was.lower;
+      parents = was.parents;
+      parts = was.parts;
+      variables = was.variables;
+      program = λ q s. absurd (no_program q s);
+    }) (more_taken (extents_of live.objects live.versions) (extents_of live.objects (slice_set live.versions n (Some (out_version v t)))) bytes live.swapper t k
+        (let a = row_counts version_extents length length-append live.versions n (Some v) (Some (out_version v t)) e in
+         let z = ap (λ l. length l) old_extents in
+         let x = length-append ox (flat_map version_extents live.versions) in
+         let y = length-append ox (flat_map version_extents (slice_set live.versions n (Some (out_version v t)))) in
+         omega (arith, a, z, x, y))
+        (λ i.
+         let a = row_counts version_extents (covers i) (covers-append i) live.versions n (Some v) (Some (out_version v t)) e in
+         let z = ap (covers i) old_extents in
+         let x = covers-append i ox (flat_map version_extents live.versions) in
+         let y = covers-append i ox (flat_map version_extents (slice_set live.versions n (Some (out_version v t)))) in
+         omega (arith, a, z, x, y))
+        h.room)
+  where
+    ox : List Extent
+    ox = flat_map object_extents live.objects
+
+    no_program : (q : RawProgram) → programs_of.Swapped t ≡ programs_of.Resident q → ⊥
+    no_program q s = cc
+
+-- Both
+
+stands_gone : (who : Owner) (old new : Live) (told : Option Bytes) (programs : List RawProgram) (w : World)
+    → WentOut who old new told → IsTold told → Stands told programs old w → Stands told programs new w
+stands_gone (owners.Object o) old new told programs w g is h =
+    let i = g.image in
+    let r = resident_row (row_at old.objects o.0) i.values i.here in
+    let e = row_there old.objects o.0 r.0 r.1 in
+    subst (λ l. Stands told programs l w) (sym g.after)
+    (stands_in_room told programs (gone old (owners.Object o) g.ticket) w (after_take (length g.bytes) old.swapper)
+    (subst (λ x. Stands told programs (record old { objects = slice_set old.objects o.0 x }) w)
+        (sym (out_row_is (row_at old.objects o.0) r.0 (variables_at old.objects o) i.values g.ticket r.1 i.here))
+        (stands_out_object told programs old w o r.0 i.values g.ticket h e r.2 i.fits
+            (subst (IsOutAt told g.ticket) i.spelled (out_at told old.swapper g.ticket g.bytes is g.is_for g.held)))))
+stands_gone (owners.Program p) old new told programs w g is h =
+    let i = g.image in
+    let r = resident_version (row_at old.versions p.0) i.program i.here in
+    let e = row_there old.versions p.0 r.0 r.1 in
+    subst (λ l. Stands told programs l w) (sym g.after)
+    (stands_in_room told programs (gone old (owners.Program p) g.ticket) w (after_take (length g.bytes) old.swapper)
+    (subst (λ x. Stands told programs (record old { versions = slice_set old.versions p.0 (version_with_state x (programs_of.Swapped g.ticket)) }) w)
+        (sym r.1)
+        (stands_out_version told programs old w p.0 r.0 i.program i.image_is.encoding g.ticket h e r.2 i.image_is.encodes
+            (subst (IsOutAt told g.ticket) i.image_is.spelled (out_at told old.swapper g.ticket g.bytes is g.is_for g.held)))))
+
+closed_gone : (who : Owner) (old new : Live) (told : Option Bytes) → WentOut who old new told → IsClosed old → IsClosed new
+closed_gone (owners.Object o) old new told g h =
+    let i = g.image in
+    let r = resident_row (row_at old.objects o.0) i.values i.here in
+    let e = row_there old.objects o.0 r.0 r.1 in
+    subst IsClosed (sym g.after)
+    (subst (λ x. IsClosed (record old { objects = slice_set old.objects o.0 x; swapper = after_take (length g.bytes) old.swapper }))
+        (sym (out_row_is (row_at old.objects o.0) r.0 (variables_at old.objects o) i.values g.ticket r.1 i.here))
+        (closed_out_object old o r.0 i.values g.bytes g.ticket h e r.2 g.is_for))
+closed_gone (owners.Program p) old new told g h =
+    let i = g.image in
+    let r = resident_version (row_at old.versions p.0) i.program i.here in
+    let e = row_there old.versions p.0 r.0 r.1 in
+    subst IsClosed (sym g.after)
+    (subst (λ x. IsClosed (record old { versions = slice_set old.versions p.0 (version_with_state x (programs_of.Swapped g.ticket)); swapper = after_take (length g.bytes) old.swapper }))
+        (sym r.1)
+        (closed_out_version old p.0 r.0 i.program g.bytes g.ticket h e r.2 g.is_for))
+
+-- whatever was put out or kept, the state stands for the same worlds
+pub stands_after_put : (who : Owner) (old new : Live) (told0 told : Option Bytes) (r : Result PutOut AllocError) (programs : List RawProgram) (w : World)
+    → IsPut who old new told r → IsWrittenFree old.swapper told0 told → IsClosed old → IsTold told0 → Stands told0 programs old w → Stands told programs new w
+stands_after_put who old new told0 told (Ok puts.Out) programs w p f c is h =
+    stands_gone who old new told programs w p (told_still told0 told (place_for f.len old.swapper) f.len f.others is) (stands_still told0 told programs old w c.room f h)
+stands_after_put who old new told0 told (Ok puts.NotThere) programs w p f c is h = subst (λ l. Stands told programs l w) (sym p.1) (stands_still told0 told programs old w c.room f h)
+stands_after_put who old new told0 told (Ok puts.Already) programs w p f c is h = subst (λ l. Stands told programs l w) (sym p.after) (stands_still told0 told programs old w c.room f h)
+stands_after_put who old new told0 told (Ok puts.KeptFault) programs w p f c is h =
+    subst (λ l. Stands told programs l w) (sym p.after) (stands_in_room told programs old w _ (stands_still told0 told programs old w c.room f h))
+stands_after_put who old new told0 told (Ok puts.KeptFull) programs w p f c is h = subst (λ l. Stands told programs l w) (sym p.after) (stands_still told0 told programs old w c.room f h)
+stands_after_put who old new told0 told (Err e) programs w p f c is h = subst (λ l. Stands told programs l w) (sym p) (stands_still told0 told programs old w c.room f h)
+
+-- a closed state in another room
+closed_in_room : (live : Live) (r : Room) → IsClosed live → AreTaken (extents_of live.objects live.versions) r → IsClosed (with_room live r)
+closed_in_room live r h t = record { clock = h.clock; cells = h.cells; objects = h.objects; apart = h.apart; versions = h.versions; call_outs = h.call_outs; waiting = h.waiting; room = t }
+
+-- and it is closed
+pub closed_after_put : (who : Owner) (old new : Live) (told : Option Bytes) (r : Result PutOut AllocError)
+    → IsPut who old new told r → AreTakenStill r old.swapper new.swapper → IsClosed old → IsClosed new
+closed_after_put who old new told (Ok puts.Out) p k c = closed_gone who old new told p c
+closed_after_put who old new told (Ok puts.NotThere) p k c = subst IsClosed (sym p.1) c
+closed_after_put who old new told (Ok puts.Already) p k c = subst IsClosed (sym p.after) c
+closed_after_put who old new told (Ok puts.KeptFault) p k c =
+    let s = ap (λ l. l.swapper) p.after in
+    subst IsClosed (sym p.after) (closed_in_room old _ c (subst (AreTaken (extents_of old.objects old.versions)) s (k (extents_of old.objects old.versions) c.room)))
+closed_after_put who old new told (Ok puts.KeptFull) p k c = subst IsClosed (sym p.after) c
+closed_after_put who old new told (Err e) p k c = subst IsClosed (sym p) c

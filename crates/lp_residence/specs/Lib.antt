@@ -1,3 +1,4 @@
 pub mod Owners
 pub mod Puts
 pub mod Residence
+pub mod Entering

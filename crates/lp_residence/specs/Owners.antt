@@ -65,16 +65,19 @@ pub record IsObjectImage (l : Live) (o : ObjId) (bytes : List ℕ) : Type 0 wher
   pub fits : IsRecord (record_of o values)
   pub spelled : bytes ≡ image (record_of o values)
 
-pub record IsVersionImage (l : Live) (state : Option ProgramState) (bytes : List ℕ) : Type 0 where
-  pub program : RawProgram
-  pub here : program_of state ≡ Some program
+pub record IsProgramImage (program : RawProgram) (bytes : List ℕ) : Type 0 where
   pub encoding : List ℕ
   pub encodes : IsEncoding program encoding
   pub spelled : bytes ≡ program_image encoding
 
+pub record IsVersionImage (state : Option ProgramState) (bytes : List ℕ) : Type 0 where
+  pub program : RawProgram
+  pub here : program_of state ≡ Some program
+  pub image_is : IsProgramImage program bytes
+
 abbrev pub IsImage : Live → Owner → List ℕ → Type 0
 IsImage l (owners.Object o) bytes = IsObjectImage l o bytes
-IsImage l (owners.Program p) bytes = IsVersionImage l (version_state (row_at l.versions p.0)) bytes
+IsImage l (owners.Program p) bytes = IsVersionImage (version_state (row_at l.versions p.0)) bytes
 
 -- what an object in memory becomes when it goes out for a ticket
 abbrev pub out_state : Option (List Value) → Ticket → ObjectState

@@ -1,8 +1,9 @@
 -- What putting something out answers, and what it leaves.
-use Rattle.std.specs.Prelude.{◌≡◌, ℕ, List, length, Bool, true, false, Option, Some, None, IsSome, Result, Ok, Err}
+use Rattle.std.specs.Prelude.{◌≡◌, ℕ, List, length, Bool, true, false, Option, Some, None, IsSome, Result, Ok, Err, ⊤}
 use Rattle.std.specs.declared.alloc.AllocError.{AllocError}
 use Rattle.lp_swapfile.specs.Device.{AreSameOutside, Bytes, HoldsWhereTold}
-use Rattle.lp_swapfile.specs.Room.{Room, after_give_back, after_take, is_full, place_for}
+use Rattle.lp_swapfile.specs.Room.{AreTaken, Room, after_give_back, after_take, is_full, place_for}
+use Rattle.lp_swapfile.specs.declared.extent.Extent.{Extent}
 use Rattle.lp_swapper.specs.Swap.{IsTicketOf}
 use Rattle.lp_swapper.specs.declared.ticket.Ticket.{Ticket}
 use Rattle.lp_world.specs.declared.live.Live.{Live}
@@ -74,3 +75,12 @@ is_quiet (Err e) = false
 pub record IsWrittenFree (room : Room) (old new : Option Bytes) : Type 0 where
   pub len : ℕ
   pub others : AreSameOutside (place_for len room) len old new
+
+-- What was kept leaves the same extents taken.
+abbrev pub AreTakenStill : Result PutOut AllocError → Room → Room → Type 0
+AreTakenStill (Ok puts.Out) old new = ⊤
+AreTakenStill (Ok puts.NotThere) old new = ⊤
+AreTakenStill (Ok puts.Already) old new = ⊤
+AreTakenStill (Ok puts.KeptFault) old new = (es : List Extent) → AreTaken es old → AreTaken es new
+AreTakenStill (Ok puts.KeptFull) old new = ⊤
+AreTakenStill (Err e) old new = ⊤

@@ -5,7 +5,12 @@
 #![tactic(auto)]
 
 pub mod answers;
+pub mod entering;
 mod objects;
 pub mod owner;
 mod packing;
+mod programs;
+pub mod putting;
+mod reading;
 mod residence;
+mod unpacking;

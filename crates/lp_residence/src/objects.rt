@@ -1,8 +1,8 @@
-//! Objects go out and come back.
+//! Objects go out.
 ghost use Rattle.std.specs.Prelude.{◌≡◌, IfOk, IsSome, false, true};
 ghost use Rattle.lp_swapfile.specs.Counts.{Counts};
 ghost use Rattle.lp_world.specs.Rows.{live_in, variables_at};
-ghost use Rattle.lp_residence.specs.Puts.{IsPut, IsWrittenFree, is_kept_fault, is_quiet};
+ghost use Rattle.lp_residence.specs.Puts.{AreTakenStill, IsPut, IsWrittenFree, is_kept_fault, is_quiet};
 ghost use Rattle.lp_residence.specs.Residence.{IsPacked};
 ghost use Rattle.lp_residence.specs.declared.owner.Owner.TheVariants as owners;
 
@@ -46,6 +46,7 @@ fn write_object<W: SwapFile>(
     ensures answer { IsPut (owners.Object ob) live.old live.new (W.content swap.new) result }
     ensures asked { is_quiet result ≡ false }
     ensures written { IsWrittenFree live.old.swapper (W.content swap.old) (W.content swap.new) }
+    ensures taken { AreTakenStill result live.old.swapper live.new.swapper }
     ensures faults { Counts (is_kept_fault result) (W.write_faults swap.old) (W.write_faults swap.new) }
     ensures read_faults { W.read_faults swap.new ≡ W.read_faults swap.old }
     ensures honest { W.is_honest swap.new → W.is_honest swap.old }
@@ -74,6 +75,7 @@ fn send_object<W: SwapFile>(
     ensures answer { IsPut (owners.Object ob) live.old live.new (W.content swap.new) result }
     ensures asked { is_quiet result ≡ false }
     ensures written { IsWrittenFree live.old.swapper (W.content swap.old) (W.content swap.new) }
+    ensures taken { AreTakenStill result live.old.swapper live.new.swapper }
     ensures faults { Counts (is_kept_fault result) (W.write_faults swap.old) (W.write_faults swap.new) }
     ensures read_faults { W.read_faults swap.new ≡ W.read_faults swap.old }
     ensures honest { W.is_honest swap.new → W.is_honest swap.old }
@@ -94,6 +96,7 @@ pub(crate) fn put_out_object<W: SwapFile>(
     ensures answer { IsPut (owners.Object ob) live.old live.new (W.content swap.new) result }
     ensures quiet { is_quiet result ≡ true → swap.new ≡ swap.old }
     ensures written { IsWrittenFree live.old.swapper (W.content swap.old) (W.content swap.new) }
+    ensures taken { AreTakenStill result live.old.swapper live.new.swapper }
     ensures faults { Counts (is_kept_fault result) (W.write_faults swap.old) (W.write_faults swap.new) }
     ensures read_faults { W.read_faults swap.new ≡ W.read_faults swap.old }
     ensures honest { W.is_honest swap.new → W.is_honest swap.old }

@@ -1,8 +1,9 @@
 //! Where objects and programs are.
-ghost use Rattle.lp_residence.specs.Residence.{IsResidence};
+ghost use Rattle.lp_residence.specs.Residence.{IsResidence, IsVersionResidence};
 
-use lp_values::id::ObjId;
+use lp_values::id::{ObjId, ProgId};
 use lp_world::objects::{ObjectState, ObjectTable};
+use lp_world::versions::{ProgramState, VersionTable};
 
 /// Where something is.
 #[derive(Clone, Copy, Debug, PartialEq, Eq)]
@@ -30,6 +31,19 @@ pub(crate) fn object_residence(objects: &ObjectTable, ob: ObjId) -> Residence
                 ObjectState::Swapped { .. } => Residence::Outside,
             }
         }
+        None => Residence::Missing,
+    }
+}
+
+/// Where the program of a version is.
+pub(crate) fn version_residence(versions: &VersionTable, p: ProgId) -> Residence
+    ensures { IsVersionResidence versions.now p result }
+{
+    match versions.get(p) {
+        Some(v) => match &v.state {
+            ProgramState::Resident(_) => Residence::Inside,
+            ProgramState::Swapped(_) => Residence::Outside,
+        },
         None => Residence::Missing,
     }
 }

@@ -61,6 +61,28 @@ fn first_of(open: &[Connection], ob: ObjId) -> Option<u32>
     None
 }
 
+/// Takes a connection out.
+fn close_in(open: &mut Vec<Connection>, number: u32)
+    ensures { open.new.items ≡ filter (λ c. not (nat_eq c.number number)) open.old.items }
+{
+    open.retain(
+        |c: &Connection| -> bool
+            ensures { result ≡ not (nat_eq c.now.number number) }
+        { c.number != number },
+    );
+}
+
+/// Takes out what waits for the lines of a connection.
+fn wait_no_more(waiting: &mut Vec<Waiting>, number: u32)
+    ensures { waiting.new.items ≡ filter (λ x. not (nat_eq x.connection number)) waiting.old.items }
+{
+    waiting.retain(
+        |x: &Waiting| -> bool
+            ensures { result ≡ not (nat_eq x.now.connection number) }
+        { x.connection != number },
+    );
+}
+
 impl Connections {
     /// No connection was opened yet. Takes no memory.
     pub fn new(alloc: Global) -> Connections
@@ -85,7 +107,7 @@ impl Connections {
     pub fn close(&mut self, number: u32)
         ensures { self.new ≡ record { opened = filter (λ c. not (nat_eq c.number number)) self.old.opened; highest = self.old.highest; present = self.old.present; waiting = filter (λ x. not (nat_eq x.connection number)) self.old.waiting } }
     {
-        self.open.retain(|c| c.number != number);
-        self.waiting.retain(|x| x.connection != number);
+        close_in(&mut self.open, number);
+        wait_no_more(&mut self.waiting, number);
     }
 }

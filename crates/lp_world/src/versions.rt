@@ -1,14 +1,15 @@
 //! Versions of programs, by their numbers.
-ghost use Rattle.std.specs.Prelude.{◌≡◌, [], IsSome, Some, length, slice_set};
+ghost use Rattle.std.specs.Prelude.{◌≡◌, [], IsSome, OnErr, OnOk, Some, length, slice_set, ℕ};
 ghost use Rattle.std.specs.Option.{option_copied};
 ghost use Rattle.lp_world.specs.Rows.{row_at, version_state, version_with_state};
+ghost use Rattle.lp_world.specs.Targets.{HasAnswer, HasAnswerIn, HasSameAnswers, HasSameAnswersIn};
 
 use crate::shared::SharedProgram;
-use crate::targets::Targets;
+use crate::targets::{FunAt, Targets};
 use lp_code::listed::Listed;
 use lp_swapper::Ticket;
 use lp_values::id::ProgId;
-use std::alloc::Global;
+use std::alloc::{AllocError, Global};
 use std::marker::Model;
 use std::mem;
 
@@ -76,6 +77,24 @@ fn replace_state_of(row: &mut Option<Version>, state: ProgramState) -> ProgramSt
     }
 }
 
+/// Keeps where an internal call of a slot leads, in a version that is there.
+fn keep_in(
+    row: &mut Option<Version>,
+    alloc: Global,
+    part: u16,
+    slot: u16,
+    answer: Option<FunAt>,
+) -> Result<(), AllocError>
+    requires { IsSome row.old }
+    ensures ok { OnOk result (HasAnswerIn row.old row.new part slot answer) }
+    ensures err { OnErr result (HasSameAnswersIn row.old row.new) }
+{
+    match row {
+        Some(v) => v.targets.keep(alloc, part, slot, answer),
+        None => unreachable!(),
+    }
+}
+
 impl VersionTable {
     /// No versions. Takes no memory.
     pub fn new(alloc: Global) -> VersionTable
@@ -113,5 +132,22 @@ impl VersionTable {
         ensures after { self.new ≡ slice_set self.old p.0 (version_with_state (row_at self.old p.0) state) }
     {
         replace_state_of(&mut self.rows[p.0 as usize], state)
+    }
+
+    /// Keeps where an internal call of a slot of a part of a version leads. After want of memory the same is
+    /// kept as before.
+    pub fn keep_target(
+        &mut self,
+        alloc: Global,
+        p: ProgId,
+        part: u16,
+        slot: u16,
+        answer: Option<FunAt>,
+    ) -> Result<(), AllocError>
+        requires { IsSome (row_at self.old p.0) }
+        ensures ok { OnOk result (HasAnswer self.old self.new p.0 part slot answer) }
+        ensures err { OnErr result (HasSameAnswers self.old self.new p.0) }
+    {
+        keep_in(&mut self.rows[p.0 as usize], alloc, part, slot, answer)
     }
 }
