@@ -31,7 +31,7 @@ use Rattle.lp_world.specs.declared.versions.Version.{Version}
 use Rattle.lp_residence.specs.Entering.{AreTakenWithout, AreValuesOf, CanGiveBack, object_back, room_back}
 use Rattle.lp_residence.specs.Owners.{record_of, ticket_of_state, with_room}
 use Rattle.lp_residence.proofs.Counting.{row_counts, taken_by_counts}
-use Rattle.lp_residence.proofs.Putting.{stands_in_room}
+use Rattle.lp_residence.proofs.WentOutLemmas.{stands_in_room}
 use Rattle.lp_residence.proofs.RowChanges.{closed_with_row, object_behind, row_there, stands_with_row}
 
 -- Rows
@@ -50,28 +50,27 @@ out_values told part whole o us (objects_of.Swapped u shared own) t e n h =
     (i.fits, subst (λ x. IsOutAt told x (image (record_of o us))) (ap (λ y. unwrap_or y u) e) i.out)
 
 -- one extent less is taken, as the counts say
-fewer_taken : (es fs : List Extent) (r new : Room) (t : Ticket) → length es ≡ length fs + 1 → ((i : ℕ) → covers i es ≡ covers i fs + covers i (extent_of t ∷ [])) → AreTaken es r → AreTaken (extent_of t ∷ fs) r
-fewer_taken es fs r new t l c taken = taken_by_counts es (extent_of t ∷ fs) r (omega (arith, l)) (λ i. let u = c i in omega (arith, u)) taken
+pub fewer_taken : (es fs : List Extent) (r : Room) (t : Ticket) → length es ≡ length fs + 1 → ((i : ℕ) → covers i es ≡ covers i fs + covers i (extent_of t ∷ [])) → AreTaken es r → AreTaken (extent_of t ∷ fs) r
+fewer_taken es fs r t l c taken = taken_by_counts es (extent_of t ∷ fs) r (omega (arith, l)) (λ i. let u = c i in omega (arith, u)) taken
 
 -- the extents without that of an object
-pub without_object : (live : Live) (o : ObjId) (row new : Object) (t : Ticket) → IsClosed live → slice_get live.objects o.0 ≡ Some (Some row) → object_ticket row.state ≡ Some t → object_ticket new.state ≡ None
-    → AreTaken (extent_of t ∷ extents_of (slice_set live.objects o.0 (Some new)) live.versions) live.swapper
-without_object live o row new t h e r n =
+pub without_object : (live : Live) (o : ObjId) (row : Object) (new : Option Object) (t : Ticket) → IsClosed live → slice_get live.objects o.0 ≡ Some (Some row) → object_ticket row.state ≡ Some t → object_extents new ≡ []
+    → AreTaken (extent_of t ∷ extents_of (slice_set live.objects o.0 new) live.versions) live.swapper
+without_object live o row new t h e r is =
     let was : object_extents (Some row) ≡ extent_of t ∷ [] = ap (λ k. option_to_list (option_map extent_of k)) r in
-    let is : object_extents (Some new) ≡ [] = ap (λ k. option_to_list (option_map extent_of k)) n in
-    fewer_taken (extents_of live.objects live.versions) (extents_of (slice_set live.objects o.0 (Some new)) live.versions) live.swapper live.swapper t
-    (let a = row_counts object_extents length length-append live.objects o.0 (Some row) (Some new) e in
+    fewer_taken (extents_of live.objects live.versions) (extents_of (slice_set live.objects o.0 new) live.versions) live.swapper t
+    (let a = row_counts object_extents length length-append live.objects o.0 (Some row) new e in
      let y = ap (λ l. length l) was in
      let z = ap (λ l. length l) is in
      let p = length-append (flat_map object_extents live.objects) (flat_map version_extents live.versions) in
-     let q = length-append (flat_map object_extents (slice_set live.objects o.0 (Some new))) (flat_map version_extents live.versions) in
+     let q = length-append (flat_map object_extents (slice_set live.objects o.0 new)) (flat_map version_extents live.versions) in
      omega (arith, a, y, z, p, q))
     (λ i.
-     let a = row_counts object_extents (covers i) (covers-append i) live.objects o.0 (Some row) (Some new) e in
+     let a = row_counts object_extents (covers i) (covers-append i) live.objects o.0 (Some row) new e in
      let y = ap (covers i) was in
      let z = ap (covers i) is in
      let p = covers-append i (flat_map object_extents live.objects) (flat_map version_extents live.versions) in
-     let q = covers-append i (flat_map object_extents (slice_set live.objects o.0 (Some new))) (flat_map version_extents live.versions) in
+     let q = covers-append i (flat_map object_extents (slice_set live.objects o.0 new)) (flat_map version_extents live.versions) in
      omega (arith, a, y, z, p, q))
     h.room
 
@@ -84,7 +83,7 @@ object_can_give_back live o h law = from (ticket_of_state (state_in (row_at live
     from None e = tt
     from (Some t) e =
         let r = out_row (row_at live.objects o.0) t e in
-        law [] _ (extent_of t) (without_object live o r.0 (record r.0 { state = objects_of.Resident [] }) t h (row_there live.objects o.0 r.0 r.1) r.2 refl)
+        law [] _ (extent_of t) (without_object live o r.0 None t h (row_there live.objects o.0 r.0 r.1) r.2 refl)
 
 -- an object in memory again
 abbrev back_object : Object → List Value → Object
@@ -100,13 +99,13 @@ stands_back told programs live w o vs t c e values h =
     let was = out_values told live.cells w.cells o b.0.variables r.0.state t r.2 (c.objects o.0 r.0 there).own b.2.variables in
     stands_in_room told programs (record live { objects = slice_set live.objects o.0 (row_with_state (row_at live.objects o.0) (objects_of.Resident vs)) }) w (room_back (Some t) live.swapper)
     (subst (λ x. Stands told programs (record live { objects = slice_set live.objects o.0 (row_with_state x (objects_of.Resident vs)) }) w) (sym r.1)
-        (stands_with_row told programs live w o.0 r.0 (back_object r.0 vs) b.0 h there b.1 (record {
-          version = b.2.version;
-          live = b.2.live;
-          living = b.2.living;
-          latest = b.2.latest;
-          variables = values (image (record_of o b.0.variables)) was.1 o b.0.variables was.0 refl;
-        })))
+    (stands_with_row told programs live w o.0 r.0 (back_object r.0 vs) b.0 h there b.1 (record {
+      version = b.2.version;
+      live = b.2.live;
+      living = b.2.living;
+      latest = b.2.latest;
+      variables = values (image (record_of o b.0.variables)) was.1 o b.0.variables was.0 refl;
+    })))
 
 pub closed_back : (live : Live) (o : ObjId) (vs : List Value) (count : ℕ) (t : Ticket)
     → IsClosed live → ticket_of_state (state_in (row_at live.objects o.0)) ≡ Some t
@@ -125,4 +124,4 @@ closed_back live o vs count t c e counted fit taken =
           (fit.0 ∙ counted r.0 r.1 ∙ ap variables_in was.there, fit.1);
       shared = All-nil (λ c. IsSome (content_at live.cells c));
       own = refl;
-    }) (taken _ (without_object live o r.0 (back_object r.0 vs) t c there r.2 refl)))
+    }) (taken _ (without_object live o r.0 (Some (back_object r.0 vs)) t c there r.2 refl)))

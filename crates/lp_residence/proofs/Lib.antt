@@ -3,6 +3,8 @@ pub mod Counting
 pub mod Filing
 pub mod RowChanges
 pub mod VersionChanges
-pub mod Putting
+pub mod WentOutLemmas
 pub mod Unpacked
 pub mod Entered
+pub mod CallOutLemmas
+pub mod Destroyed

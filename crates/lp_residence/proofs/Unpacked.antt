@@ -12,7 +12,7 @@ use Rattle.lp_residence.specs.Entering.{AreValuesOf}
 use Rattle.lp_residence.specs.Owners.{record_of}
 
 -- the value that is so in a record; what is of its own there reads as 0
-unpacked : Packed → Value
+abbrev unpacked : Packed → Value
 unpacked (packs.Int n) = Int n
 unpacked (packs.Str s) = Str s
 unpacked (packs.Arr c) = Arr c

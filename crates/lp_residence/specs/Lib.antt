@@ -2,3 +2,4 @@ pub mod Owners
 pub mod Puts
 pub mod Residence
 pub mod Entering
+pub mod Ending

@@ -1,5 +1,5 @@
 //! Objects come back.
-ghost use Rattle.std.specs.Prelude.{◌≡◌, ◌×◌, All, IfErr, IfOk, IsSome, List, None, Ok, OnErr, OnOk, Some, length, ℕ};
+ghost use Rattle.std.specs.Prelude.{◌≡◌, All, IfErr, IfOk, IsSome, List, None, Ok, OnErr, OnOk, Some, length, ℕ};
 ghost use Rattle.std.specs.Option.{option_copied};
 ghost use Rattle.lp_cells.specs.Cells.{IsThere};
 ghost use Rattle.lp_code.specs.declared.program.RawProgram.{RawProgram as Raw};
@@ -30,7 +30,7 @@ use lp_world::versions::VersionTable;
 use std::alloc::{AllocError, Global};
 
 /// The ticket of an object that is out.
-fn out_ticket(objects: &ObjectTable, ob: ObjId) -> Option<&Ticket>
+pub(crate) fn out_ticket(objects: &ObjectTable, ob: ObjId) -> Option<&Ticket>
     ensures { option_copied result ≡ ticket_of_state (state_in (row_at objects.now ob.0)) }
 {
     match objects.get(ob) {
@@ -63,12 +63,7 @@ fn count_of(live: &Live, ob: ObjId) -> u32
 }
 
 /// The values that bytes have for an object of a version with so many variables.
-fn fit_values(
-    alloc: Global,
-    cells: &Cells,
-    bytes: &[u8],
-    count: u32,
-) -> Result<Items, AllocError>
+fn fit_values(alloc: Global, cells: &Cells, bytes: &[u8], count: u32) -> Result<Items, AllocError>
     ensures values { IfOk result (λ vs. AreValuesOf bytes.now vs) }
     ensures fit { IfOk result (λ vs. (length vs ≡ count) × All (IsThere cells.now) vs) }
 {

@@ -5,12 +5,14 @@
 #![tactic(auto)]
 
 pub mod answers;
+pub mod ending;
 pub mod entering;
 mod objects;
 pub mod owner;
 mod packing;
 mod programs;
 pub mod putting;
+mod reach;
 mod reading;
 mod residence;
 mod unpacking;

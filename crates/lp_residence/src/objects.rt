@@ -55,7 +55,14 @@ fn write_object<W: SwapFile>(
     match live.swapper.out(swap, image) {
         Ok(OutAnswer::Out(ticket)) => {
             let own = Serials::from_vec(Vec::new(live.alloc));
-            live.objects.replace_state(ob, ObjectState::Swapped { ticket, shared, own });
+            live.objects.replace_state(
+                ob,
+                ObjectState::Swapped {
+                    ticket,
+                    shared,
+                    own,
+                },
+            );
             Ok(PutOut::Out)
         }
         Ok(OutAnswer::KeptFault) => Ok(PutOut::KeptFault),
@@ -65,11 +72,7 @@ fn write_object<W: SwapFile>(
 }
 
 /// Packs an object in memory and writes it out.
-fn send_object<W: SwapFile>(
-    live: &mut Live,
-    swap: &mut W,
-    ob: ObjId,
-) -> Result<PutOut, AllocError>
+fn send_object<W: SwapFile>(live: &mut Live, swap: &mut W, ob: ObjId) -> Result<PutOut, AllocError>
     requires live { live_in live.old.objects ob ≡ true }
     requires inside { IsSome (variables_at live.old.objects ob) }
     ensures answer { IsPut (owners.Object ob) live.old live.new (W.content swap.new) result }

@@ -48,7 +48,6 @@ fn record_of(alloc: Global, ob: ObjId, values: &[Value]) -> Result<Record, Alloc
 }
 
 /// The image of the record of an object.
-#[tactic(auto, using(crate::proofs::PackedRecords::is_ordered))]
 pub(crate) fn image_of(alloc: Global, ob: ObjId, values: &[Value]) -> Result<Octets, AllocError>
     ensures fits { OnOk result (IsRecord (record_of ob values.now)) }
     ensures bytes { IfOk result (λ b. b ≡ image (record_of ob values.now)) }

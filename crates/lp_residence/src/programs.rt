@@ -30,11 +30,7 @@ fn image_of(alloc: Global, program: &Program) -> Result<Vec<u8>, AllocError>
 }
 
 /// The image of the program of a version that is in memory.
-fn packed_program(
-    alloc: Global,
-    versions: &VersionTable,
-    p: ProgId,
-) -> Result<Vec<u8>, AllocError>
+fn packed_program(alloc: Global, versions: &VersionTable, p: ProgId) -> Result<Vec<u8>, AllocError>
     ensures { IfOk result (λ v. IsVersionImage (version_state (row_at versions.now p.0)) v.items) }
 {
     match versions.get(p) {
@@ -65,7 +61,8 @@ fn write_program<W: SwapFile>(
 {
     match live.swapper.out(swap, image) {
         Ok(OutAnswer::Out(ticket)) => {
-            live.versions.replace_state(p, ProgramState::Swapped(ticket));
+            live.versions
+                .replace_state(p, ProgramState::Swapped(ticket));
             Ok(PutOut::Out)
         }
         Ok(OutAnswer::KeptFault) => Ok(PutOut::KeptFault),
@@ -75,11 +72,7 @@ fn write_program<W: SwapFile>(
 }
 
 /// Packs a program in memory and writes it out.
-fn send_program<W: SwapFile>(
-    live: &mut Live,
-    swap: &mut W,
-    p: ProgId,
-) -> Result<PutOut, AllocError>
+fn send_program<W: SwapFile>(live: &mut Live, swap: &mut W, p: ProgId) -> Result<PutOut, AllocError>
     ensures answer { IsPut (owners.Program p) live.old live.new (W.content swap.new) result }
     ensures asked { is_quiet result ≡ false }
     ensures written { IsWrittenFree live.old.swapper (W.content swap.old) (W.content swap.new) }

@@ -26,11 +26,7 @@ use std::alloc::AllocError;
 /// - `KeptFull`: no hole in the file fits its image, and behind the end it would pass 2^40.
 ///
 /// Where it did not go out, nothing has changed but the room, as said, and the device, where nothing was taken.
-pub fn put_out<W: SwapFile>(
-    live: &mut Live,
-    swap: &mut W,
-    who: Owner,
-) -> Result<PutOut, AllocError>
+pub fn put_out<W: SwapFile>(live: &mut Live, swap: &mut W, who: Owner) -> Result<PutOut, AllocError>
     requires closed { IsClosed live.old }
     ensures answer { IsPut who live.old live.new (W.content swap.new) result }
     ensures closed { IsClosed live.new }

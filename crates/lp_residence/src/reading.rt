@@ -1,5 +1,5 @@
 //! What the swap file gives for a ticket.
-ghost use Rattle.std.specs.Prelude.{◌≡◌, ◌×◌, IfErr, IfOk, List, ℕ};
+ghost use Rattle.std.specs.Prelude.{◌≡◌, IfErr, IfOk, List, ℕ};
 ghost use Rattle.lp_swapfile.specs.Counts.{Counts};
 ghost use Rattle.lp_swapper.specs.Swap.{IsOutAt};
 ghost use Rattle.lp_residence.specs.Entering.{IsCaused, IsHonest, is_read_fault};

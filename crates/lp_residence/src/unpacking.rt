@@ -50,7 +50,6 @@ fn record_in(alloc: Global, bytes: &[u8]) -> Result<Record, AllocError>
 }
 
 /// The values of the variables that the record of an object has.
-#[tactic(auto, using(crate::proofs::Unpacked::values_are))]
 pub(crate) fn values_in(alloc: Global, bytes: &[u8]) -> Result<Items, AllocError>
     ensures { IfOk result (λ vs. AreValuesOf bytes.now vs) }
 {

@@ -145,18 +145,18 @@ closed_out_object live o row vs bytes t h e r k =
       shared = named_there live.cells vs (was.variables vs (ap variables_of r)).1;
       own = refl;
     }) (more_taken (extents_of live.objects live.versions) (extents_of (slice_set live.objects o.0 (Some (out_object row vs t))) live.versions) bytes live.swapper t k
-        (let a = row_counts object_extents length length-append live.objects o.0 (Some row) (Some (out_object row vs t)) e in
-         let z = ap (λ l. length l) old_extents in
-         let x = length-append (flat_map object_extents live.objects) vx in
-         let y = length-append (flat_map object_extents (slice_set live.objects o.0 (Some (out_object row vs t)))) vx in
-         omega (arith, a, z, x, y))
-        (λ i.
-         let a = row_counts object_extents (covers i) (covers-append i) live.objects o.0 (Some row) (Some (out_object row vs t)) e in
-         let z = ap (covers i) old_extents in
-         let x = covers-append i (flat_map object_extents live.objects) vx in
-         let y = covers-append i (flat_map object_extents (slice_set live.objects o.0 (Some (out_object row vs t)))) vx in
-         omega (arith, a, z, x, y))
-        h.room)
+    (let a = row_counts object_extents length length-append live.objects o.0 (Some row) (Some (out_object row vs t)) e in
+    let z = ap (λ l. length l) old_extents in
+    let x = length-append (flat_map object_extents live.objects) vx in
+    let y = length-append (flat_map object_extents (slice_set live.objects o.0 (Some (out_object row vs t)))) vx in
+    omega (arith, a, z, x, y))
+    (λ i.
+    let a = row_counts object_extents (covers i) (covers-append i) live.objects o.0 (Some row) (Some (out_object row vs t)) e in
+    let z = ap (covers i) old_extents in
+    let x = covers-append i (flat_map object_extents live.objects) vx in
+    let y = covers-append i (flat_map object_extents (slice_set live.objects o.0 (Some (out_object row vs t)))) vx in
+    omega (arith, a, z, x, y))
+    h.room)
   where
     vx : List Extent
     vx = flat_map version_extents live.versions
@@ -213,18 +213,18 @@ closed_out_version live n v p bytes t h e r k =
       variables = was.variables;
       program = λ q s. absurd (no_program q s);
     }) (more_taken (extents_of live.objects live.versions) (extents_of live.objects (slice_set live.versions n (Some (out_version v t)))) bytes live.swapper t k
-        (let a = row_counts version_extents length length-append live.versions n (Some v) (Some (out_version v t)) e in
-         let z = ap (λ l. length l) old_extents in
-         let x = length-append ox (flat_map version_extents live.versions) in
-         let y = length-append ox (flat_map version_extents (slice_set live.versions n (Some (out_version v t)))) in
-         omega (arith, a, z, x, y))
-        (λ i.
-         let a = row_counts version_extents (covers i) (covers-append i) live.versions n (Some v) (Some (out_version v t)) e in
-         let z = ap (covers i) old_extents in
-         let x = covers-append i ox (flat_map version_extents live.versions) in
-         let y = covers-append i ox (flat_map version_extents (slice_set live.versions n (Some (out_version v t)))) in
-         omega (arith, a, z, x, y))
-        h.room)
+    (let a = row_counts version_extents length length-append live.versions n (Some v) (Some (out_version v t)) e in
+    let z = ap (λ l. length l) old_extents in
+    let x = length-append ox (flat_map version_extents live.versions) in
+    let y = length-append ox (flat_map version_extents (slice_set live.versions n (Some (out_version v t)))) in
+    omega (arith, a, z, x, y))
+    (λ i.
+    let a = row_counts version_extents (covers i) (covers-append i) live.versions n (Some v) (Some (out_version v t)) e in
+    let z = ap (covers i) old_extents in
+    let x = covers-append i ox (flat_map version_extents live.versions) in
+    let y = covers-append i ox (flat_map version_extents (slice_set live.versions n (Some (out_version v t)))) in
+    omega (arith, a, z, x, y))
+    h.room)
   where
     ox : List Extent
     ox = flat_map object_extents live.objects
@@ -243,9 +243,9 @@ stands_gone (owners.Object o) old new told programs w g is h =
     subst (λ l. Stands told programs l w) (sym g.after)
     (stands_in_room told programs (gone old (owners.Object o) g.ticket) w (after_take (length g.bytes) old.swapper)
     (subst (λ x. Stands told programs (record old { objects = slice_set old.objects o.0 x }) w)
-        (sym (out_row_is (row_at old.objects o.0) r.0 (variables_at old.objects o) i.values g.ticket r.1 i.here))
-        (stands_out_object told programs old w o r.0 i.values g.ticket h e r.2 i.fits
-            (subst (IsOutAt told g.ticket) i.spelled (out_at told old.swapper g.ticket g.bytes is g.is_for g.held)))))
+    (sym (out_row_is (row_at old.objects o.0) r.0 (variables_at old.objects o) i.values g.ticket r.1 i.here))
+    (stands_out_object told programs old w o r.0 i.values g.ticket h e r.2 i.fits
+    (subst (IsOutAt told g.ticket) i.spelled (out_at told old.swapper g.ticket g.bytes is g.is_for g.held)))))
 stands_gone (owners.Program p) old new told programs w g is h =
     let i = g.image in
     let r = resident_version (row_at old.versions p.0) i.program i.here in
@@ -253,9 +253,9 @@ stands_gone (owners.Program p) old new told programs w g is h =
     subst (λ l. Stands told programs l w) (sym g.after)
     (stands_in_room told programs (gone old (owners.Program p) g.ticket) w (after_take (length g.bytes) old.swapper)
     (subst (λ x. Stands told programs (record old { versions = slice_set old.versions p.0 (version_with_state x (programs_of.Swapped g.ticket)) }) w)
-        (sym r.1)
-        (stands_out_version told programs old w p.0 r.0 i.program i.image_is.encoding g.ticket h e r.2 i.image_is.encodes
-            (subst (IsOutAt told g.ticket) i.image_is.spelled (out_at told old.swapper g.ticket g.bytes is g.is_for g.held)))))
+    (sym r.1)
+    (stands_out_version told programs old w p.0 r.0 i.program i.image_is.encoding g.ticket h e r.2 i.image_is.encodes
+    (subst (IsOutAt told g.ticket) i.image_is.spelled (out_at told old.swapper g.ticket g.bytes is g.is_for g.held)))))
 
 closed_gone : (who : Owner) (old new : Live) (told : Option Bytes) → WentOut who old new told → IsClosed old → IsClosed new
 closed_gone (owners.Object o) old new told g h =
@@ -264,16 +264,16 @@ closed_gone (owners.Object o) old new told g h =
     let e = row_there old.objects o.0 r.0 r.1 in
     subst IsClosed (sym g.after)
     (subst (λ x. IsClosed (record old { objects = slice_set old.objects o.0 x; swapper = after_take (length g.bytes) old.swapper }))
-        (sym (out_row_is (row_at old.objects o.0) r.0 (variables_at old.objects o) i.values g.ticket r.1 i.here))
-        (closed_out_object old o r.0 i.values g.bytes g.ticket h e r.2 g.is_for))
+    (sym (out_row_is (row_at old.objects o.0) r.0 (variables_at old.objects o) i.values g.ticket r.1 i.here))
+    (closed_out_object old o r.0 i.values g.bytes g.ticket h e r.2 g.is_for))
 closed_gone (owners.Program p) old new told g h =
     let i = g.image in
     let r = resident_version (row_at old.versions p.0) i.program i.here in
     let e = row_there old.versions p.0 r.0 r.1 in
     subst IsClosed (sym g.after)
     (subst (λ x. IsClosed (record old { versions = slice_set old.versions p.0 (version_with_state x (programs_of.Swapped g.ticket)); swapper = after_take (length g.bytes) old.swapper }))
-        (sym r.1)
-        (closed_out_version old p.0 r.0 i.program g.bytes g.ticket h e r.2 g.is_for))
+    (sym r.1)
+    (closed_out_version old p.0 r.0 i.program g.bytes g.ticket h e r.2 g.is_for))
 
 -- whatever was put out or kept, the state stands for the same worlds
 pub stands_after_put : (who : Owner) (old new : Live) (told0 told : Option Bytes) (r : Result PutOut AllocError) (programs : List RawProgram) (w : World)
