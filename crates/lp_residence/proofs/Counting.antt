@@ -5,7 +5,7 @@ use Rattle.std.specs.List.{flat_map}
 use Rattle.std.proofs.lemmas.Bool.{cases_order}
 use Rattle.lp_swapfile.specs.Room.{AreTaken, Room, after_take, covers, end_of, has_place, place_for}
 use Rattle.lp_swapfile.specs.declared.extent.Extent.{Extent}
-use Rattle.lp_swapfile.proofs.TakenLemmas.{covers-append, has-middle, taken-more}
+use Rattle.lp_swapfile.proofs.TakenLemmas.{covers-append, taken-more}
 
 module _ {A : Type 0} (f : A → List Extent) (count : List Extent → ℕ) (adds : (xs ys : List Extent) → count (xs ++ ys) ≡ count xs + count ys) where
   -- one row becomes another
@@ -41,6 +41,9 @@ taken_by_counts es fs r l c t = record {
   parted = λ i. let u = t.parted i in let e = c i in omega (arith, u, e);
 }
 
+pub has_middle : (i : ℕ) (e : Extent) → e.place ≤ i → i < end_of e → has_place i e ≡ 1
+has_middle i e a b = grind arith
+
 one_at_most : (i n : ℕ) → (if nat_lt i n then 1 else 0) ≤ 1
 one_at_most i n = grind arith
 
@@ -50,7 +53,7 @@ next_from len es r t i some from = elim (cases_order i (place_for len r + len)) 
   | inr o ↦ elim o [
     | inl l ↦
         let u = (taken-more len es r t).parted i in
-        let h = has-middle i (record { place = place_for len r; len = len }) from l in
+        let h = has_middle i (record { place = place_for len r; len = len }) from l in
         let b = one_at_most i (after_take len r).end in
         absurd (omega (arith, u, h, b, some))
     | inr g ↦ inr (omega arith)

@@ -9,7 +9,7 @@ use Rattle.lp_code.specs.declared.program.RawProgram.{RawProgram}
 use Rattle.lp_swapfile.specs.Device.{AreSameOutside, Bytes, Holds}
 use Rattle.lp_swapfile.specs.Room.{AreTaken, Room, covers, end_of, has_place, place_for}
 use Rattle.lp_swapfile.specs.declared.extent.Extent.{Extent}
-use Rattle.lp_swapfile.proofs.TakenLemmas.{covers-append, has-middle}
+use Rattle.lp_swapfile.proofs.TakenLemmas.{covers-append}
 use Rattle.lp_swapper.specs.Swap.{IsHeld, IsOutAt, extent_of}
 use Rattle.lp_swapper.specs.declared.ticket.Ticket.{Ticket}
 use Rattle.lp_language.specs.World as world
@@ -24,7 +24,7 @@ use Rattle.lp_world.specs.declared.versions.ProgramState.{ProgramState}
 use Rattle.lp_world.specs.declared.versions.ProgramState.TheVariants as programs_of
 use Rattle.lp_world.specs.declared.versions.Version.{Version}
 use Rattle.lp_residence.specs.Puts.{IsWrittenFree}
-use Rattle.lp_residence.proofs.Counting.{next_is_apart, row_within}
+use Rattle.lp_residence.proofs.Counting.{has_middle, next_is_apart, row_within}
 
 -- no place of an extent is among some places
 abbrev IsFar : Extent → ℕ → ℕ → Type 0
@@ -48,7 +48,7 @@ abbrev AreFar : List Extent → ℕ → ℕ → Type 0
 AreFar es p n = (i : ℕ) → 0 < covers i es → (i < p) ⊎ (p + n ≤ i)
 
 far_one : (t : Ticket) (p n : ℕ) → AreFar (extent_of t ∷ []) p n → IsFar (extent_of t) p n
-far_one t p n far i a b = let h = has-middle i (extent_of t) a b in far i (omega (arith, h))
+far_one t p n far i a b = let h = has_middle i (extent_of t) a b in far i (omega (arith, h))
 
 variables_still : (old new : Option Bytes) (p n : ℕ) (part whole : Store) (o : ObjId) (vs : List Value) (s : ObjectState) (row : Object) → row.state ≡ s
     → AreSameOutside p n old new → AreFar (object_extents (Some row)) p n → VariablesAre old part whole o vs s → VariablesAre new part whole o vs s

@@ -67,14 +67,13 @@ own_none None h = refl
 own_none (Some None) h = refl
 own_none (Some (Some row)) h = h row refl
 
+nothing_there : (cells : List CellId) (k : ℕ) (c : CellId) → cells ≡ [] → slice_get cells k ≡ Some c → ⊥
+nothing_there [] k c e g = cc
+nothing_there (d ∷ ds) k c e g = cc
+
 -- where no object has cells of its own, none are one
-apart_alone : (objects : List (Option Object)) → ((n : ℕ) (row : Object) → slice_get objects n ≡ Some (Some row) → own_of row.state ≡ []) → AreApart objects
-apart_alone objects h n m j k c a b =
-    let e : own_in (row_at objects n) ≡ [] = own_none (slice_get objects n) (h n) in
-    absurd (nothing j c (ap (λ l. slice_get l j) (sym e) ∙ a))
-  where
-    nothing : (j : ℕ) (c : CellId) → slice_get ([] {A = CellId}) j ≡ Some c → ⊥
-    nothing j c e = cc
+pub apart_alone : (objects : List (Option Object)) → ((n : ℕ) (row : Object) → slice_get objects n ≡ Some (Some row) → own_of row.state ≡ []) → AreApart objects
+apart_alone objects h n m j k c a b = absurd (nothing_there (own_in (row_at objects n)) j c (own_none (slice_get objects n) (h n)) a)
 
 -- a closed state with another row that is closed
 pub closed_with_row : (live : Live) (n : ℕ) (row new : Object) (room : Room)
