@@ -1,11 +1,12 @@
 -- The call-outs of an object end one by one.
-use Rattle.std.proofs.Common.{◌≡◌, ◌≢◌, ◌∙◌, ◌+◌, ◌<◌, ◌≤◌, ℕ, suc, zero, Bool, true, false, not, List, [], ◌∷◌, Option, Some, None, All, refl, ap, sym, subst, length, filter, nat_eq, nat_lt, unwrap_or, slice_index_or, if◌then◌else◌, arith}
+use Rattle.std.proofs.Common.{◌≡◌, ◌≢◌, ◌∙◌, ◌+◌, ◌<◌, ◌≤◌, ℕ, suc, zero, Bool, true, false, not, List, [], ◌∷◌, Option, Some, None, is_some, option_map, All, refl, ap, sym, subst, length, filter, nat_eq, nat_lt, unwrap_or, slice_index_or, if◌then◌else◌, arith}
 use Rattle.std.specs.List.{fold}
 use Rattle.std.proofs.lemmas.List.Elements.{All-cons, All-head, All-nil, All-tail, All-weaker}
 use Rattle.lp_values.specs.declared.id.ObjId.{ObjId}
-use Rattle.lp_timers.specs.Timers.{CallOut, by_due, call_outs_without, first_call_out, placed_by_due, without_call_out}
-use Rattle.lp_timers.specs.Waiting.{earliest_of}
-use Rattle.lp_residence.specs.Ending.{AreNumberedOnce}
+use Rattle.lp_timers.specs.Timers.{CallOut, beat_off, by_due, call_outs_without, first_call_out, placed_by_due, watches_without, without_call_out}
+use Rattle.lp_timers.specs.Timing.{Timing, beats_left, watches_left}
+use Rattle.lp_timers.specs.Waiting.{earliest_of, without_this}
+use Rattle.lp_residence.specs.Ending.{AreNumberedOnce, timing_without}
 
 -- What holds of all holds of those that pass a test, in any order.
 module _ {A : Type 0} (P : A → Type 0) (p : A → Bool) where
@@ -66,11 +67,11 @@ each_alone (c ∷ cs) h =
 
 pub once_filter : (p : CallOut → Bool) (cs : List CallOut) → AreNumberedOnce cs → AreNumberedOnce (filter p cs)
 once_filter p [] h = tt
-once_filter p (c ∷ cs) h = kept (p c)
+once_filter p (c ∷ cs) h = kept (p c) (once_filter p cs h.1)
   where
-    kept : (b : Bool) → AreNumberedOnce (if b then c ∷ filter p cs else filter p cs)
-    kept true = (all_filter (λ (d : CallOut). d.number ≢ c.number) p cs h.0, once_filter p cs h.1)
-    kept false = once_filter p cs h.1
+    kept : (b : Bool) → AreNumberedOnce (filter p cs) → AreNumberedOnce (if b then c ∷ filter p cs else filter p cs)
+    kept true i = (all_filter (λ (d : CallOut). d.number ≢ c.number) p cs h.0, i)
+    kept false i = i
 
 -- without one of an object, the others' are the same
 cut : (x y : Bool) (c : CallOut) (o : ObjId) (xs ys : List CallOut) (p : CallOut → Bool) → filter p xs ≡ ys → (x ≡ false → p c ≡ false) → p c ≡ y
@@ -94,11 +95,11 @@ without_same n o (c ∷ cs) h =
 -- one less
 filter_length : (p : CallOut → Bool) (cs : List CallOut) → length (filter p cs) ≤ length cs
 filter_length p [] = omega arith
-filter_length p (c ∷ cs) = counted (p c)
+filter_length p (c ∷ cs) = counted (p c) (filter_length p cs)
   where
-    counted : (b : Bool) → length (if b then c ∷ filter p cs else filter p cs) ≤ length (c ∷ cs)
-    counted true = let i = filter_length p cs in omega (arith, i)
-    counted false = let i = filter_length p cs in omega (arith, i)
+    counted : (b : Bool) → length (filter p cs) ≤ length cs → length (if b then c ∷ filter p cs else filter p cs) ≤ length (c ∷ cs)
+    counted true i = omega (arith, i)
+    counted false i = omega (arith, i)
 
 shorter : (n : ℕ) (cs : List CallOut) (k : ℕ) (d : CallOut) → k < length cs → (slice_index_or cs k d).number ≡ n → length (without_call_out cs n) < length cs
 shorter n [] k d l e = absurd (omega (arith, l))
@@ -106,11 +107,11 @@ shorter n (c ∷ cs) zero d l e =
     let b : nat_eq c.number n ≡ true = grind (arith, e) in
     let i = filter_length (λ c. not (nat_eq c.number n)) cs in
     rw b (omega (arith, i))
-shorter n (c ∷ cs) (suc k) d l e = counted (not (nat_eq c.number n))
+shorter n (c ∷ cs) (suc k) d l e = counted (not (nat_eq c.number n)) (shorter n cs k d (omega (arith, l)) e)
   where
-    counted : (b : Bool) → length (if b then c ∷ without_call_out cs n else without_call_out cs n) < length (c ∷ cs)
-    counted true = let i = shorter n cs k d (omega (arith, l)) e in omega (arith, i)
-    counted false = let i = filter_length (λ c. not (nat_eq c.number n)) cs in omega (arith, i)
+    counted : (b : Bool) → length (without_call_out cs n) < length cs → length (if b then c ∷ without_call_out cs n else without_call_out cs n) < length (c ∷ cs)
+    counted true i = omega (arith, i)
+    counted false i = omega (arith, i)
 
 -- a step of the loop
 pub one_ended : (cs : List CallOut) (o : ObjId) (c : CallOut) → AreNumberedOnce cs → earliest_of cs o ≡ Some c → call_outs_without (without_call_out cs c.number) o ≡ call_outs_without cs o
@@ -143,11 +144,67 @@ by_due_none (c ∷ cs) e = absurd (folded_some cs (placed_by_due c []) (placed_s
 
 none_of : (o : ObjId) (cs : List CallOut) → filter (λ c. nat_eq c.object.0 o.0) cs ≡ [] → call_outs_without cs o ≡ cs
 none_of o [] e = refl
-none_of o (c ∷ cs) e = none_from (nat_eq c.object.0 o.0) e
+none_of o (c ∷ cs) e = none_from (nat_eq c.object.0 o.0) (λ q. none_of o cs q) e
   where
-    none_from : (b : Bool) → (if b then c ∷ filter (λ c. nat_eq c.object.0 o.0) cs else filter (λ c. nat_eq c.object.0 o.0) cs) ≡ [] → (if not b then c ∷ call_outs_without cs o else call_outs_without cs o) ≡ c ∷ cs
-    none_from true e = cc
-    none_from false e = ap (λ l. c ∷ l) (none_of o cs e)
+    none_from : (b : Bool) → (filter (λ c. nat_eq c.object.0 o.0) cs ≡ [] → call_outs_without cs o ≡ cs) → (if b then c ∷ filter (λ c. nat_eq c.object.0 o.0) cs else filter (λ c. nat_eq c.object.0 o.0) cs) ≡ []
+        → (if not b then c ∷ call_outs_without cs o else call_outs_without cs o) ≡ c ∷ cs
+    none_from true i e = cc
+    none_from false i e = ap (λ l. c ∷ l) (i e)
 
 pub all_ended : (cs : List CallOut) (o : ObjId) → earliest_of cs o ≡ None → call_outs_without cs o ≡ cs
 all_ended cs o e = none_of o cs (by_due_none (filter (λ c. nat_eq c.object.0 o.0) cs) e)
+
+-- A turn of the loop, and its end.
+pub record GoesOn (now new : Timing) (o : ObjId) : Type 0 where
+  pub next : new.next ≡ now.next
+  pub beats : new.beats ≡ now.beats
+  pub watches : new.watches ≡ now.watches
+  pub once : AreNumberedOnce new.call_outs
+  pub others : call_outs_without new.call_outs o ≡ call_outs_without now.call_outs o
+  pub fewer : length new.call_outs < length now.call_outs
+
+-- what is left once the earliest was taken out
+abbrev pub left_by : Timing → ObjId → Option CallOut → Timing
+left_by now o e = record { next = now.next; call_outs = without_this now.call_outs e; beats = beats_left e now.beats o; watches = watches_left e now.watches o }
+
+some_mapped : {A B : Type 0} (f : A → B) (r : Option A) → is_some r ≡ is_some (option_map f r)
+some_mapped f None = refl
+some_mapped f (Some x) = refl
+
+goes_on : (now new : Timing) (o : ObjId) (e : Option CallOut) → earliest_of now.call_outs o ≡ e → is_some e ≡ true → new ≡ left_by now o (earliest_of now.call_outs o) → AreNumberedOnce now.call_outs → GoesOn now new o
+goes_on now new o None e s g once = absurd (none s)
+  where
+    none : false ≡ true → ⊥
+    none q = cc
+goes_on now new o (Some c) e s g once =
+    let is : new ≡ left_by now o (Some c) = g ∙ ap (left_by now o) e in
+    record {
+      next = ap (λ t. t.next) is;
+      beats = ap (λ t. t.beats) is;
+      watches = ap (λ t. t.watches) is;
+      once = subst (λ (t : Timing). AreNumberedOnce t.call_outs) (sym is) (once_filter (λ d. not (nat_eq d.number c.number)) now.call_outs once);
+      others = ap (λ (t : Timing). call_outs_without t.call_outs o) is ∙ one_ended now.call_outs o c once e;
+      fewer = subst (λ (t : Timing). length t.call_outs < length now.call_outs) (sym is) (one_fewer now.call_outs o c e);
+    }
+
+pub loop_goes_on : {A : Type 0} (f : A → CallOut) (r : Option A) (b : Bool) (now new : Timing) (o : ObjId) → b ≡ is_some r → b ≡ true → option_map f r ≡ earliest_of now.call_outs o
+    → new ≡ left_by now o (earliest_of now.call_outs o) → AreNumberedOnce now.call_outs → GoesOn now new o
+loop_goes_on f r b now new o is t e g once = goes_on now new o (option_map f r) (sym e) (sym (some_mapped f r) ∙ sym is ∙ t) g once
+
+ends_with : (first now new : Timing) (o : ObjId) (e : Option CallOut) → earliest_of now.call_outs o ≡ e → is_some e ≡ false → new ≡ left_by now o (earliest_of now.call_outs o)
+    → now.next ≡ first.next → now.beats ≡ first.beats → now.watches ≡ first.watches → call_outs_without now.call_outs o ≡ call_outs_without first.call_outs o → new ≡ timing_without first o
+ends_with first now new o (Some c) e s g n b w k = absurd (some s)
+  where
+    some : true ≡ false → ⊥
+    some q = cc
+ends_with first now new o None e s g n b w k =
+    g ∙ ap (left_by now o) e
+    ∙ ap (λ l. record { next = now.next; call_outs = l; beats = beat_off now.beats o; watches = watches_without now.watches o }) (sym (all_ended now.call_outs o e) ∙ k)
+    ∙ ap (λ l. record { next = l; call_outs = call_outs_without first.call_outs o; beats = beat_off now.beats o; watches = watches_without now.watches o }) n
+    ∙ ap (λ l. record { next = first.next; call_outs = call_outs_without first.call_outs o; beats = beat_off l o; watches = watches_without now.watches o }) b
+    ∙ ap (λ l. record { next = first.next; call_outs = call_outs_without first.call_outs o; beats = beat_off first.beats o; watches = watches_without l o }) w
+
+pub loop_ends : {A : Type 0} (f : A → CallOut) (r : Option A) (b : Bool) (first now new : Timing) (o : ObjId) → b ≡ is_some r → b ≡ false → option_map f r ≡ earliest_of now.call_outs o
+    → new ≡ left_by now o (earliest_of now.call_outs o) → now.next ≡ first.next → now.beats ≡ first.beats → now.watches ≡ first.watches → call_outs_without now.call_outs o ≡ call_outs_without first.call_outs o
+    → new ≡ timing_without first o
+loop_ends f r b first now new o is t e g n s w k = ends_with first now new o (option_map f r) (sym e) (sym (some_mapped f r) ∙ sym is ∙ t) g n s w k

@@ -8,3 +8,4 @@ pub mod Unpacked
 pub mod Entered
 pub mod CallOutLemmas
 pub mod Destroyed
+pub mod Placed

@@ -30,11 +30,17 @@ abbrev pub without_number : Connecting → Option ℕ → Connecting
 without_number c None = c
 without_number c (Some k) = record { opened = filter (λ x. not (nat_eq x.number k)) c.opened; highest = c.highest; present = c.present; waiting = filter (λ x. not (nat_eq x.connection k)) c.waiting }
 
--- where the table of places has an object, and who is then in reach of whom
+-- where the table of places has an object
 abbrev pub place_in : Places → ObjId → Option ObjId
 place_in t o = get nat_cmp t.lyings.forward o.0
 
+-- who is in reach of whom, where both are
+abbrev pub is_beside : Option ObjId → Option ObjId → ObjId → Bool
+is_beside None place giver = false
+is_beside (Some e) place giver = is_object giver e || is_at place e
+
+abbrev pub reaches_by : Option ObjId → Option ObjId → ObjId → ObjId → Bool
+reaches_by around place holder giver = is_object giver holder || is_at place holder || is_beside around place giver
+
 abbrev pub reached_in : Places → ObjId → ObjId → Bool
-reached_in t holder giver =
-    is_object giver holder || is_at (place_in t giver) holder
-    || elim (place_in t holder) [ Some e ↦ is_object giver e || is_at (place_in t giver) e | None ↦ false ]
+reached_in t holder giver = reaches_by (place_in t holder) (place_in t giver) holder giver

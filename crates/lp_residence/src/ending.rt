@@ -6,7 +6,7 @@ ghost use Rattle.lp_code.specs.declared.program.RawProgram.{RawProgram as Raw};
 ghost use Rattle.lp_language.specs.World.{World};
 ghost use Rattle.lp_meaning.specs.WorldSteps.{connection_of, destructed};
 ghost use Rattle.lp_places.specs.Places.{Lying, Shadowing, places_without, shadows_without};
-ghost use Rattle.lp_places.specs.Stands as places;
+ghost use Rattle.lp_places.specs.Stands.{Stands as Place};
 ghost use Rattle.lp_swapfile.specs.Device.{Bytes};
 ghost use Rattle.lp_world.specs.Closed.{IsClosed};
 ghost use Rattle.lp_world.specs.Rows.{live_in, row_after_death, row_at, state_in};
@@ -38,7 +38,7 @@ fn end_timers(timers: &mut Timers, ob: ObjId)
 /// Drops the actions whose givers are out of reach.
 fn drop_unreached(actions: &mut Actions, places: &Places)
     requires { ArePlaced places.now }
-    ensures kept { (ps : List Lying) (ss : List Shadowing) (as : List Sentence) → places.Stands places.now ps ss → Lists actions.old as → Lists actions.new (kept_in_reach ps as) }
+    ensures kept { (ps : List Lying) (ss : List Shadowing) (acts : List Sentence) → Place places.now ps ss → Lists actions.old acts → Lists actions.new (kept_in_reach ps acts) }
     ensures next { next_in actions.new ≡ next_in actions.old }
 {
     actions.keep_reach(&ByPlaces { places });
@@ -47,8 +47,8 @@ fn drop_unreached(actions: &mut Actions, places: &Places)
 /// An object is nowhere, holds no actions, and each action that then is out of reach ends.
 fn leave(places: &mut Places, actions: &mut Actions, ob: ObjId)
     requires { ArePlaced places.old }
-    ensures places { (ps : List Lying) (ss : List Shadowing) → places.Stands places.old ps ss → places.Stands places.new (places_without ps ob) (shadows_without ss ob) }
-    ensures actions { (ps : List Lying) (ss : List Shadowing) (as : List Sentence) → places.Stands places.old ps ss → Lists actions.old as → Lists actions.new (kept_in_reach (places_without ps ob) (sentences_without as ob)) }
+    ensures places { (ps : List Lying) (ss : List Shadowing) → Place places.old ps ss → Place places.new (places_without ps ob) (shadows_without ss ob) }
+    ensures actions { (ps : List Lying) (ss : List Shadowing) (acts : List Sentence) → Place places.old ps ss → Lists actions.old acts → Lists actions.new (kept_in_reach (places_without ps ob) (sentences_without acts ob)) }
     ensures next { next_in actions.new ≡ next_in actions.old }
 {
     places.take_out(ob);
