@@ -1,9 +1,10 @@
 -- Room for answers adds none.
-use Rattle.std.proofs.Common.{◌≡◌, ◌∙◌, ◌++◌, ◌<◌, ℕ, zero, suc, Bool, true, false, List, [], ◌∷◌, Option, Some, None, Result, Ok, Err, OnOk, OnErr, refl, ap, sym, slice_get, slice_index_or, unwrap_or, length, nat_eq, if◌then◌else◌, arith}
+use Rattle.std.proofs.Common.{◌≡◌, ◌∙◌, ◌++◌, ◌<◌, ℕ, zero, suc, Bool, true, false, List, [], ◌∷◌, Option, Some, None, Result, All, OnOk, OnErr, refl, ap, sym, slice_get, slice_index_or, unwrap_or, length, nat_eq, if◌then◌else◌, arith}
 use Rattle.std.specs.Prelude.{slice_set}
+use Rattle.std.proofs.lemmas.List.Elements.{All-head, All-tail}
 use Rattle.std.proofs.lemmas.Result.{on_err_weaker, on_ok_weaker}
 use Rattle.std.specs.declared.alloc.AllocError.{AllocError}
-use Rattle.lp_world.specs.Targets.{HasAnswerIn, HasSameAnswersIn, answer_at, answer_in, slot_answer, with_answer, with_slot}
+use Rattle.lp_world.specs.Targets.{AreAllAmong, HasAnswerIn, HasSameAnswersIn, IsAnswerAmong, answer_at, answer_in, slot_answer, with_answer, with_slot}
 use Rattle.lp_world.specs.declared.targets.FunAt.{FunAt}
 use Rattle.lp_world.specs.declared.targets.PartTargets.{PartTargets}
 use Rattle.lp_world.specs.declared.targets.Targets.{Targets}
@@ -72,3 +73,15 @@ version_kept r row v t part slot a e h = on_ok_weaker r (λ g. record { version 
 pub version_same : (r : Result (Unit {0}) AllocError) (row : Option Version) (v : Version) (t : Targets) → row ≡ Some v
     → OnErr r ((n k : ℕ) → answer_at t n k ≡ answer_at v.targets n k) → OnErr r (HasSameAnswersIn row (Some (record v { targets = t })))
 version_same r row v t e h = on_err_weaker r (λ g. record { version = v; there = e; targets = t; after = refl; answers = g }) h
+
+-- Answers that are there
+
+among_at : (counts : List ℕ) (xs : List (Option (Option FunAt))) (k : ℕ) → All (IsAnswerAmong counts) xs → IsAnswerAmong counts (unwrap_or (slice_get xs k) None)
+among_at counts [] k h = tt
+among_at counts (x ∷ xs) zero h = All-head (IsAnswerAmong counts) x xs h
+among_at counts (x ∷ xs) (suc k) h = among_at counts xs k (All-tail (IsAnswerAmong counts) x xs h)
+
+pub all_among : (counts : List ℕ) (ps : List PartTargets) → All (λ (p : PartTargets). AreAllAmong counts p.answers.items) ps → (n k : ℕ) → IsAnswerAmong counts (answer_in (slice_get ps n) k)
+all_among counts [] h n k = tt
+all_among counts (p ∷ ps) h zero k = among_at counts p.answers.items k (All-head (λ (p : PartTargets). AreAllAmong counts p.answers.items) p ps h)
+all_among counts (p ∷ ps) h (suc n) k = all_among counts ps (All-tail (λ (p : PartTargets). AreAllAmong counts p.answers.items) p ps h) n k

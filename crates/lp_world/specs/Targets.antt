@@ -1,5 +1,5 @@
 -- What was found for the slots of a version's parts.
-use Rattle.std.specs.Prelude.{◌≡◌, ℕ, List, Option, Some, None, slice_get, slice_set, unwrap_or, nat_eq, if◌then◌else◌}
+use Rattle.std.specs.Prelude.{◌≡◌, ◌<◌, ⊤, All, ℕ, List, Option, Some, None, slice_get, slice_set, unwrap_or, nat_eq, if◌then◌else◌}
 use Rattle.lp_world.specs.declared.targets.FunAt.{FunAt}
 use Rattle.lp_world.specs.declared.targets.PartTargets.{PartTargets}
 use Rattle.lp_world.specs.declared.targets.Targets.{Targets}
@@ -49,3 +49,18 @@ pub record HasSameAnswers (old new : List (Option Version)) (p : ℕ) : Type 0 w
   pub row : Option Version
   pub after : new ≡ slice_set old p row
   pub has : HasSameAnswersIn (unwrap_or (slice_get old p) None) row
+
+-- a part has a function at a row, where the parts have so many functions
+pub record IsAmong (counts : List ℕ) (part fun : ℕ) : Type 0 where
+  pub count : ℕ
+  pub listed : slice_get counts part ≡ Some count
+  pub row : fun < count
+
+-- and so has the part of an answer, where it is a function
+abbrev pub IsAnswerAmong : List ℕ → Option (Option FunAt) → Type 0
+IsAnswerAmong counts None = ⊤
+IsAnswerAmong counts (Some None) = ⊤
+IsAnswerAmong counts (Some (Some f)) = IsAmong counts f.part f.fun
+
+abbrev pub AreAllAmong : List ℕ → List (Option (Option FunAt)) → Type 0
+AreAllAmong counts answers = All (IsAnswerAmong counts) answers

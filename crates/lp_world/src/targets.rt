@@ -1,6 +1,7 @@
 //! Where internal calls of a version lead, as far as that was found.
-ghost use Rattle.std.specs.Prelude.{◌≡◌, ◌<◌, ℕ, None, OnErr, OnOk, vec_len};
-ghost use Rattle.lp_world.specs.Targets.{answer_at, slot_answer, with_answer, with_slot};
+ghost use Rattle.std.specs.Prelude.{◌≡◌, ◌<◌, ℕ, None, OnErr, OnOk, Some, vec_len};
+ghost use Rattle.std.specs.Bool.{OnTrue};
+ghost use Rattle.lp_world.specs.Targets.{AreAllAmong, IsAmong, IsAnswerAmong, answer_at, slot_answer, with_answer, with_slot};
 
 use std::alloc::{AllocError, Global};
 
@@ -17,6 +18,38 @@ pub struct FunAt {
 #[derive(Drop)]
 pub(crate) struct PartTargets {
     pub(crate) answers: Vec<Option<Option<FunAt>>>,
+}
+
+/// Whether a part has a function at a row, where the parts have so many functions.
+pub fn is_among(counts: &[u32], part: u16, fun: u16) -> bool
+    ensures { OnTrue result (IsAmong counts.now part fun) }
+{
+    match counts.get(part as usize) {
+        Some(n) => (fun as u32) < *n,
+        None => false,
+    }
+}
+
+/// Whether an answer, if it is a function, is one that is there.
+fn is_answer_among(answer: &Option<Option<FunAt>>, counts: &[u32]) -> bool
+    ensures { OnTrue result (IsAnswerAmong counts.now answer.now) }
+{
+    match answer {
+        Some(Some(f)) => is_among(counts, f.part, f.fun),
+        _ => true,
+    }
+}
+
+/// Whether each answer that is a function is one that is there.
+fn are_among(answers: &[Option<Option<FunAt>>], counts: &[u32]) -> bool
+    ensures { OnTrue result (AreAllAmong counts.now answers.now) }
+{
+    for answer in answers {
+        if !is_answer_among(answer, counts) {
+            return false;
+        }
+    }
+    true
 }
 
 impl PartTargets {
@@ -98,5 +131,17 @@ impl Targets {
     {
         self.grow(alloc, part as usize)?;
         self.parts[part as usize].keep(slot as usize, answer)
+    }
+
+    /// Whether each function that is kept is there, where the parts have so many functions.
+    pub fn are_among(&self, counts: &[u32]) -> bool
+        ensures { OnTrue result ((n k : ℕ) → IsAnswerAmong counts.now (answer_at self.now n k)) }
+    {
+        for part in &self.parts {
+            if !are_among(part.answers.as_slice(), counts) {
+                return false;
+            }
+        }
+        true
     }
 }
