@@ -62,7 +62,7 @@ each_alone (c ∷ cs) h =
     let i = each_alone cs h.1 in
     All-cons (Alone (c ∷ cs)) c cs
     (All-cons (λ (d : CallOut). d.number ≡ c.number → d.object.0 ≡ c.object.0) c cs (λ e. refl)
-        (All-weaker (λ (d : CallOut). d.number ≢ c.number) (λ (d : CallOut). d.number ≡ c.number → d.object.0 ≡ c.object.0) (λ d n e. absurd (n e)) cs h.0))
+    (All-weaker (λ (d : CallOut). d.number ≢ c.number) (λ (d : CallOut). d.number ≡ c.number → d.object.0 ≡ c.object.0) (λ d n e. absurd (n e)) cs h.0))
     (λ k d l. alone_more c (slice_index_or cs k d) cs (h.0 k d l) (i k d l))
 
 pub once_filter : (p : CallOut → Bool) (cs : List CallOut) → AreNumberedOnce cs → AreNumberedOnce (filter p cs)

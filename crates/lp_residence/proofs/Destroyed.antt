@@ -119,7 +119,7 @@ objects_after : (told : Option Bytes) (programs : List RawProgram) (live : Live)
 objects_after told programs live w o row x h e q is n = elim (same_or_not o.0 n) [
   | inl s ↦ subst (λ n. ObjectIs told live.cells w.cells n (slice_get (slice_set live.objects o.0 (row_after_death (Some row))) n) (slice_get (slice_set w.objects o.0 (dead x)) n)) s
       (rw (get_set_here live.objects o.0 (row_after_death (Some row)) (Some row) e, get_set_here w.objects o.0 (dead x) x q)
-          (dead_row told live.cells w.cells o.0 row x (is_out_state row.state) refl is))
+      (dead_row told live.cells w.cells o.0 row x (is_out_state row.state) refl is))
   | inr d ↦ rw (get_set live.objects o.0 n (row_after_death (Some row)) d, get_set w.objects o.0 n (dead x) d) (h.objects n)
 ]
 
@@ -267,17 +267,17 @@ still_taken live o row r (objects_of.Resident vs) e h g t =
     let was : object_extents (Some row) ≡ [] = ap (λ s. option_to_list (option_map extent_of (object_ticket s))) e in
     subst (λ x. AreTaken (extents_of (slice_set live.objects o.0 x) live.versions) r) (sym dead)
     (subst (AreTaken (extents_of (slice_set live.objects o.0 (Some (record row { is_live = false; is_living = false }))) live.versions)) (sym t)
-        (taken_by_counts (extents_of live.objects live.versions) (extents_of (slice_set live.objects o.0 (Some (record row { is_live = false; is_living = false }))) live.versions) live.swapper
-            (let a = row_counts object_extents length length-append live.objects o.0 (Some row) (Some (record row { is_live = false; is_living = false })) g in
-             let x = length-append (flat_map object_extents live.objects) (flat_map version_extents live.versions) in
-             let y = length-append (flat_map object_extents (slice_set live.objects o.0 (Some (record row { is_live = false; is_living = false })))) (flat_map version_extents live.versions) in
-             omega (arith, a, x, y))
-            (λ i.
-             let a = row_counts object_extents (covers i) (covers-append i) live.objects o.0 (Some row) (Some (record row { is_live = false; is_living = false })) g in
-             let x = covers-append i (flat_map object_extents live.objects) (flat_map version_extents live.versions) in
-             let y = covers-append i (flat_map object_extents (slice_set live.objects o.0 (Some (record row { is_live = false; is_living = false })))) (flat_map version_extents live.versions) in
-             omega (arith, a, x, y))
-            h.room))
+    (taken_by_counts (extents_of live.objects live.versions) (extents_of (slice_set live.objects o.0 (Some (record row { is_live = false; is_living = false }))) live.versions) live.swapper
+    (let a = row_counts object_extents length length-append live.objects o.0 (Some row) (Some (record row { is_live = false; is_living = false })) g in
+    let x = length-append (flat_map object_extents live.objects) (flat_map version_extents live.versions) in
+    let y = length-append (flat_map object_extents (slice_set live.objects o.0 (Some (record row { is_live = false; is_living = false })))) (flat_map version_extents live.versions) in
+    omega (arith, a, x, y))
+    (λ i.
+    let a = row_counts object_extents (covers i) (covers-append i) live.objects o.0 (Some row) (Some (record row { is_live = false; is_living = false })) g in
+    let x = covers-append i (flat_map object_extents live.objects) (flat_map version_extents live.versions) in
+    let y = covers-append i (flat_map object_extents (slice_set live.objects o.0 (Some (record row { is_live = false; is_living = false })))) (flat_map version_extents live.versions) in
+    omega (arith, a, x, y))
+    h.room))
 still_taken live o row r (objects_of.Swapped u shared own) e h g t =
     let dead : row_after_death (Some row) ≡ None = rw e refl in
     subst (λ x. AreTaken (extents_of (slice_set live.objects o.0 x) live.versions) r) (sym dead)

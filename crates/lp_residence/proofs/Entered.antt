@@ -60,18 +60,18 @@ without_object live o row new t h e r is =
     let was : object_extents (Some row) ≡ extent_of t ∷ [] = ap (λ k. option_to_list (option_map extent_of k)) r in
     fewer_taken (extents_of live.objects live.versions) (extents_of (slice_set live.objects o.0 new) live.versions) live.swapper t
     (let a = row_counts object_extents length length-append live.objects o.0 (Some row) new e in
-     let y = ap (λ l. length l) was in
-     let z = ap (λ l. length l) is in
-     let p = length-append (flat_map object_extents live.objects) (flat_map version_extents live.versions) in
-     let q = length-append (flat_map object_extents (slice_set live.objects o.0 new)) (flat_map version_extents live.versions) in
-     omega (arith, a, y, z, p, q))
+    let y = ap (λ l. length l) was in
+    let z = ap (λ l. length l) is in
+    let p = length-append (flat_map object_extents live.objects) (flat_map version_extents live.versions) in
+    let q = length-append (flat_map object_extents (slice_set live.objects o.0 new)) (flat_map version_extents live.versions) in
+    omega (arith, a, y, z, p, q))
     (λ i.
-     let a = row_counts object_extents (covers i) (covers-append i) live.objects o.0 (Some row) new e in
-     let y = ap (covers i) was in
-     let z = ap (covers i) is in
-     let p = covers-append i (flat_map object_extents live.objects) (flat_map version_extents live.versions) in
-     let q = covers-append i (flat_map object_extents (slice_set live.objects o.0 new)) (flat_map version_extents live.versions) in
-     omega (arith, a, y, z, p, q))
+    let a = row_counts object_extents (covers i) (covers-append i) live.objects o.0 (Some row) new e in
+    let y = ap (covers i) was in
+    let z = ap (covers i) is in
+    let p = covers-append i (flat_map object_extents live.objects) (flat_map version_extents live.versions) in
+    let q = covers-append i (flat_map object_extents (slice_set live.objects o.0 new)) (flat_map version_extents live.versions) in
+    omega (arith, a, y, z, p, q))
     h.room
 
 -- the extent of an object that is out can be given back

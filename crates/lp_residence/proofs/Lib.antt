@@ -9,3 +9,5 @@ pub mod Entered
 pub mod CallOutLemmas
 pub mod Destroyed
 pub mod Placed
+pub mod Returned
+pub mod Fitted

@@ -51,11 +51,14 @@ IsCausedBy who None told last e = ⊥
 IsCausedBy who (Some t) told last e = IsCaused who t told last e
 
 -- the answer is not that bytes changed
+abbrev pub IsHonestFault : EnterFault → Type 0
+IsHonestFault (Swap Read) = ⊤
+IsHonestFault (Swap (Changed who found)) = ⊥
+IsHonestFault NoMemory = ⊤
+
 abbrev pub IsHonest : {A : Type 0} → Result A EnterFault → Type 0
 IsHonest (Ok x) = ⊤
-IsHonest (Err (Swap Read)) = ⊤
-IsHonest (Err (Swap (Changed who found))) = ⊥
-IsHonest (Err NoMemory) = ⊤
+IsHonest (Err e) = IsHonestFault e
 
 -- What comes in
 

@@ -3,3 +3,5 @@ pub mod Puts
 pub mod Residence
 pub mod Entering
 pub mod Ending
+pub mod Programs
+pub mod Idling

@@ -21,6 +21,17 @@ pub enum PutOut {
     KeptFull,
 }
 
+/// How many idle objects and programs went out, and how many were kept in memory for each cause.
+#[derive(Clone, Copy, Debug, PartialEq, Eq)]
+pub struct Idled {
+    /// How many are out.
+    pub out: u64,
+    /// How many were kept since a write failed.
+    pub fault: u64,
+    /// How many were kept since there is no room.
+    pub full: u64,
+}
+
 /// Why a record did not come back.
 #[derive(Debug, PartialEq, Eq, Drop)]
 pub enum SwapCause {

@@ -7,6 +7,8 @@
 pub mod answers;
 pub mod ending;
 pub mod entering;
+mod fitting;
+pub mod idling;
 mod objects;
 pub mod owner;
 mod packing;
@@ -15,4 +17,5 @@ pub mod putting;
 mod reach;
 mod reading;
 mod residence;
+pub mod returning;
 mod unpacking;

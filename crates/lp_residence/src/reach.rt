@@ -40,12 +40,7 @@ fn is_beside(around: Option<ObjId>, place: Option<ObjId>, giver: ObjId) -> bool
 }
 
 /// Whether the giver of an action is in reach of its holder, where both are.
-fn reaches_by(
-    around: Option<ObjId>,
-    place: Option<ObjId>,
-    holder: ObjId,
-    giver: ObjId,
-) -> bool
+fn reaches_by(around: Option<ObjId>, place: Option<ObjId>, holder: ObjId, giver: ObjId) -> bool
     ensures { result ≡ reaches_by around place holder giver }
 {
     if giver == holder {

@@ -22,7 +22,7 @@ returns-clause-stands c = λ told programs w h.
     let live = c.args.live.now in
     let r = live_row live.objects c.args.ob c.requires.live in
     let is = same_ended live c.args.ob c.kill.new.self c.leave.new.places c.leave.new.actions c.of-connection.result c.free_room.new.swapper c.kill-2.new.self c.end_timers.new.timers c.close.new.connections
-        c.kill-2.ensures c.end_timers.ensures c.close.ensures in
+    c.kill-2.ensures c.end_timers.ensures c.close.ensures in
     let d = stands_destroyed told programs live w c.args.ob r.0 c.kill.new.self c.leave.new.places c.leave.new.actions c.kill.result c.of-connection.result c.free_room.new.swapper (record {
       killed = c.kill.ensures.killed;
       was = c.kill.ensures.was;
@@ -39,7 +39,7 @@ returns-clause-closed c =
     let live = c.args.live.now in
     let r = live_row live.objects c.args.ob c.requires.live in
     let is = same_ended live c.args.ob c.kill.new.self c.leave.new.places c.leave.new.actions c.of-connection.result c.free_room.new.swapper c.kill-2.new.self c.end_timers.new.timers c.close.new.connections
-        c.kill-2.ensures c.end_timers.ensures c.close.ensures in
+    c.kill-2.ensures c.end_timers.ensures c.close.ensures in
     subst IsClosed (sym is) (closed_destroyed live c.args.ob r.0 c.kill.new.self c.leave.new.places c.leave.new.actions c.of-connection.result c.free_room.new.swapper c.requires.closed r.1 c.free_room.ensures.taken)
 
 pub returns-clause-placed : goal.returns-clause-placed

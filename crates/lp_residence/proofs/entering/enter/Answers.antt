@@ -18,7 +18,7 @@ returns-in-Ok-clause-closed g c =
     let is : c.bring_back.new.live ≡ object_back live c.args.ob c.in-Ok.values t = c.bring_back.ensures.after t e in
     let taken = subst (λ k. AreTakenWithout k live.swapper c.bring_back.new.live.swapper) e c.bring_back.ensures.taken in
     subst IsClosed (sym is) (closed_back live c.args.ob c.in-Ok.values c.count_of-count.result t c.requires.closed e c.count_of-count.ensures c.in-Ok.ensures.fit
-        (subst (λ r. AreTakenWithout (Some t) live.swapper r) (ap (λ l. l.swapper) is) taken))
+    (subst (λ r. AreTakenWithout (Some t) live.swapper r) (ap (λ l. l.swapper) is) taken))
 
 pub returns-in-Ok-clause-stands : goal.returns-in-Ok-clause-stands
 returns-in-Ok-clause-stands g c = λ true programs w h.
@@ -28,4 +28,4 @@ returns-in-Ok-clause-stands g c = λ true programs w h.
     let is : c.bring_back.new.live ≡ object_back live c.args.ob c.in-Ok.values t = c.bring_back.ensures.after t e in
     subst (λ k. Stands k programs c.bring_back.new.live w) (sym c.in-Ok.ensures.kept)
     (subst (λ l. Stands (g.W.SwapFile.content c.args.swap.now) programs l w) (sym is)
-        (stands_back (g.W.SwapFile.content c.args.swap.now) programs live w c.args.ob c.in-Ok.values t c.requires.closed e (λ was out. (c.in-Ok.ensures.truthful true).1 was out) h))
+    (stands_back (g.W.SwapFile.content c.args.swap.now) programs live w c.args.ob c.in-Ok.values t c.requires.closed e (λ was out. (c.in-Ok.ensures.truthful true).1 was out) h))
