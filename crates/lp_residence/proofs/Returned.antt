@@ -27,7 +27,6 @@ use Rattle.lp_world.specs.declared.versions.ProgramState.TheVariants as programs
 use Rattle.lp_world.specs.declared.versions.Version.{Version}
 use Rattle.lp_residence.specs.Entering.{AreTakenWithout, CanGiveBack, IsProgramOf, room_back, version_back}
 use Rattle.lp_residence.specs.Owners.{program_image, ticket_of_version}
-
 use Rattle.lp_residence.specs.Programs.{IsCallThere, IsSlotAmong, functions_in}
 use Rattle.lp_residence.proofs.Counting.{row_counts}
 use Rattle.lp_residence.proofs.Entered.{fewer_taken}

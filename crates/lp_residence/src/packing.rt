@@ -47,8 +47,9 @@ fn record_of(alloc: Global, ob: ObjId, values: &[Value]) -> Result<Record, Alloc
     })
 }
 
-/// The image of the record of an object.
-pub(crate) fn image_of(alloc: Global, ob: ObjId, values: &[Value]) -> Result<Octets, AllocError>
+/// The image of the record of an object with these variables. Where a length does not fit its four bytes, memory
+/// has run out.
+pub fn image_of(alloc: Global, ob: ObjId, values: &[Value]) -> Result<Octets, AllocError>
     ensures fits { OnOk result (IsRecord (record_of ob values.now)) }
     ensures bytes { IfOk result (λ b. b ≡ image (record_of ob values.now)) }
 {
@@ -68,7 +69,7 @@ fn put_cell(cells: &mut Vec<CellId>, v: &Value) -> Result<(), AllocError>
 }
 
 /// The cells that values name, each as often as they name it.
-pub(crate) fn cells_named(alloc: Global, values: &[Value]) -> Result<Serials, AllocError>
+pub fn cells_named(alloc: Global, values: &[Value]) -> Result<Serials, AllocError>
     ensures { IfOk result (λ cs. cs ≡ cells_named values.now) }
 {
     let mut cells = Vec::new(alloc);

@@ -9,8 +9,11 @@ use crate::owner::Owner;
 use lp_swapfile::SwapFile;
 use lp_swapper::{BackFault, Octets, Swapper, Ticket};
 
-/// Reads what went out for the ticket of an owner.
-pub(crate) fn look_at<W: SwapFile>(
+/// Reads what went out for the ticket of an owner, which stays out.
+///
+/// - `Swap(Read)`: the read failed, and the count of read faults rose.
+/// - `Swap(Changed)`: what was read is not what went out, as its digest shows.
+pub fn look_at<W: SwapFile>(
     swapper: &Swapper,
     swap: &mut W,
     who: Owner,

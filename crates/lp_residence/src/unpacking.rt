@@ -49,8 +49,9 @@ fn record_in(alloc: Global, bytes: &[u8]) -> Result<Record, AllocError>
     }
 }
 
-/// The values of the variables that the record of an object has.
-pub(crate) fn values_in(alloc: Global, bytes: &[u8]) -> Result<Items, AllocError>
+/// The values of an object's variables, from the image of its record. The answer is want of memory too where the
+/// bytes are the image of no record, or of one with cells of its own.
+pub fn values_in(alloc: Global, bytes: &[u8]) -> Result<Items, AllocError>
     ensures { IfOk result (λ vs. AreValuesOf bytes.now vs) }
 {
     let record = record_in(alloc, bytes)?;

@@ -19,7 +19,7 @@ returns-in-Ok-Some-clause-closed g c =
     let is : c.bring_back.new.live ≡ version_back live c.args.p c.in-Ok-Some.program t = c.bring_back.ensures.after t k.1 in
     let taken = subst (λ x. AreTakenWithout x live.swapper c.bring_back.new.live.swapper) k.1 c.bring_back.ensures.taken in
     subst IsClosed (sym is) (closed_returned live c.args.p c.in-Ok-Some.program t c.requires.closed k.1 (λ v q. c.in-Ok-Some.ensures.fits c.in-Ok-Some.program c.in-Ok-Some.field-0-is v q)
-        (subst (λ r. AreTakenWithout (Some t) live.swapper r) (ap (λ l. l.swapper) is) taken))
+    (subst (λ r. AreTakenWithout (Some t) live.swapper r) (ap (λ l. l.swapper) is) taken))
 
 pub returns-in-Ok-Some-clause-stands : goal.returns-in-Ok-Some-clause-stands
 returns-in-Ok-Some-clause-stands g c = λ true programs w h.
@@ -29,12 +29,14 @@ returns-in-Ok-Some-clause-stands g c = λ true programs w h.
     let is : c.bring_back.new.live ≡ version_back live c.args.p c.in-Ok-Some.program t = c.bring_back.ensures.after t k.1 in
     subst (λ x. Stands x programs c.bring_back.new.live w) (sym c.in-Ok-Some.ensures.kept)
     (subst (λ l. Stands (g.W.SwapFile.content c.args.swap.now) programs l w) (sym is)
-        (stands_returned (g.W.SwapFile.content c.args.swap.now) programs live w c.args.p c.in-Ok-Some.program t k.1 (λ was out. (c.in-Ok-Some.ensures.truthful true).1 t was k.1 out c.in-Ok-Some.program c.in-Ok-Some.field-0-is) h))
+    (stands_returned (g.W.SwapFile.content c.args.swap.now) programs live w c.args.p c.in-Ok-Some.program t k.1 (λ was out. (c.in-Ok-Some.ensures.truthful true).1 t was k.1 out c.in-Ok-Some.program c.in-Ok-Some.field-0-is) h))
 
 pub returns-in-Err-clause-honest : goal.returns-in-Err-clause-honest
-returns-in-Err-clause-honest g c = λ honest.
-    ((c.in-Err.ensures.honest honest).0, λ programs w h.
+returns-in-Err-clause-honest g c = λ honest. (
+  (c.in-Err.ensures.honest honest).0,
+  λ programs w h.
       let live = c.args.live.now in
       let k = one_ticket (ticket_of_version (version_state (row_at live.versions c.args.p.0))) (λ n. let r = (c.enter_version.ensures.in_memory n).0 in let s = c.in-Err.is in cc) in
       let b = version_bytes (g.W.SwapFile.content c.args.swap.now) programs live w c.args.p k.0 h k.1 in
-      (c.in-Err.ensures.honest honest).1 k.0 b.0 k.1 b.1)
+      (c.in-Err.ensures.honest honest).1 k.0 b.0 k.1 b.1,
+)
