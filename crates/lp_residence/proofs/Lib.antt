@@ -11,3 +11,4 @@ pub mod Destroyed
 pub mod Placed
 pub mod Returned
 pub mod Fitted
+pub mod IdleLemmas

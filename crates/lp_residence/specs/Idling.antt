@@ -81,6 +81,19 @@ abbrev pub IsTurn : Bool → Owner → Live → Device → Idled → Live → De
 IsTurn true who l d n l' d' n' = IsPutOne who l d n l' d' n'
 IsTurn false who l d n l' d' n' = (l' ≡ l) × (d' ≡ d) × (n' ≡ n)
 
--- the state, with what its swap file tells, stands for each world for which it stood
+-- nothing went yet
 abbrev pub none_yet : Idled
 none_yet = record { out = 0; fault = 0; full = 0 }
+
+-- From a serial on the objects are as they were, and so are the versions and the clock.
+pub record IsUntouched (n : ℕ) (old new : Live) : Type 0 where
+  pub clock : new.clock ≡ old.clock
+  pub length_is : length new.objects ≡ length old.objects
+  pub objects : (m : ℕ) → n ≤ m → row_at new.objects m ≡ row_at old.objects m
+  pub versions : new.versions ≡ old.versions
+
+-- From a number on the versions are as they were, and so is the clock.
+pub record AreUntouched (n : ℕ) (old new : Live) : Type 0 where
+  pub clock : new.clock ≡ old.clock
+  pub length_is : length new.versions ≡ length old.versions
+  pub versions : (m : ℕ) → n ≤ m → row_at new.versions m ≡ row_at old.versions m
