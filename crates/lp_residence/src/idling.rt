@@ -100,6 +100,9 @@ fn put_one<W: SwapFile>(
     ensures closed { IsClosed live.new }
     ensures stands { IsTold (W.content swap.old) → IsTold (W.content swap.new) × ((programs : List Raw) (w : World) → Stands (W.content swap.old) programs live.old w → Stands (W.content swap.new) programs live.new w) }
     ensures put { OnOk result (IsPutOne who live.old (record { told = W.content swap.old; faults = W.write_faults swap.old }) counts.old live.new (record { told = W.content swap.new; faults = W.write_faults swap.new }) counts.new) }
+    ensures read_faults { W.read_faults swap.new ≡ W.read_faults swap.old }
+    ensures honest { W.is_honest swap.new → W.is_honest swap.old }
+    ensures truthful { W.is_truthful swap.new → W.is_truthful swap.old }
 {
     match put_out(live, swap, who) {
         Ok(answer) => {
@@ -123,6 +126,9 @@ fn take_turn<W: SwapFile>(
     ensures closed { IsClosed live.new }
     ensures stands { IsTold (W.content swap.old) → IsTold (W.content swap.new) × ((programs : List Raw) (w : World) → Stands (W.content swap.old) programs live.old w → Stands (W.content swap.new) programs live.new w) }
     ensures turn { OnOk result (IsTurn (goes swap_time live.old who) who live.old (record { told = W.content swap.old; faults = W.write_faults swap.old }) counts.old live.new (record { told = W.content swap.new; faults = W.write_faults swap.new }) counts.new) }
+    ensures read_faults { W.read_faults swap.new ≡ W.read_faults swap.old }
+    ensures honest { W.is_honest swap.new → W.is_honest swap.old }
+    ensures truthful { W.is_truthful swap.new → W.is_truthful swap.old }
 {
     if owner_goes(live, swap_time, who) {
         return put_one(live, swap, who, counts);
@@ -144,6 +150,9 @@ fn idle_objects<W: SwapFile>(
     ensures put { OnOk result (ArePut (filter (goes swap_time live.old) (first_objects (length live.old.objects))) live.old (record { told = W.content swap.old; faults = W.write_faults swap.old }) none_yet live.new (record { told = W.content swap.new; faults = W.write_faults swap.new }) counts.new) }
     ensures untouched { OnOk result (IsUntouched (length live.old.objects) live.old live.new) }
     ensures few { OnOk result (together counts.new ≤ length live.old.objects) }
+    ensures read_faults { W.read_faults swap.new ≡ W.read_faults swap.old }
+    ensures honest { W.is_honest swap.new → W.is_honest swap.old }
+    ensures truthful { W.is_truthful swap.new → W.is_truthful swap.old }
 {
     let count = live.objects.len() as u64;
     for n in 0..count {
@@ -164,6 +173,9 @@ fn idle_versions<W: SwapFile>(
     ensures closed { IsClosed live.new }
     ensures stands { IsTold (W.content swap.old) → IsTold (W.content swap.new) × ((programs : List Raw) (w : World) → Stands (W.content swap.old) programs live.old w → Stands (W.content swap.new) programs live.new w) }
     ensures put { OnOk result (ArePut (filter (goes swap_time live.old) (first_versions (length live.old.versions))) live.old (record { told = W.content swap.old; faults = W.write_faults swap.old }) counts.old live.new (record { told = W.content swap.new; faults = W.write_faults swap.new }) counts.new) }
+    ensures read_faults { W.read_faults swap.new ≡ W.read_faults swap.old }
+    ensures honest { W.is_honest swap.new → W.is_honest swap.old }
+    ensures truthful { W.is_truthful swap.new → W.is_truthful swap.old }
 {
     let count = live.versions.len() as u64;
     for n in 0..count {
@@ -196,6 +208,9 @@ pub fn idle<W: SwapFile>(live: &mut Live, swap: &mut W, swap_time: u64) -> Resul
     ensures stands { IsTold (W.content swap.old) → (programs : List Raw) (w : World) → Stands (W.content swap.old) programs live.old w → Stands (W.content swap.new) programs live.new w }
     ensures put { IfOk result (λ n. ArePut (going swap_time live.old) live.old (record { told = W.content swap.old; faults = W.write_faults swap.old }) none_yet live.new (record { told = W.content swap.new; faults = W.write_faults swap.new }) n) }
     ensures all { IfOk result (λ n. together n ≡ length (going swap_time live.old)) }
+    ensures read_faults { W.read_faults swap.new ≡ W.read_faults swap.old }
+    ensures honest { W.is_honest swap.new → W.is_honest swap.old }
+    ensures truthful { W.is_truthful swap.new → W.is_truthful swap.old }
 {
     if !are_few(live) {
         return Err(AllocError);

@@ -1,4 +1,4 @@
-use Rattle.std.proofs.Common.{◌≡◌, ◌+◌, ◌≤◌, arith}
+use Rattle.std.proofs.Common.{◌≡◌, ◌∙◌, ◌+◌, ◌≤◌, arith}
 use Rattle.lp_residence.specs.Idling.{Device, goes, together}
 use Rattle.lp_residence.specs.declared.owner.Owner.TheVariants as owners
 use Rattle.lp_residence.proofs.IdleLemmas.{next_put, next_untouched, turn_counts}
@@ -21,4 +21,7 @@ loop-n-preserved g c =
       put = next_put c.args.swap_time n c.args.live.now c.loop-n.live c.take_turn.new.live start was is c.loop-n.counts c.take_turn.new.counts c.loop-n.invariant.untouched c.loop-n.invariant.put turn;
       untouched = next_untouched here n c.args.live.now c.loop-n.live c.take_turn.new.live was is c.loop-n.counts c.take_turn.new.counts c.loop-n.invariant.untouched turn;
       few = let t = turn_counts here (owners.Object (record { 0 = n })) c.loop-n.live c.take_turn.new.live was is c.loop-n.counts c.take_turn.new.counts turn in let f = c.loop-n.invariant.few in omega (arith, t, f);
+      read_faults = c.in_ok-take_turn.ensures.read_faults ∙ c.loop-n.invariant.read_faults;
+      honest = λ h. c.loop-n.invariant.honest (c.in_ok-take_turn.ensures.honest h);
+      truthful = λ h. c.loop-n.invariant.truthful (c.in_ok-take_turn.ensures.truthful h);
     }

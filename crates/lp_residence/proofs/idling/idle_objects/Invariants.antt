@@ -14,4 +14,7 @@ invariant-loop-n g l = record {
   put : ArePut (filter (goes l.swap_time l.fn.live) (first_objects l.n)) l.fn.live (record { told = g.W.SwapFile.content l.fn.swap; faults = g.W.SwapFile.write_faults l.fn.swap }) none_yet l.live (record { told = g.W.SwapFile.content l.swap; faults = g.W.SwapFile.write_faults l.swap }) l.counts;
   untouched : IsUntouched l.n l.fn.live l.live;
   few : together l.counts ≤ l.n;
+  read_faults : g.W.SwapFile.read_faults l.swap ≡ g.W.SwapFile.read_faults l.fn.swap;
+  honest : g.W.SwapFile.is_honest l.swap → g.W.SwapFile.is_honest l.fn.swap;
+  truthful : g.W.SwapFile.is_truthful l.swap → g.W.SwapFile.is_truthful l.fn.swap;
 }
