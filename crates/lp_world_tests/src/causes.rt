@@ -14,7 +14,7 @@ fn numbers(alloc: Global, xs: &[u64]) -> Result<Vec<u64>, Fail> {
 // Whether a look gives what was written, or fails where it is to.
 fn gives_or_fails(swapper: &Swapper, swap: &mut MemSwap, t: &Ticket, fails: bool) -> bool {
     match look_at(swapper, swap, Owner::Object(ObjId(7)), t) {
-        Ok(bytes) => !fails && bytes.as_slice() == b"abc",
+        Ok(bytes) => !fails && bytes.as_slice() == b"abc".as_slice(),
         Err(EnterFault::Swap(SwapCause::Read)) => fails,
         Err(_) => false,
     }
@@ -51,9 +51,10 @@ fn each_read_may_fail(rt: HostRuntime) -> Result<(), Fail> {
 // Whether a look gives what was written, or tells of the lie where one is told: `a` is 97, and 255 less that is 158.
 fn gives_or_tells(swapper: &Swapper, swap: &mut MemSwap, t: &Ticket, lies: bool) -> bool {
     match look_at(swapper, swap, Owner::Program(ProgId(2)), t) {
-        Ok(bytes) => !lies && bytes.as_slice() == b"abc",
+        Ok(bytes) => !lies && bytes.as_slice() == b"abc".as_slice(),
         Err(EnterFault::Swap(SwapCause::Changed { owner, found })) => {
-            lies && owner == Owner::Program(ProgId(2)) && found.as_slice() == [158, 98, 99]
+            lies && owner == Owner::Program(ProgId(2))
+                && found.as_slice() == [158u8, 98, 99].as_slice()
         }
         Err(_) => false,
     }
