@@ -94,6 +94,7 @@ pub fn destroy(live: &mut Live, ob: ObjId) -> Option<u32>
     ensures row { live.new.objects ≡ slice_set live.old.objects ob.0 (row_after_death (row_at live.old.objects ob.0)) }
     ensures cells { live.new.cells ≡ live.old.cells }
     ensures versions { live.new.versions ≡ live.old.versions }
+    ensures store { live.new.store ≡ live.old.store }
     ensures outputs { live.new.outputs ≡ live.old.outputs }
 {
     live.swapper.law();
