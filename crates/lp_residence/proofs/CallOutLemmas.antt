@@ -1,5 +1,5 @@
 -- The call-outs of an object end one by one.
-use Rattle.std.proofs.Common.{◌≡◌, ◌≢◌, ◌∙◌, ◌+◌, ◌<◌, ◌≤◌, ℕ, suc, zero, Bool, true, false, not, List, [], ◌∷◌, Option, Some, None, is_some, option_map, All, refl, ap, sym, subst, length, filter, nat_eq, nat_lt, unwrap_or, slice_index_or, if◌then◌else◌, arith}
+use Rattle.std.proofs.Common.{◌≡◌, ◌≢◌, ◌∙◌, ◌<◌, ◌≤◌, ℕ, suc, zero, Bool, true, false, not, List, [], ◌∷◌, Option, Some, None, is_some, option_map, All, refl, ap, sym, subst, length, filter, nat_eq, nat_lt, unwrap_or, slice_index_or, if◌then◌else◌, arith}
 use Rattle.std.specs.List.{fold}
 use Rattle.std.proofs.lemmas.List.Elements.{All-cons, All-head, All-nil, All-tail, All-weaker}
 use Rattle.lp_values.specs.declared.id.ObjId.{ObjId}

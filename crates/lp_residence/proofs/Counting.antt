@@ -1,11 +1,11 @@
 -- What is taken of the file, counted: how the extents of a list of rows change with one row.
-use Rattle.std.proofs.Common.{◌≡◌, ◌∙◌, ℕ, zero, suc, ◌+◌, ◌<◌, ◌≤◌, ◌⊎◌, inl, inr, List, [], ◌∷◌, ◌++◌, Option, Some, None, length, length-append, slice_get, unwrap_or, refl, ap, sym, arith}
+use Rattle.std.proofs.Common.{◌≡◌, ◌∙◌, ℕ, zero, suc, ◌+◌, ◌<◌, ◌≤◌, ◌⊎◌, inl, inr, List, [], ◌∷◌, ◌++◌, Some, length, slice_get, unwrap_or, ap, sym, arith}
 use Rattle.std.specs.Prelude.{if◌then◌else◌, nat_lt, slice_set}
 use Rattle.std.specs.List.{flat_map}
 use Rattle.std.proofs.lemmas.Bool.{cases_order}
 use Rattle.lp_swapfile.specs.Room.{AreTaken, Room, after_take, covers, end_of, has_place, place_for}
 use Rattle.lp_swapfile.specs.declared.extent.Extent.{Extent}
-use Rattle.lp_swapfile.proofs.TakenLemmas.{covers-append, taken-more}
+use Rattle.lp_swapfile.proofs.TakenLemmas.{taken-more}
 
 module _ {A : Type 0} (f : A → List Extent) (count : List Extent → ℕ) (adds : (xs ys : List Extent) → count (xs ++ ys) ≡ count xs + count ys) where
   -- one row becomes another

@@ -1,8 +1,7 @@
 -- What a destruction leaves: the state stands for the worlds after it, and is closed.
-use Rattle.std.proofs.Common.{◌≡◌, ◌∙◌, ◌⊎◌, ◌++◌, ◌+◌, ◌<◌, ◌≤◌, ◌&&◌, ℕ, suc, zero, Bool, true, false, not, List, [], ◌∷◌, Option, Some, None, IsSome, All, refl, ap, sym, subst, inl, inr, slice_get, unwrap_or, length, length-append, map, filter, find, nat_eq, option_map, option_to_list, if◌then◌else◌, arith}
+use Rattle.std.proofs.Common.{◌≡◌, ◌∙◌, ℕ, suc, zero, Bool, true, false, not, List, [], ◌∷◌, Option, Some, None, All, refl, ap, sym, subst, inl, inr, slice_get, unwrap_or, length, length-append, map, filter, find, nat_eq, option_map, option_to_list, if◌then◌else◌, arith}
 use Rattle.std.specs.List.{flat_map}
 use Rattle.std.specs.Prelude.{slice_set}
-use Rattle.lp_values.specs.declared.id.CellId.{CellId}
 use Rattle.lp_values.specs.declared.id.ObjId.{ObjId}
 use Rattle.lp_values.specs.declared.id.ProgId.{ProgId}
 use Rattle.lp_cells.specs.Cells.{IsThere, Store}
@@ -37,7 +36,7 @@ use Rattle.lp_world.specs.declared.live.Live.{Live}
 use Rattle.lp_world.specs.declared.objects.Object.{Object}
 use Rattle.lp_world.specs.declared.objects.ObjectState.{ObjectState}
 use Rattle.lp_world.specs.declared.objects.ObjectState.TheVariants as objects_of
-use Rattle.lp_world.proofs.Keeping.{get_set, get_set_here, live_same, same_or_not}
+use Rattle.lp_world.proofs.Keeping.{get_set, get_set_here, same_or_not}
 use Rattle.lp_residence.specs.Ending.{timing_without, without_number}
 use Rattle.lp_residence.specs.Entering.{AreTakenWithout}
 use Rattle.lp_residence.specs.Owners.{ticket_of_state}

@@ -1,14 +1,12 @@
 -- What came back: the state stands for the same worlds, and is closed.
-use Rattle.std.proofs.Common.{◌≡◌, ◌∙◌, ◌⊎◌, ◌++◌, ◌+◌, ◌<◌, ◌≤◌, ℕ, suc, zero, List, [], ◌∷◌, Option, Some, None, IsSome, All, refl, ap, sym, subst, inl, inr, slice_get, unwrap_or, length, length-append, arith, map, option_map, option_to_list}
+use Rattle.std.proofs.Common.{◌≡◌, ◌∙◌, ◌++◌, ◌+◌, ℕ, List, [], ◌∷◌, Option, Some, None, IsSome, All, refl, ap, sym, subst, slice_get, unwrap_or, length, length-append, arith, option_map, option_to_list}
 use Rattle.std.specs.Prelude.{slice_set}
 use Rattle.std.specs.List.{flat_map}
 use Rattle.std.proofs.lemmas.List.Elements.{All-nil}
-use Rattle.lp_values.specs.declared.id.CellId.{CellId}
 use Rattle.lp_values.specs.declared.id.ObjId.{ObjId}
 use Rattle.lp_values.specs.declared.value.Value.{Value}
 use Rattle.lp_cells.specs.Cells.{IsThere, Store, content_at}
 use Rattle.lp_code.specs.declared.program.RawProgram.{RawProgram}
-use Rattle.lp_encoding.specs.Programs.{IsEncoding}
 use Rattle.lp_image.specs.Image.{IsRecord, image}
 use Rattle.lp_swapfile.specs.Device.{Bytes}
 use Rattle.lp_swapfile.specs.Room.{AreTaken, IsTaken, Room, covers}
@@ -16,20 +14,16 @@ use Rattle.lp_swapfile.specs.declared.extent.Extent.{Extent}
 use Rattle.lp_swapfile.proofs.TakenLemmas.{covers-append}
 use Rattle.lp_swapper.specs.Swap.{IsOutAt, extent_of}
 use Rattle.lp_swapper.specs.declared.ticket.Ticket.{Ticket}
-use Rattle.lp_language.specs.World as world
 use Rattle.lp_language.specs.World.{World}
-use Rattle.lp_world.specs.Closed.{IsClosed, IsObjectClosed, extents_of, object_extents, variables_in, version_extents}
-use Rattle.lp_world.specs.Rows.{object_ticket, own_of, program_ticket, row_at, row_with_state, state_in, variables_of}
-use Rattle.lp_world.specs.Stands.{IsObject, IsOut, IsVersion, ProgramIs, Stands, VariablesAre}
+use Rattle.lp_world.specs.Closed.{IsClosed, extents_of, object_extents, variables_in, version_extents}
+use Rattle.lp_world.specs.Rows.{object_ticket, own_of, row_at, row_with_state, state_in}
+use Rattle.lp_world.specs.Stands.{IsOut, Stands, VariablesAre}
 use Rattle.lp_world.specs.declared.live.Live.{Live}
 use Rattle.lp_world.specs.declared.objects.Object.{Object}
 use Rattle.lp_world.specs.declared.objects.ObjectState.{ObjectState}
 use Rattle.lp_world.specs.declared.objects.ObjectState.TheVariants as objects_of
-use Rattle.lp_world.specs.declared.versions.ProgramState.{ProgramState}
-use Rattle.lp_world.specs.declared.versions.ProgramState.TheVariants as programs_of
-use Rattle.lp_world.specs.declared.versions.Version.{Version}
 use Rattle.lp_residence.specs.Entering.{AreTakenWithout, AreValuesOf, CanGiveBack, object_back, room_back}
-use Rattle.lp_residence.specs.Owners.{record_of, ticket_of_state, with_room}
+use Rattle.lp_residence.specs.Owners.{record_of, ticket_of_state}
 use Rattle.lp_residence.proofs.Counting.{row_counts, taken_by_counts}
 use Rattle.lp_residence.proofs.WentOutLemmas.{stands_in_room}
 use Rattle.lp_residence.proofs.RowChanges.{closed_with_row, object_behind, row_there, stands_with_row}

@@ -1,13 +1,12 @@
 -- What is out stays out where the file changes only where nothing is taken.
-use Rattle.std.proofs.Common.{◌≡◌, ◌∙◌, ℕ, ◌+◌, ◌<◌, ◌≤◌, ◌⊎◌, inl, inr, List, [], ◌∷◌, ◌++◌, Option, Some, None, length, length-append, slice_get, unwrap_or, refl, ap, sym, subst, arith, option_map, option_to_list}
+use Rattle.std.proofs.Common.{◌≡◌, ◌∙◌, ℕ, ◌+◌, ◌<◌, ◌≤◌, ◌⊎◌, List, [], ◌∷◌, Option, Some, None, length, slice_get, refl, subst, arith}
 use Rattle.std.specs.List.{flat_map}
-use Rattle.lp_values.specs.declared.id.CellId.{CellId}
 use Rattle.lp_values.specs.declared.id.ObjId.{ObjId}
 use Rattle.lp_values.specs.declared.value.Value.{Value}
 use Rattle.lp_cells.specs.Cells.{Store}
 use Rattle.lp_code.specs.declared.program.RawProgram.{RawProgram}
-use Rattle.lp_swapfile.specs.Device.{AreSameOutside, Bytes, Holds}
-use Rattle.lp_swapfile.specs.Room.{AreTaken, Room, covers, end_of, has_place, place_for}
+use Rattle.lp_swapfile.specs.Device.{AreSameOutside, Bytes}
+use Rattle.lp_swapfile.specs.Room.{AreTaken, covers, end_of, place_for}
 use Rattle.lp_swapfile.specs.declared.extent.Extent.{Extent}
 use Rattle.lp_swapfile.proofs.TakenLemmas.{covers-append}
 use Rattle.lp_swapper.specs.Swap.{IsHeld, IsOutAt, extent_of}
@@ -15,7 +14,7 @@ use Rattle.lp_swapper.specs.declared.ticket.Ticket.{Ticket}
 use Rattle.lp_language.specs.World as world
 use Rattle.lp_language.specs.World.{World}
 use Rattle.lp_world.specs.Closed.{extents_of, object_extents, version_extents}
-use Rattle.lp_world.specs.Stands.{IsObject, IsOut, ObjectIs, ProgramIs, Stands, VariablesAre}
+use Rattle.lp_world.specs.Stands.{ObjectIs, ProgramIs, Stands, VariablesAre}
 use Rattle.lp_world.specs.declared.live.Live.{Live}
 use Rattle.lp_world.specs.declared.objects.Object.{Object}
 use Rattle.lp_world.specs.declared.objects.ObjectState.{ObjectState}

@@ -1,15 +1,12 @@
 -- What is idle goes out in turn.
-use Rattle.std.proofs.Common.{◌≡◌, ◌∙◌, ◌⊎◌, ◌++◌, ◌+◌, ◌<◌, ◌≤◌, ◌&&◌, ℕ, suc, zero, Bool, true, false, not, List, [], ◌∷◌, Option, Some, None, IsSome, is_some, Result, Ok, Err, refl, ap, sym, subst, inl, inr, slice_get, unwrap_or, length, filter, nat_eq, if◌then◌else◌, arith}
-use Rattle.std.specs.Prelude.{slice_set}
+use Rattle.std.proofs.Common.{◌≡◌, ◌∙◌, ◌++◌, ◌+◌, ◌≤◌, ◌&&◌, ℕ, suc, zero, Bool, true, false, not, List, [], ◌∷◌, Option, Some, None, IsSome, is_some, Ok, refl, ap, sym, subst, unwrap_or, length, filter, if◌then◌else◌, arith}
 use Rattle.std.proofs.Math.ListN.{length-set}
-use Rattle.std.specs.declared.alloc.AllocError.{AllocError}
-use Rattle.lp_swapfile.specs.Device.{AreSameOutside, Bytes, IsTold}
-use Rattle.lp_swapfile.specs.Room.{place_for}
+use Rattle.lp_swapfile.specs.Device.{Bytes, IsTold}
 use Rattle.lp_swapper.specs.declared.ticket.Ticket.{Ticket}
 use Rattle.lp_values.specs.declared.id.ObjId.{ObjId}
 use Rattle.lp_values.specs.declared.id.ProgId.{ProgId}
 use Rattle.lp_meaning.specs.IdleAndKept.{is_idle}
-use Rattle.lp_world.specs.Rows.{is_live_row, is_out_state, live_in, object_ticket, program_ticket, row_at, state_in, version_state, version_with_state}
+use Rattle.lp_world.specs.Rows.{is_live_row, is_out_state, live_in, object_ticket, program_ticket, row_at, state_in, version_state}
 use Rattle.lp_world.specs.declared.live.Live.{Live}
 use Rattle.lp_world.specs.declared.objects.Object.{Object}
 use Rattle.lp_world.specs.declared.objects.ObjectState.{ObjectState}
@@ -17,9 +14,9 @@ use Rattle.lp_world.specs.declared.objects.ObjectState.TheVariants as objects_of
 use Rattle.lp_world.specs.declared.versions.ProgramState.{ProgramState}
 use Rattle.lp_world.specs.declared.versions.ProgramState.TheVariants as programs_of
 use Rattle.lp_world.specs.declared.versions.Version.{Version}
-use Rattle.lp_world.proofs.Keeping.{get_set, same_or_not}
+use Rattle.lp_world.proofs.Keeping.{get_set}
 use Rattle.lp_residence.specs.Idling.{ArePut, AreUntouched, Device, IsPutOne, IsTurn, IsUntouched, counted, first_objects, first_versions, goes, going, none_yet, is_idle_object, is_idle_version, is_out_program, together}
-use Rattle.lp_residence.specs.Owners.{gone, is_there, ticket_at, ticket_of_state, ticket_of_version}
+use Rattle.lp_residence.specs.Owners.{is_there, ticket_at, ticket_of_state, ticket_of_version}
 use Rattle.lp_residence.specs.Puts.{IsPut, IsWrittenFree}
 use Rattle.lp_residence.specs.declared.answers.Idled.{Idled}
 use Rattle.lp_residence.specs.declared.answers.PutOut.{PutOut}

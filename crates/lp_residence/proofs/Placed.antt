@@ -1,5 +1,5 @@
 -- The table of places and the lists for which it stands.
-use Rattle.std.proofs.Common.{◌≡◌, ◌∙◌, List, Option, Some, None, Bool, refl, ap, sym}
+use Rattle.std.proofs.Common.{◌≡◌, ◌∙◌, List, Option, Some, None, refl, ap, sym}
 use Rattle.std.proofs.Math.Nat.{ℕ_set}
 use mathlib.Core.Sum.{⊎_set}
 use mathlib.Core.Path.{fun_ext}

@@ -1,27 +1,25 @@
 -- What came back of a program: the state stands for the same worlds, and is closed.
-use Rattle.std.proofs.Common.{◌≡◌, ◌∙◌, ◌⊎◌, ◌++◌, ◌+◌, ◌<◌, ℕ, zero, suc, List, [], ◌∷◌, Option, Some, None, All, refl, ap, sym, subst, inl, inr, slice_get, unwrap_or, length, length-append, arith, drop, map, option_map, option_to_list}
+use Rattle.std.proofs.Common.{◌≡◌, ◌∙◌, ◌++◌, ◌<◌, ℕ, zero, suc, List, [], ◌∷◌, Option, Some, None, All, refl, ap, sym, subst, inl, inr, slice_get, unwrap_or, length, length-append, arith, drop, map, option_map, option_to_list}
 use Rattle.std.specs.Prelude.{slice_set}
 use Rattle.std.specs.List.{flat_map}
 use Rattle.std.proofs.lemmas.List.Elements.{All-head, All-tail, All-weaker}
 use Rattle.lp_values.specs.declared.id.ProgId.{ProgId}
 use Rattle.lp_code.specs.declared.program.RawProgram.{RawProgram}
 use Rattle.lp_code.specs.declared.tables.Slot.{Slot}
-use Rattle.lp_instr.specs.declared.instr.Instr.{Instr}
 use Rattle.lp_instr.specs.declared.instr.Instr.TheVariants.{CallFixed}
 use Rattle.lp_encoding.specs.Programs.{IsEncoding, IsPrefixFree}
 use Rattle.lp_swapfile.specs.Device.{Bytes}
-use Rattle.lp_swapfile.specs.Room.{AreTaken, IsTaken, Room, covers}
+use Rattle.lp_swapfile.specs.Room.{AreTaken, IsTaken, covers}
 use Rattle.lp_swapfile.specs.declared.extent.Extent.{Extent}
 use Rattle.lp_swapfile.proofs.TakenLemmas.{covers-append}
 use Rattle.lp_swapper.specs.Swap.{IsOutAt, extent_of}
 use Rattle.lp_swapper.specs.declared.ticket.Ticket.{Ticket}
 use Rattle.lp_language.specs.World.{World}
-use Rattle.lp_world.specs.Closed.{IsClosed, IsFunctionThere, IsProgramClosed, IsRowThere, IsSlotClosed, extents_of, object_extents, version_extents}
+use Rattle.lp_world.specs.Closed.{IsClosed, IsFunctionThere, IsProgramClosed, IsSlotClosed, extents_of, object_extents, version_extents}
 use Rattle.lp_world.specs.Rows.{program_ticket, row_at, version_state, version_with_state}
-use Rattle.lp_world.specs.Stands.{IsOutline, IsVersion, ProgramIs, Stands}
+use Rattle.lp_world.specs.Stands.{IsOutline, ProgramIs, Stands}
 use Rattle.lp_world.specs.Targets.{IsAmong, IsAnswerAmong, answer_at}
 use Rattle.lp_world.specs.declared.live.Live.{Live}
-use Rattle.lp_world.specs.declared.targets.FunAt.{FunAt}
 use Rattle.lp_world.specs.declared.versions.ProgramState.{ProgramState}
 use Rattle.lp_world.specs.declared.versions.ProgramState.TheVariants as programs_of
 use Rattle.lp_world.specs.declared.versions.Version.{Version}

@@ -1,22 +1,17 @@
 -- What the state stands for, and that it is closed, where one row changes.
-use Rattle.std.proofs.Common.{◌≡◌, ◌∙◌, ◌⊎◌, ◌++◌, ℕ, suc, zero, List, [], ◌∷◌, Option, Some, None, IsSome, All, refl, ap, sym, subst, inl, inr, slice_get, unwrap_or, length}
+use Rattle.std.proofs.Common.{◌≡◌, ◌∙◌, ℕ, List, [], ◌∷◌, Option, Some, None, refl, ap, sym, subst, inl, inr, slice_get, unwrap_or}
 use Rattle.std.specs.Prelude.{slice_set}
-use Rattle.std.specs.List.{flat_map}
-use Rattle.std.proofs.Math.ListN.{length-set}
 use Rattle.lp_values.specs.declared.id.CellId.{CellId}
-use Rattle.lp_values.specs.declared.id.ObjId.{ObjId}
-use Rattle.lp_values.specs.declared.id.ProgId.{ProgId}
 use Rattle.lp_code.specs.declared.program.RawProgram.{RawProgram}
 use Rattle.lp_swapfile.specs.Device.{Bytes}
 use Rattle.lp_swapfile.specs.Room.{AreTaken, Room}
 use Rattle.lp_language.specs.World as world
 use Rattle.lp_language.specs.World.{World}
-use Rattle.lp_world.specs.Closed.{AreApart, IsClosed, IsObjectClosed, IsVersionClosed, extents_of}
+use Rattle.lp_world.specs.Closed.{AreApart, IsClosed, IsObjectClosed, extents_of}
 use Rattle.lp_world.specs.Rows.{own_in, own_of, row_at}
-use Rattle.lp_world.specs.Stands.{IsObject, IsVersion, ObjectIs, Stands}
+use Rattle.lp_world.specs.Stands.{IsObject, ObjectIs, Stands}
 use Rattle.lp_world.specs.declared.live.Live.{Live}
 use Rattle.lp_world.specs.declared.objects.Object.{Object}
-use Rattle.lp_world.specs.declared.versions.Version.{Version}
 use Rattle.lp_world.proofs.Keeping.{get_set, get_set_here, same_or_not}
 
 -- Rows

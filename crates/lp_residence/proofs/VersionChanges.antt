@@ -1,5 +1,5 @@
 -- What the state stands for, and that it is closed, where a version's program goes out or comes back.
-use Rattle.std.proofs.Common.{◌≡◌, ◌∙◌, ◌⊎◌, ◌++◌, ◌+◌, ◌<◌, ◌≤◌, ℕ, suc, zero, List, [], ◌∷◌, Option, Some, None, IsSome, All, refl, ap, sym, subst, inl, inr, slice_get, unwrap_or, length, option_map}
+use Rattle.std.proofs.Common.{◌≡◌, ◌∙◌, ◌+◌, ◌<◌, ◌≤◌, ℕ, List, [], ◌∷◌, Option, Some, None, IsSome, refl, ap, sym, subst, inl, inr, slice_get, unwrap_or, option_map}
 use Rattle.std.specs.Prelude.{slice_set}
 use Rattle.std.proofs.Math.ListN.{length-set}
 use Rattle.std.proofs.lemmas.List.Elements.{All-weaker}
@@ -9,7 +9,6 @@ use Rattle.lp_code.specs.declared.program.RawProgram.{RawProgram}
 use Rattle.lp_code.specs.declared.tables.Slot.{Slot}
 use Rattle.lp_swapfile.specs.Device.{Bytes}
 use Rattle.lp_swapfile.specs.Room.{AreTaken, Room}
-use Rattle.lp_language.specs.World as world
 use Rattle.lp_language.specs.World.{World}
 use Rattle.lp_world.specs.Closed.{IsClosed, IsFunctionThere, IsObjectClosed, IsProgramClosed, IsRowThere, IsSlotClosed, IsVersionClosed, extents_of, parts_in, parts_together, variables_in, variables_together}
 use Rattle.lp_world.specs.Rows.{row_at}

@@ -1,9 +1,9 @@
 -- What was put out: the state stands for the same worlds, and is closed.
-use Rattle.std.proofs.Common.{◌≡◌, ◌∙◌, ◌⊎◌, ◌++◌, ◌+◌, ◌<◌, ◌≤◌, ℕ, suc, zero, Bool, true, false, List, [], ◌∷◌, Option, Some, None, Result, Ok, Err, IsSome, All, refl, ap, sym, subst, inl, inr, slice_get, unwrap_or, length, length-append, append-nil, arith, map, option_map, option_to_list, rules}
+use Rattle.std.proofs.Common.{◌≡◌, ◌++◌, ◌+◌, ℕ, List, [], ◌∷◌, Option, Some, None, Result, Ok, Err, IsSome, All, refl, ap, sym, subst, slice_get, unwrap_or, length, length-append, append-nil, arith, option_map, option_to_list, rules}
 use Rattle.std.specs.Prelude.{slice_set}
 use Rattle.std.specs.List.{flat_map}
 use Rattle.std.specs.declared.alloc.AllocError.{AllocError}
-use Rattle.std.proofs.lemmas.List.Elements.{All-head, All-nil, All-tail, All-weaker}
+use Rattle.std.proofs.lemmas.List.Elements.{All-head, All-nil, All-tail}
 use Rattle.lp_values.specs.declared.id.CellId.{CellId}
 use Rattle.lp_values.specs.declared.id.ObjId.{ObjId}
 use Rattle.lp_values.specs.declared.value.Value.{Value}
@@ -13,18 +13,17 @@ use Rattle.lp_cells.specs.declared.content.Content.{Content}
 use Rattle.lp_code.specs.declared.program.RawProgram.{RawProgram}
 use Rattle.lp_encoding.specs.Programs.{IsEncoding}
 use Rattle.lp_image.specs.Image.{IsRecord, image}
-use Rattle.lp_swapfile.specs.Device.{AreSameOutside, Bytes, Holds, HoldsWhereTold, IsTold}
+use Rattle.lp_swapfile.specs.Device.{AreSameOutside, Bytes, HoldsWhereTold, IsTold}
 use Rattle.lp_swapfile.specs.Room.{AreTaken, Room, after_take, covers, place_for}
 use Rattle.lp_swapfile.specs.declared.extent.Extent.{Extent}
 use Rattle.lp_swapfile.proofs.TakenLemmas.{covers-append, taken-more}
 use Rattle.lp_swapper.specs.Swap.{IsHeld, IsOutAt, IsTicketOf, extent_of}
 use Rattle.lp_swapper.specs.declared.ticket.Ticket.{Ticket}
-use Rattle.lp_language.specs.World as world
 use Rattle.lp_language.specs.World.{World}
-use Rattle.lp_world.specs.Closed.{IsClosed, IsObjectClosed, extents_of, object_extents, version_extents}
+use Rattle.lp_world.specs.Closed.{IsClosed, extents_of, object_extents, version_extents}
 use Rattle.lp_world.specs.Records.{shared_in}
 use Rattle.lp_world.specs.Rows.{object_ticket, program_ticket, row_at, variables_at, variables_in, variables_of, version_state, version_with_state}
-use Rattle.lp_world.specs.Stands.{IsObject, IsOut, IsOwn, IsVersion, ProgramIs, Stands, VariablesAre}
+use Rattle.lp_world.specs.Stands.{IsOwn, ProgramIs, Stands}
 use Rattle.lp_world.specs.declared.live.Live.{Live}
 use Rattle.lp_world.specs.declared.objects.Object.{Object}
 use Rattle.lp_world.specs.declared.objects.ObjectState.{ObjectState}
@@ -33,7 +32,7 @@ use Rattle.lp_world.specs.declared.versions.ProgramState.{ProgramState}
 use Rattle.lp_world.specs.declared.versions.ProgramState.TheVariants as programs_of
 use Rattle.lp_world.specs.declared.versions.Version.{Version}
 use Rattle.lp_world.proofs.Keeping.{resident_same}
-use Rattle.lp_residence.specs.Owners.{IsObjectImage, IsVersionImage, cells_named, gone, out_row, program_image, program_of, record_of, with_room}
+use Rattle.lp_residence.specs.Owners.{cells_named, gone, out_row, program_image, program_of, record_of, with_room}
 use Rattle.lp_residence.specs.Puts.{AreTakenStill, IsPut, IsWrittenFree, WentOut}
 use Rattle.lp_residence.specs.declared.owner.Owner.{Owner}
 use Rattle.lp_residence.specs.declared.owner.Owner.TheVariants as owners

@@ -1,5 +1,5 @@
 -- The end of an object.
-use Rattle.std.specs.Prelude.{◌≡◌, ◌≢◌, ℕ, List, [], ◌∷◌, Bool, false, ⊤, ◌||◌, All, Option, Some, None, filter, find, nat_eq, not, option_map}
+use Rattle.std.specs.Prelude.{◌≢◌, ℕ, List, [], ◌∷◌, Bool, false, ⊤, ◌||◌, All, Option, Some, None, filter, nat_eq, not}
 use Rattle.std.specs.Ordering.{nat_cmp}
 use Rattle.std.specs.BTreeMap.{get}
 use Rattle.lp_values.specs.declared.id.ObjId.{ObjId}

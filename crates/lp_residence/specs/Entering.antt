@@ -1,5 +1,5 @@
 -- What bringing something back answers, and what it leaves.
-use Rattle.std.specs.Prelude.{◌≡◌, ◌≢◌, ◌∷◌, ℕ, List, length, All, Bool, true, false, Option, Some, None, Result, Ok, Err, ⊤, slice_set}
+use Rattle.std.specs.Prelude.{◌≡◌, ◌≢◌, ◌∷◌, ℕ, List, length, Bool, true, false, Option, Some, None, Result, Ok, Err, ⊤, slice_set}
 use Rattle.sha2.specs.Sha256.{sha256}
 use Rattle.lp_values.specs.declared.id.ObjId.{ObjId}
 use Rattle.lp_values.specs.declared.id.ProgId.{ProgId}
@@ -10,7 +10,7 @@ use Rattle.lp_encoding.specs.Programs.{IsEncoding}
 use Rattle.lp_swapfile.specs.Device.{Bytes, FailedAt, Gave, IsTold, Last}
 use Rattle.lp_swapfile.specs.Room.{AreTaken, IsTaken, Room, after_give_back}
 use Rattle.lp_swapfile.specs.declared.extent.Extent.{Extent}
-use Rattle.lp_swapper.specs.Swap.{IsOutAt, extent_of}
+use Rattle.lp_swapper.specs.Swap.{extent_of}
 use Rattle.lp_swapper.specs.declared.ticket.Ticket.{Ticket}
 use Rattle.lp_world.specs.Rows.{row_at, row_with_state, version_with_state}
 use Rattle.lp_world.specs.declared.live.Live.{Live}

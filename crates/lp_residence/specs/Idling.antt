@@ -1,5 +1,5 @@
 -- What is idle goes out: objects by serial, then versions by number.
-use Rattle.std.specs.Prelude.{◌≡◌, ◌<◌, ◌≤◌, ◌+◌, ◌^◌, ◌-◌, ℕ, zero, suc, List, [], ◌∷◌, ◌++◌, length, filter, Bool, true, false, not, ◌&&◌, Option, Some, None, Result, Ok, Err}
+use Rattle.std.specs.Prelude.{◌≡◌, ◌≤◌, ◌+◌, ℕ, zero, suc, List, [], ◌∷◌, ◌++◌, length, filter, Bool, true, false, not, ◌&&◌, Option, Some, None, Ok}
 use Rattle.lp_swapfile.specs.Counts.{Counts}
 use Rattle.lp_swapfile.specs.Device.{Bytes}
 use Rattle.lp_meaning.specs.IdleAndKept.{is_idle}

@@ -1,6 +1,5 @@
 -- What is in memory and what is out, by its owner: an object or a version of a program.
 use Rattle.std.specs.Prelude.{◌≡◌, ℕ, List, [], ◌++◌, Option, Some, None, Bool, is_some, codes, slice_set}
-use Rattle.std.specs.Option.{option_map}
 use Rattle.lp_values.specs.declared.id.CellId.{CellId}
 use Rattle.lp_values.specs.declared.id.ObjId.{ObjId}
 use Rattle.lp_values.specs.declared.value.Value.{Value}
@@ -18,7 +17,6 @@ use Rattle.lp_world.specs.declared.objects.ObjectState.{ObjectState}
 use Rattle.lp_world.specs.declared.objects.ObjectState.TheVariants as objects_of
 use Rattle.lp_world.specs.declared.versions.ProgramState.{ProgramState}
 use Rattle.lp_world.specs.declared.versions.ProgramState.TheVariants as programs_of
-use Rattle.lp_world.specs.declared.versions.Version.{Version}
 use Rattle.lp_residence.specs.declared.owner.Owner.{Owner}
 use Rattle.lp_residence.specs.declared.owner.Owner.TheVariants as owners
 

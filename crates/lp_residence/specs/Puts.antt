@@ -1,5 +1,5 @@
 -- What putting something out answers, and what it leaves.
-use Rattle.std.specs.Prelude.{◌≡◌, ℕ, List, length, Bool, true, false, Option, Some, None, IsSome, Result, Ok, Err, ⊤}
+use Rattle.std.specs.Prelude.{◌≡◌, ℕ, List, length, Bool, true, false, Option, IsSome, Result, Ok, Err, ⊤}
 use Rattle.std.specs.declared.alloc.AllocError.{AllocError}
 use Rattle.lp_swapfile.specs.Device.{AreSameOutside, Bytes, HoldsWhereTold}
 use Rattle.lp_swapfile.specs.Room.{AreTaken, Room, after_give_back, after_take, is_full, place_for}

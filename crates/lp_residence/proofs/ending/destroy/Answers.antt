@@ -1,4 +1,4 @@
-use Rattle.std.proofs.Common.{◌≡◌, Some, IsSome, nat_eq, not, refl, subst, sym}
+use Rattle.std.proofs.Common.{IsSome, nat_eq, not, refl, subst, sym}
 use Rattle.lp_timers.specs.Timing.{Timing}
 use Rattle.lp_meaning.specs.WorldSteps.{destructed}
 use Rattle.lp_places.specs.Places.{places_without, shadows_without}

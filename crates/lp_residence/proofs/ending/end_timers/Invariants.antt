@@ -1,4 +1,4 @@
-use Rattle.std.proofs.Common.{◌≡◌, ℕ, length}
+use Rattle.std.proofs.Common.{◌≡◌, length}
 use Rattle.lp_timers.specs.Timers.{call_outs_without}
 use Rattle.lp_residence.specs.Ending.{AreNumberedOnce}
 use Rattle.lp_residence.proofs.ending.end_timers.Given as goal

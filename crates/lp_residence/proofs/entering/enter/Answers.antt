@@ -2,7 +2,7 @@ use Rattle.std.proofs.Common.{◌≡◌, Some, ap, subst, sym}
 use Rattle.lp_world.specs.Closed.{IsClosed}
 use Rattle.lp_world.specs.Rows.{row_at, state_in}
 use Rattle.lp_world.specs.Stands.{Stands}
-use Rattle.lp_residence.specs.Entering.{AreTakenWithout, object_back, room_back}
+use Rattle.lp_residence.specs.Entering.{AreTakenWithout, object_back}
 use Rattle.lp_residence.specs.Owners.{ticket_of_state}
 use Rattle.lp_residence.proofs.Entered.{closed_back, object_can_give_back, stands_back}
 use Rattle.lp_residence.proofs.entering.enter.Goals as goal

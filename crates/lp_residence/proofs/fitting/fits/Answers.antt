@@ -1,4 +1,4 @@
-use Rattle.std.proofs.Common.{◌≡◌, ◌∙◌, All, List, ap, map, subst}
+use Rattle.std.proofs.Common.{◌∙◌, All, List, ap, map, subst}
 use Rattle.lp_values.specs.declared.id.ProgId.{ProgId}
 use Rattle.lp_world.specs.Rows.{row_at}
 use Rattle.lp_residence.specs.Programs.{IsCallThere, functions_in}

@@ -1,4 +1,4 @@
-use Rattle.std.proofs.Common.{◌≡◌, ◌∙◌, ◌+◌, ◌≤◌, ap, arith, length, sym}
+use Rattle.std.proofs.Common.{◌≡◌, ap, arith, length}
 use Rattle.lp_residence.specs.Idling.{Device}
 use Rattle.lp_residence.proofs.IdleLemmas.{all_counted, all_put}
 use Rattle.lp_residence.proofs.idling.idle.Goals as goal

@@ -1,5 +1,5 @@
-use Rattle.std.proofs.Common.{◌≡◌, ◌∙◌, ◌+◌, ◌≤◌, arith}
-use Rattle.lp_residence.specs.Idling.{Device, goes, together}
+use Rattle.std.proofs.Common.{◌∙◌, arith}
+use Rattle.lp_residence.specs.Idling.{Device, goes}
 use Rattle.lp_residence.specs.declared.owner.Owner.TheVariants as owners
 use Rattle.lp_residence.proofs.IdleLemmas.{next_put, next_untouched, turn_counts}
 use Rattle.lp_residence.proofs.idling.idle_objects.Goals as goal

@@ -1,5 +1,5 @@
-use Rattle.std.proofs.Common.{refl, sym, ap, ◌∙◌}
-use Rattle.lp_residence.specs.Idling.{counted, together}
+use Rattle.std.proofs.Common.{ap, ◌∙◌}
+use Rattle.lp_residence.specs.Idling.{together}
 use Rattle.lp_residence.proofs.IdleLemmas.{one_more, told_after}
 use Rattle.lp_residence.proofs.idling.put_one.Goals as goal
 

@@ -1,6 +1,4 @@
-use Rattle.std.proofs.Common.{◌≡◌, ◌∙◌, sym}
 use Rattle.std.proofs.Math.Logic.{∥∥₁_elim}
-use Rattle.std.proofs.Math.Nat.{ℕ_set}
 use Rattle.lp_residence.proofs.Placed.{option_object_set, placed_there}
 use Rattle.lp_residence.specs.Ending.{place_in}
 use Rattle.lp_residence.proofs.reach.place_of.Goals as goal

@@ -1,6 +1,5 @@
-use Rattle.std.proofs.Common.{◌≡◌, None, Some, ap, refl, subst, sym}
-use Rattle.lp_swapper.specs.declared.ticket.Ticket.{Ticket}
-use Rattle.lp_world.specs.Closed.{IsClosed, IsProgramClosed}
+use Rattle.std.proofs.Common.{◌≡◌, Some, ap, subst, sym}
+use Rattle.lp_world.specs.Closed.{IsClosed}
 use Rattle.lp_world.specs.Rows.{row_at, version_state}
 use Rattle.lp_world.specs.Stands.{Stands}
 use Rattle.lp_residence.specs.Entering.{AreTakenWithout, version_back}
