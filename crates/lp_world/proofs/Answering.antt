@@ -1,5 +1,5 @@
 -- Room for answers adds none.
-use Rattle.std.proofs.Common.{◌≡◌, ◌∙◌, ◌++◌, ◌<◌, ℕ, zero, suc, Bool, true, false, List, [], ◌∷◌, Option, Some, None, Result, All, OnOk, OnErr, refl, ap, sym, slice_get, slice_index_or, unwrap_or, length, nat_eq, if◌then◌else◌, arith}
+use Rattle.std.proofs.Common.{◌≡◌, ◌∙◌, ◌++◌, ◌<◌, ℕ, zero, suc, Bool, true, false, List, [], ◌∷◌, Option, Some, None, Result, All, OnOk, OnErr, refl, ap, slice_get, slice_index_or, unwrap_or, length, nat_eq, if◌then◌else◌, arith}
 use Rattle.std.specs.Prelude.{slice_set}
 use Rattle.std.proofs.lemmas.List.Elements.{All-head, All-tail}
 use Rattle.std.proofs.lemmas.Result.{on_err_weaker, on_ok_weaker}
