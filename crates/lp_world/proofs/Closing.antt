@@ -43,6 +43,7 @@ closed_with_cells live part h k closed = record {
     there = i.there;
     variables = λ vs q. let j = i.variables vs q in (j.0, All-weaker (IsThere live.cells) (IsThere part) k vs j.1);
     shared = All-weaker (λ c. IsSome (content_at live.cells c)) (λ c. IsSome (content_at part c)) (λ c s. content_there live.cells part c k (content_at live.cells c) refl s) (shared_of o.state) i.shared;
+    own = i.own;
   };
   apart = h.apart;
   versions = h.versions;
@@ -95,6 +96,7 @@ closed_with_variable live o row vs k v h e r t = record {
           variables = λ us q. let u = sym (values us q) in
               subst (λ l. (length l ≡ was.version.outline.variables) × All (IsThere live.cells) l) u (length-set vs k v ∙ i.0, All-set (IsThere live.cells) vs k v t i.1);
           shared = All-nil (λ c. IsSome (content_at live.cells c));
+          own = refl;
         }
 
     own_same : (n : ℕ) → own_in (row_at (slice_set live.objects o.0 (Some new)) n) ≡ own_in (row_at live.objects n)

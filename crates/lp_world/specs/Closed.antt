@@ -20,7 +20,7 @@ use Rattle.lp_world.specs.declared.objects.Object.{Object}
 use Rattle.lp_world.specs.declared.targets.FunAt.{FunAt}
 use Rattle.lp_world.specs.declared.versions.ProgramState.TheVariants as programs_of
 use Rattle.lp_world.specs.declared.versions.Version.{Version}
-use Rattle.lp_world.specs.Rows.{object_ticket, own_in, program_ticket, row_at, shared_of, variables_of}
+use Rattle.lp_world.specs.Rows.{object_ticket, own_in, own_of, program_ticket, row_at, shared_of, variables_of}
 use Rattle.lp_world.specs.Stands.{IsOutline}
 use Rattle.lp_world.specs.Targets.{answer_at}
 
@@ -37,12 +37,14 @@ abbrev pub extents_of : List (Option Object) → List (Option Version) → List 
 extents_of objects versions = flat_map object_extents objects ++ flat_map version_extents versions
 
 -- Objects: its version is there; where its variables are in memory they are as many as the version says, and what they
--- name is there; and so are the cells that the record of one that is out names.
+-- name is there; and so are the cells that the record of one that is out names. No record has cells of its own: until
+-- cells are counted, each stays in memory.
 pub record IsObjectClosed (store : Store) (versions : List (Option Version)) (o : Object) : Type 0 where
   pub version : Version
   pub there : row_at versions o.program.0 ≡ Some version
   pub variables : (vs : List Value) → variables_of o.state ≡ Some vs → (length vs ≡ version.outline.variables) × All (IsThere store) vs
   pub shared : All (λ c. IsSome (content_at store c)) (shared_of o.state)
+  pub own : own_of o.state ≡ []
 
 -- No two own cells are one: neither two of one object nor those of two.
 abbrev pub AreApart : List (Option Object) → Type 0

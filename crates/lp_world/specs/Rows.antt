@@ -1,5 +1,5 @@
 -- The rows of the state.
-use Rattle.std.specs.Prelude.{◌≡◌, ◌<◌, ℕ, List, [], Option, Some, None, Bool, false, length, slice_get, slice_set, unwrap_or}
+use Rattle.std.specs.Prelude.{◌≡◌, ◌<◌, ℕ, List, [], Option, Some, None, Bool, true, false, length, slice_get, slice_set, unwrap_or, if◌then◌else◌}
 use Rattle.lp_values.specs.declared.id.CellId.{CellId}
 use Rattle.lp_values.specs.declared.id.ObjId.{ObjId}
 use Rattle.lp_values.specs.declared.value.Value.{Value}
@@ -9,6 +9,7 @@ use Rattle.lp_world.specs.declared.objects.ObjectState.{ObjectState}
 use Rattle.lp_world.specs.declared.objects.ObjectState.TheVariants as objects_of
 use Rattle.lp_world.specs.declared.versions.ProgramState.{ProgramState}
 use Rattle.lp_world.specs.declared.versions.ProgramState.TheVariants as programs_of
+use Rattle.lp_world.specs.declared.versions.Version.{Version}
 
 -- the row with a number, if there is one
 abbrev pub row_at : {A : Type 0} → List (Option A) → ℕ → Option A
@@ -70,3 +71,36 @@ with_value o vs k v = record o { state = objects_of.Resident (slice_set vs k v) 
 abbrev pub IsWritten : List (Option Object) → List (Option Object) → ObjId → ℕ → Value → Type 0
 IsWritten old new id k v =
     (o : Object) (vs : List Value) → slice_get old id.0 ≡ Some (Some o) → o.state ≡ objects_of.Resident vs → new ≡ slice_set old id.0 (Some (with_value o vs k v))
+
+-- what an object has, and a version
+abbrev pub state_in : Option Object → Option ObjectState
+state_in None = None
+state_in (Some o) = Some o.state
+
+abbrev pub version_state : Option Version → Option ProgramState
+version_state None = None
+version_state (Some v) = Some v.state
+
+-- a row with another state
+abbrev pub row_with_state : Option Object → ObjectState → Option Object
+row_with_state None s = None
+row_with_state (Some o) s = Some (record o { state = s })
+
+-- whether an object is out
+abbrev pub is_out_state : ObjectState → Bool
+is_out_state (objects_of.Resident vs) = false
+is_out_state (objects_of.Swapped t shared own) = true
+
+abbrev pub is_out_row : Option Object → Bool
+is_out_row None = false
+is_out_row (Some o) = is_out_state o.state
+
+-- the row of an object that died: it keeps its variables until the turn ends where they are in memory; of one that was out nothing stays
+abbrev pub row_after_death : Option Object → Option Object
+row_after_death None = None
+row_after_death (Some o) = if is_out_state o.state then None else Some (record o { is_live = false; is_living = false })
+
+-- a version with another state
+abbrev pub version_with_state : Option Version → ProgramState → Option Version
+version_with_state None s = None
+version_with_state (Some v) s = Some (record v { state = s })

@@ -1,8 +1,9 @@
 //! Objects of the state, by their serials.
-ghost use Rattle.std.specs.Prelude.{◌≡◌, [], List, Some, slice_get, slice_set};
+ghost use Rattle.std.specs.Prelude.{◌≡◌, [], IsSome, List, Some, length, slice_get, slice_set};
+ghost use Rattle.std.specs.Option.{option_copied};
 ghost use Rattle.lp_values.specs.declared.value.Value.{Value as V};
 ghost use Rattle.lp_world.specs.declared.objects.Object.{Object as O};
-ghost use Rattle.lp_world.specs.Rows.{HasPlace, IsWritten, is_live_row, live_in, variables_at, variables_in, variables_of, with_value};
+ghost use Rattle.lp_world.specs.Rows.{HasPlace, IsWritten, is_live_row, is_out_row, live_in, row_after_death, row_at, row_with_state, state_in, variables_at, variables_in, variables_of, with_value};
 
 use crate::serials::Serials;
 use lp_cells::content::Items;
@@ -11,6 +12,7 @@ use lp_values::id::{ObjId, ProgId};
 use lp_values::value::{Living, Value};
 use std::alloc::Global;
 use std::marker::Model;
+use std::mem;
 
 /// An object's variables in memory, or the ticket of its record.
 #[derive(Drop)]
@@ -104,6 +106,42 @@ fn write_row(row: &mut Option<Object>, i: usize, v: Value)
     }
 }
 
+/// Puts another state in a row that is there, and gives the one it had.
+fn replace_state_of(row: &mut Option<Object>, state: ObjectState) -> ObjectState
+    requires { IsSome row.old }
+    ensures before { state_in row.old ≡ Some result }
+    ensures after { row.new ≡ row_with_state row.old state }
+{
+    match row {
+        Some(o) => mem::replace(&mut o.state, state),
+        None => unreachable!(),
+    }
+}
+
+/// Whether an object is out.
+fn is_out(row: &Option<Object>) -> bool
+    ensures { result ≡ is_out_row row.now }
+{
+    match row {
+        Some(o) => matches!(o.state, ObjectState::Swapped { .. }),
+        None => false,
+    }
+}
+
+/// The row of an object that dies.
+fn kill_row(row: &mut Option<Object>)
+    ensures { row.new ≡ row_after_death row.old }
+{
+    if is_out(row) {
+        *row = None;
+        return;
+    }
+    if let Some(o) = row {
+        o.is_live = false;
+        o.is_living = false;
+    }
+}
+
 impl ObjectTable {
     /// No objects. Takes no memory.
     pub fn new(alloc: Global) -> ObjectTable
@@ -134,5 +172,57 @@ impl ObjectTable {
         ensures { IsWritten self.old self.new id i v }
     {
         write_row(&mut self.rows[id.0 as usize], i, v);
+    }
+
+    /// How many serials were given out. Takes no memory.
+    pub fn len(&self) -> usize
+        ensures { result ≡ length self.now }
+    {
+        self.rows.len()
+    }
+
+    /// The object with a serial, where the state has it. Takes no memory.
+    pub fn get(&self, id: ObjId) -> Option<&Object>
+        ensures { option_copied result ≡ row_at self.now id.0 }
+    {
+        if self.rows.len() <= id.0 as usize {
+            return None;
+        }
+        match &self.rows[id.0 as usize] {
+            Some(o) => Some(o),
+            None => None,
+        }
+    }
+
+    /// The variables of an object that is in memory. Takes no memory.
+    pub fn variables(&self, id: ObjId) -> &[Value]
+        requires { IsSome (variables_at self.now id) }
+        ensures { variables_at self.now id ≡ Some result.now }
+    {
+        match &self.rows[id.0 as usize] {
+            Some(o) => match &o.state {
+                ObjectState::Resident(items) => items.as_slice(),
+                ObjectState::Swapped { .. } => unreachable!(),
+            },
+            None => unreachable!(),
+        }
+    }
+
+    /// Puts other variables, or a ticket, in the place of what an object has, and gives that. Takes no memory.
+    pub fn replace_state(&mut self, id: ObjId, state: ObjectState) -> ObjectState
+        requires { IsSome (row_at self.old id.0) }
+        ensures before { state_in (row_at self.old id.0) ≡ Some result }
+        ensures after { self.new ≡ slice_set self.old id.0 (row_with_state (row_at self.old id.0) state) }
+    {
+        replace_state_of(&mut self.rows[id.0 as usize], state)
+    }
+
+    /// An object dies. One in memory keeps its variables until the turn ends, of one that is out nothing
+    /// stays. Takes no memory.
+    pub fn kill(&mut self, id: ObjId)
+        requires { IsSome (row_at self.old id.0) }
+        ensures { self.new ≡ slice_set self.old id.0 (row_after_death (row_at self.old id.0)) }
+    {
+        kill_row(&mut self.rows[id.0 as usize]);
     }
 }

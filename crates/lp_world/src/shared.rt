@@ -39,6 +39,13 @@ impl SharedProgram {
         self.program.raw()
     }
 
+    /// The program itself.
+    pub fn program(&self) -> &Program
+        ensures { result.now ≡ self.now }
+    {
+        &self.program
+    }
+
     /// The same program, in the same memory.
     pub fn share(&self) -> Result<SharedProgram, AllocError>
         ensures { IfOk result (λ p. p ≡ self.now) }

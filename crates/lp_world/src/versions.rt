@@ -1,13 +1,17 @@
 //! Versions of programs, by their numbers.
-ghost use Rattle.std.specs.Prelude.{◌≡◌, []};
+ghost use Rattle.std.specs.Prelude.{◌≡◌, [], IsSome, OnErr, OnOk, Some, length, slice_set, ℕ};
+ghost use Rattle.std.specs.Option.{option_copied};
+ghost use Rattle.lp_world.specs.Rows.{row_at, version_state, version_with_state};
+ghost use Rattle.lp_world.specs.Targets.{HasAnswer, HasAnswerIn, HasSameAnswers, HasSameAnswersIn};
 
 use crate::shared::SharedProgram;
-use crate::targets::Targets;
+use crate::targets::{FunAt, Targets};
 use lp_code::listed::Listed;
 use lp_swapper::Ticket;
 use lp_values::id::ProgId;
-use std::alloc::Global;
+use std::alloc::{AllocError, Global};
 use std::marker::Model;
+use std::mem;
 
 /// A program in memory, or the ticket of its record.
 #[derive(Drop)]
@@ -61,6 +65,36 @@ impl Model for VersionTable {
     ghost view = { λ t. t.rows.items };
 }
 
+/// Puts another state in a version that is there, and gives the one it had.
+fn replace_state_of(row: &mut Option<Version>, state: ProgramState) -> ProgramState
+    requires { IsSome row.old }
+    ensures before { version_state row.old ≡ Some result }
+    ensures after { row.new ≡ version_with_state row.old state }
+{
+    match row {
+        Some(v) => mem::replace(&mut v.state, state),
+        None => unreachable!(),
+    }
+}
+
+/// Keeps where an internal call of a slot leads, in a version that is there.
+fn keep_in(
+    row: &mut Option<Version>,
+    alloc: Global,
+    part: u16,
+    slot: u16,
+    answer: Option<FunAt>,
+) -> Result<(), AllocError>
+    requires { IsSome row.old }
+    ensures ok { OnOk result (HasAnswerIn row.old row.new part slot answer) }
+    ensures err { OnErr result (HasSameAnswersIn row.old row.new) }
+{
+    match row {
+        Some(v) => v.targets.keep(alloc, part, slot, answer),
+        None => unreachable!(),
+    }
+}
+
 impl VersionTable {
     /// No versions. Takes no memory.
     pub fn new(alloc: Global) -> VersionTable
@@ -69,5 +103,51 @@ impl VersionTable {
         VersionTable {
             rows: Vec::new(alloc),
         }
+    }
+
+    /// How many numbers of versions were given out. Takes no memory.
+    pub fn len(&self) -> usize
+        ensures { result ≡ length self.now }
+    {
+        self.rows.len()
+    }
+
+    /// The version with a number, where the state has it. Takes no memory.
+    pub fn get(&self, p: ProgId) -> Option<&Version>
+        ensures { option_copied result ≡ row_at self.now p.0 }
+    {
+        if self.rows.len() <= p.0 as usize {
+            return None;
+        }
+        match &self.rows[p.0 as usize] {
+            Some(v) => Some(v),
+            None => None,
+        }
+    }
+
+    /// Puts a program, or a ticket, in the place of what a version has, and gives that. Takes no memory.
+    pub fn replace_state(&mut self, p: ProgId, state: ProgramState) -> ProgramState
+        requires { IsSome (row_at self.old p.0) }
+        ensures before { version_state (row_at self.old p.0) ≡ Some result }
+        ensures after { self.new ≡ slice_set self.old p.0 (version_with_state (row_at self.old p.0) state) }
+    {
+        replace_state_of(&mut self.rows[p.0 as usize], state)
+    }
+
+    /// Keeps where an internal call of a slot of a part of a version leads. After want of memory the same is
+    /// kept as before.
+    pub fn keep_target(
+        &mut self,
+        alloc: Global,
+        p: ProgId,
+        part: u16,
+        slot: u16,
+        answer: Option<FunAt>,
+    ) -> Result<(), AllocError>
+        requires { IsSome (row_at self.old p.0) }
+        ensures ok { OnOk result (HasAnswer self.old self.new p.0 part slot answer) }
+        ensures err { OnErr result (HasSameAnswers self.old self.new p.0) }
+    {
+        keep_in(&mut self.rows[p.0 as usize], alloc, part, slot, answer)
     }
 }

@@ -1,0 +1,14 @@
+pub mod PackedRecords
+pub mod Counting
+pub mod Filing
+pub mod RowChanges
+pub mod VersionChanges
+pub mod WentOutLemmas
+pub mod Unpacked
+pub mod Entered
+pub mod CallOutLemmas
+pub mod Destroyed
+pub mod Placed
+pub mod Returned
+pub mod Fitted
+pub mod IdleLemmas

@@ -1,0 +1,8 @@
+use Rattle.std.proofs.Common.{[], subst, sym}
+use Rattle.lp_world.specs.Rows.{program_ticket}
+use Rattle.lp_residence.specs.Entering.{AreTakenWithout}
+use Rattle.lp_residence.proofs.returning.give_back.Goals as goal
+
+pub returns-clause-taken : goal.returns-clause-taken
+returns-clause-taken c =
+    subst (λ s. AreTakenWithout (program_ticket s) c.args.swapper.now c.drop_ticket.new.self) (sym c.in-Swapped.is) (λ es t. c.drop_ticket.ensures.parted [] es t)

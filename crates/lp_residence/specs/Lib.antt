@@ -1,0 +1,7 @@
+pub mod Owners
+pub mod Puts
+pub mod Residence
+pub mod Entering
+pub mod Ending
+pub mod Programs
+pub mod Idling
