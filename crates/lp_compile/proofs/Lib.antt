@@ -1,3 +1,4 @@
+pub mod Clearing
 pub mod Given
 pub mod Making
 pub mod Standing

@@ -1,4 +1,5 @@
 pub mod Compiles
+pub mod Faultless
 pub mod Heights
 pub mod Known
 pub mod Outcomes

@@ -1,7 +1,12 @@
 //! The program of a unit that has tables, before it is verified.
-ghost use Rattle.std.specs.Prelude.{◌≡◌, ◌≢◌, IfOk, MatchResult, map};
+ghost use Rattle.std.specs.Prelude.{◌≡◌, ◌≢◌, MatchResult, map};
 ghost use Rattle.lp_tree.specs.UnitView.{item_of};
+ghost use Rattle.lp_language.specs.Resolve.{own_variables};
+ghost use Rattle.lp_isa.specs.Programs.{own_functions};
+ghost use Rattle.lp_codegen_expr.specs.Clear.{Spares};
 ghost use Rattle.lp_codegen_expr.specs.declared.code.GenFault.TheVariants.{Unclear};
+ghost use Rattle.lp_codegen_layout.specs.Laid.{plan_of};
+ghost use Rattle.lp_codegen_unit.specs.Stands.{IsClearUnit};
 ghost use Rattle.lp_compile.specs.Translated.{IsGenerated, variables_in};
 
 use crate::heights::greatest_height;
@@ -29,8 +34,8 @@ fn variables_of(parents: &[Tables]) -> Result<u32, GenFault>
     counted(total)
 }
 
-/// The program of a unit with these tables, parents' tables and names of simul efuns. It is not verified. Takes time in
-/// proportion to the unit and the tables.
+/// The program of a unit with these tables, parents' tables and names of simul efuns. It is not verified. A unit that is
+/// clear is refused for want of memory or room alone. Takes time in proportion to the unit and the tables.
 pub fn generate(
     alloc: Global,
     items: &Vec<Item>,
@@ -38,7 +43,7 @@ pub fn generate(
     parents: &[Tables],
     simuls: &[Name],
 ) -> Result<RawProgram, GenFault>
-    ensures { IfOk result (IsGenerated (map item_of items.now.items) tables parents.now simuls.now) }
+    ensures { MatchResult result (IsGenerated (map item_of items.now.items) tables parents.now simuls.now) (Spares (IsClearUnit (plan_of tables parents.now simuls.now) (own_functions (map item_of items.now.items)) (own_variables (map item_of items.now.items)))) }
 {
     let layout = layout_of_tables(alloc, &tables, parents, simuls)?;
     let first = variables_of(parents)?;

@@ -6,4 +6,5 @@ mod family;
 pub mod fault;
 pub mod generate;
 mod heights;
+pub mod laws;
 pub mod loaded;
