@@ -1,5 +1,5 @@
 -- Operators on integers, whose result is written in the place of the operands.
-use Rattle.std.proofs.Common.{◌≡◌, ◌++◌, ◌∷◌, [], ◌∙◌, ℕ, ℤ, zero, suc, ◌+◌, ◌-◌, ◌≤◌, Bool, true, false, List, Option, Some, refl, ap, sym, subst, arith, nat_lt, length, length-append, slice_get, unwrap_or, if◌then◌else◌}
+use Rattle.std.proofs.Common.{◌≡◌, ◌++◌, ◌∷◌, [], ◌∙◌, ℕ, ℤ, zero, suc, ◌+◌, ◌-◌, ◌≤◌, Bool, true, false, List, Some, refl, ap, sym, subst, arith, nat_lt, length, length-append, slice_get, unwrap_or, if◌then◌else◌}
 use Rattle.std.specs.Prelude.{slice_set}
 use Rattle.std.proofs.lemmas.Bool.{le-ltb}
 use Rattle.lp_cells.specs.Cells.{Store}
@@ -15,7 +15,6 @@ use Rattle.lp_ops.specs.declared.effect.Effect.{Effect}
 use Rattle.lp_tree.specs.declared.operator.BinOp.{BinOp}
 use Rattle.lp_tree.specs.declared.operator.Step.{Step}
 use Rattle.lp_language.specs.Operations.{step_effect}
-use Rattle.lp_world.specs.declared.objects.Object.{Object}
 use Rattle.lp_world.specs.declared.live.Live.{Live}
 use Rattle.lp_world.specs.Rows.{live_in}
 use Rattle.lp_step.specs.declared.worked.Worked.TheVariants as worked
@@ -73,6 +72,54 @@ same_sizes l cells e k q = subst (AreSizesSame l cells) (sym q) (λ whole p. ref
 
 -- In place
 
+placed_on : (op : BinOp) (rest old new : List Value) (x y : Value) (len : ℕ) (m n k : ℤ) (before : ℕ)
+    → old ≡ (rest ++ x ∷ []) ++ y ∷ [] → len ≡ length old → slice_get old (len - 2) ≡ Some (Int m) → slice_get old (len - 2 + 1) ≡ Some (Int n)
+    → ((live : ObjId → Bool) → operators.result_of live op (Number m) (Number n) ≡ int k) → 1 ≤ before
+    → ((left : List Value) (right : Value) → old ≡ left ++ right ∷ [] → new ≡ slice_set left (length left - 1) (Int k))
+    → InPlace op old new before true (before - 1)
+placed_on op rest old new x y len m n k before all ll gm gn gives h set = (
+  rest,
+  k,
+  now,
+  λ objects cells. (
+    Int m,
+    Int n,
+    was,
+    tt,
+    tt,
+    works_once before (binary_before op (Number m) (Number n)) (binary_after (live_in objects) op cells (effect (live_in objects))) (effect (live_in objects)) k cells h (no_share_before (binary_has_share op))
+        (ap (λ e. binary_after (live_in objects) op cells e) (is (live_in objects)) ∙ no_share_after (binary_has_share op)) (is (live_in objects)),
+    λ q. same_sizes (live_in objects) cells (effect (live_in objects)) k (is (live_in objects)),
+  ),
+)
+  where
+    effect : (ObjId → Bool) → Effect
+    effect live = operators.binary live op (Number m) (Number n)
+
+    is : (live : ObjId → Bool) → effect live ≡ int k
+    is live = ap within (gives live)
+
+    left_long : length (rest ++ x ∷ []) ≡ length rest + 1
+    left_long = length-append rest (x ∷ [])
+
+    long : length old ≡ length rest + 2
+    long = omega (arith, ap length all, length-append (rest ++ x ∷ []) (y ∷ []), left_long)
+
+    y_is : y ≡ Int n
+    y_is = last_is (rest ++ x ∷ []) y (Int n) (len - 2 + 1) (omega (arith, ll, long, left_long)) (ap (λ l. slice_get l (len - 2 + 1)) (sym all) ∙ gn)
+
+    below : slice_get (rest ++ x ∷ []) (len - 2) ≡ slice_get old (len - 2)
+    below = sym (get_left (rest ++ x ∷ []) (y ∷ []) (len - 2) (omega (arith, ll, long, left_long))) ∙ ap (λ l. slice_get l (len - 2)) (sym all)
+
+    x_is : x ≡ Int m
+    x_is = last_is rest x (Int m) (len - 2) (omega (arith, ll, long)) (below ∙ gm)
+
+    now : new ≡ rest ++ Int k ∷ []
+    now = set (rest ++ x ∷ []) y all ∙ set_last rest x (Int k) (length (rest ++ x ∷ []) - 1) (omega (arith, left_long))
+
+    was : old ≡ (rest ++ Int m ∷ []) ++ Int n ∷ []
+    was = all ∙ ap (λ v. (rest ++ v ∷ []) ++ y ∷ []) x_is ∙ ap (λ v. (rest ++ Int m ∷ []) ++ v ∷ []) y_is
+
 pub placed : (op : BinOp) (old new : List Value) (len : ℕ) (m n k : ℤ) (before : ℕ)
     → len ≡ length old → 2 ≤ length old → slice_get old (len - 2) ≡ Some (Int m) → slice_get old (len - 2 + 1) ≡ Some (Int n)
     → ((live : ObjId → Bool) → operators.result_of live op (Number m) (Number n) ≡ int k) → 1 ≤ before
@@ -82,31 +129,7 @@ placed op old new len m n k before ll two gm gn gives h set =
     let t = unsnoc old (omega arith) in
     let u = unsnoc t.0 (omega (arith, ap length t.2, length-append t.0 (t.1 ∷ []))) in
     let all : old ≡ (u.0 ++ u.1 ∷ []) ++ t.1 ∷ [] = t.2 ∙ ap (λ l. l ++ t.1 ∷ []) u.2 in
-    let long : length old ≡ length u.0 + 2 = omega (arith, ap length all, length-append (u.0 ++ u.1 ∷ []) (t.1 ∷ []), length-append u.0 (u.1 ∷ [])) in
-    let y : t.1 ≡ Int n = last_is (u.0 ++ u.1 ∷ []) t.1 (Int n) (len - 2 + 1) (omega (arith, ll, long, length-append u.0 (u.1 ∷ []))) (ap (λ l. slice_get l (len - 2 + 1)) (sym all) ∙ gn) in
-    let x : u.1 ≡ Int m = last_is u.0 u.1 (Int m) (len - 2) (omega (arith, ll, long)) (sym (get_left (u.0 ++ u.1 ∷ []) (t.1 ∷ []) (len - 2) (omega (arith, ll, long, length-append u.0 (u.1 ∷ [])))) ∙ ap (λ l. slice_get l (len - 2)) (sym all) ∙ gm) in
-    let now : new ≡ u.0 ++ Int k ∷ [] = set (u.0 ++ u.1 ∷ []) t.1 all ∙ set_last u.0 u.1 (Int k) (length (u.0 ++ u.1 ∷ []) - 1) (omega (arith, length-append u.0 (u.1 ∷ []))) in
-    let was : old ≡ (u.0 ++ Int m ∷ []) ++ Int n ∷ [] = all ∙ ap (λ v. (u.0 ++ v ∷ []) ++ t.1 ∷ []) x ∙ ap (λ v. (u.0 ++ Int m ∷ []) ++ v ∷ []) y in (
-      u.0,
-      k,
-      now,
-      λ objects cells. (
-        Int m,
-        Int n,
-        was,
-        tt,
-        tt,
-        works_once before (binary_before op (Number m) (Number n)) (binary_after (live_in objects) op cells (effect (live_in objects))) (effect (live_in objects)) k cells h (no_share_before (binary_has_share op))
-            (ap (λ e. binary_after (live_in objects) op cells e) (is (live_in objects)) ∙ no_share_after (binary_has_share op)) (is (live_in objects)),
-        λ q. same_sizes (live_in objects) cells (effect (live_in objects)) k (is (live_in objects)),
-      ),
-    )
-  where
-    effect : (ObjId → Bool) → Effect
-    effect live = operators.binary live op (Number m) (Number n)
-
-    is : (live : ObjId → Bool) → effect live ≡ int k
-    is live = ap within (gives live)
+    placed_on op u.0 old new u.1 t.1 len m n k before all ll gm gn gives h set
 
 pub counted_in_place : (step : Step) (old new : List Value) (len : ℕ) (n k : ℤ) (before : ℕ)
     → len ≡ length old → 1 ≤ length old → slice_get old (len - 1) ≡ Some (Int n) → step_effect step (Number n) ≡ int k → 1 ≤ before

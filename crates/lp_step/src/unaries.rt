@@ -64,6 +64,7 @@ fn operate_top(
 }
 
 /// A prefix operator: takes its operand.
+#[inline(never)]
 pub fn unary_operator(
     live: &mut Live,
     stack: &mut Vec<Value>,
