@@ -95,7 +95,6 @@ fn copy_top(
 
 /// Begins a loop: takes an array or a mapping, and leaves its copy and the first place. The number of
 /// variables says nothing here.
-#[inline(never)]
 pub fn each_begin(
     live: &mut Live,
     stack: &mut Vec<Value>,

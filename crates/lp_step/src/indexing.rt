@@ -76,7 +76,6 @@ fn index_top(
 }
 
 /// Reads at an index: takes a container and the index.
-#[inline(never)]
 pub fn at_index(
     live: &Live,
     stack: &mut Vec<Value>,

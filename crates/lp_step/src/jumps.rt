@@ -98,7 +98,6 @@ pub fn loop_turn(stack: &mut Vec<Value>, frame: &mut Frame, budget: &mut u64) ->
 }
 
 /// Opens a catch that goes on at a place.
-#[inline(never)]
 pub fn catch_begin(stack: &mut Vec<Value>, frame: &mut Frame, to: u32) -> Result<Next, StepFault>
     requires room { frame.old.at + 1 < 2 ^ 32 }
     requires low { length stack.old.items < 2 ^ 32 }

@@ -231,7 +231,6 @@ fn mapping_top(
 }
 
 /// An array that is spelled out: takes its items, which become the new cell's.
-#[inline(never)]
 pub fn make_array(
     live: &mut Live,
     stack: &mut Vec<Value>,
@@ -267,7 +266,6 @@ pub fn make_array(
 }
 
 /// A mapping that is spelled out: takes its keys and values, by turns.
-#[inline(never)]
 pub fn make_map(
     live: &mut Live,
     stack: &mut Vec<Value>,

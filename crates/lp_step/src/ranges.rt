@@ -191,7 +191,6 @@ fn operate_top(
 }
 
 /// A range: takes the ends that are given, and a value.
-#[inline(never)]
 pub fn cut_range(
     live: &mut Live,
     stack: &mut Vec<Value>,

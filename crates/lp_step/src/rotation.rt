@@ -21,7 +21,6 @@ fn bring(stack: &mut Vec<Value>, n: usize) -> Result<(), StepFault>
 }
 
 /// Brings the n-th value from the top to the top.
-#[inline(never)]
 pub fn rotate(stack: &mut Vec<Value>, frame: &mut Frame, n: u32) -> Result<Next, StepFault>
     requires room { frame.old.at + 1 < 2 ^ 32 }
     requires some { 1 ≤ n }

@@ -203,7 +203,6 @@ fn push_found(stack: &mut Vec<Value>, found: Vec<Scanned>, places: u32) -> Resul
 
 /// Scans a text by a form for so many places: takes both, and leaves how many values were assigned, and above
 /// that for each place its value and 1, or 0 twice, the first place on top.
-#[inline(never)]
 pub fn scan_operator(
     live: &Live,
     stack: &mut Vec<Value>,

@@ -81,7 +81,6 @@ fn place_at(frame: &Frame, k: u32, v: &Value) -> u32
 }
 
 /// Goes on where a row of the program's list of switches says: takes a value.
-#[inline(never)]
 pub fn switch_on(live: &Live, stack: &mut Vec<Value>, frame: &mut Frame, k: u32) -> Next
     requires operands { 1 ≤ length stack.old.items }
     requires there { k < length frame.old.code.switches }

@@ -179,7 +179,6 @@ fn next_turn(stack: &mut Vec<Value>, is_pair: bool, cells: &Cells) -> Result<boo
 
 /// Goes on elsewhere with the next values for so many variables, if there are any: takes a copy and a place
 /// in it, and leaves them and the values, or nothing.
-#[inline(never)]
 pub fn each_next(
     live: &Live,
     stack: &mut Vec<Value>,

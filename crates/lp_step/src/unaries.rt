@@ -64,7 +64,6 @@ fn operate_top(
 }
 
 /// A prefix operator: takes its operand.
-#[inline(never)]
 pub fn unary_operator(
     live: &mut Live,
     stack: &mut Vec<Value>,

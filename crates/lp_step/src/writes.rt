@@ -179,7 +179,6 @@ fn write_top(
 
 /// Writes at an index: takes a container, the index and a value, which stays on top. The container's
 /// cell is written, whoever else names it.
-#[inline(never)]
 pub fn set_index(
     live: &mut Live,
     stack: &mut Vec<Value>,
