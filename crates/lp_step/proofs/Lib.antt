@@ -16,3 +16,4 @@ pub mod Paired
 pub mod Spelled
 pub mod Ranged
 pub mod Brought
+pub mod Placed

@@ -10,6 +10,7 @@ ghost use Rattle.lp_step.specs.Steps.{Keeps, Performs};
 ghost use Rattle.lp_step.specs.Works.{Acts, AreSizesSame, IsWorkedThere, Works, WorksOn};
 
 use crate::fault::StepFault;
+use crate::integers::binary_in_place;
 use crate::next::Next;
 use crate::stack::{pay, pop, push};
 use crate::worked::Worked;
@@ -111,8 +112,9 @@ fn operate_top(
     operate(alloc, op, &x, &y, cells, objects, budget)
 }
 
-/// A binary operator: takes its operands.
-pub fn binary_operator(
+/// A binary operator on any values: takes its operands.
+#[inline(never)]
+fn on_values(
     live: &mut Live,
     stack: &mut Vec<Value>,
     frame: &mut Frame,
@@ -144,4 +146,28 @@ pub fn binary_operator(
         Worked::Error(e) => Ok(Next::Error(e)),
         Worked::Spent => Ok(Next::Spent),
     }
+}
+
+/// A binary operator: takes its operands. Most are integers, whose result takes their place.
+pub fn binary_operator(
+    live: &mut Live,
+    stack: &mut Vec<Value>,
+    frame: &mut Frame,
+    budget: &mut u64,
+    op: BinOp,
+) -> Result<Next, StepFault>
+    requires room { frame.old.at + 1 < 2 ^ 32 }
+    requires operands { 2 ≤ length stack.old.items }
+    requires there { All (IsThere live.old.cells) stack.old.items }
+    requires closed { IsClosed live.old.cells }
+    ensures table { IfOk result (λ n. Performs (Instr.Binary op) live.old stack.old.items frame.old budget.old n live.new stack.new.items frame.new budget.new) }
+    ensures keeps { IfOk result (λ n. Keeps live.old stack.old.items n live.new stack.new.items) }
+    ensures home { live.new.objects ≡ live.old.objects }
+{
+    let is_done = binary_in_place(stack, budget, op);
+    if is_done {
+        frame.at += 1;
+        return Ok(Next::Again);
+    }
+    on_values(live, stack, frame, budget, op)
 }

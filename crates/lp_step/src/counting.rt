@@ -9,6 +9,7 @@ ghost use Rattle.lp_step.specs.Works.{IsWorkedThere, SteppedOn, Works};
 ghost use Rattle.lp_values.specs.declared.id.ObjId.{ObjId};
 
 use crate::fault::StepFault;
+use crate::integers::count_in_place;
 use crate::next::Next;
 use crate::stack::{pay, pop, push};
 use crate::worked::Worked;
@@ -107,8 +108,9 @@ fn count_top(
     count(alloc, step, &x, cells, objects, budget)
 }
 
-/// One more or one less: takes a value.
-pub fn step_operator(
+/// One more or one less of any value: takes it.
+#[inline(never)]
+fn on_value(
     live: &Live,
     stack: &mut Vec<Value>,
     frame: &mut Frame,
@@ -131,4 +133,26 @@ pub fn step_operator(
         Worked::Error(e) => Ok(Next::Error(e)),
         Worked::Spent => Ok(Next::Spent),
     }
+}
+
+/// One more or one less: takes a value. Most are integers, whose result takes their place.
+pub fn step_operator(
+    live: &Live,
+    stack: &mut Vec<Value>,
+    frame: &mut Frame,
+    budget: &mut u64,
+    step: Step,
+) -> Result<Next, StepFault>
+    requires room { frame.old.at + 1 < 2 ^ 32 }
+    requires operands { 1 ≤ length stack.old.items }
+    requires there { All (IsThere live.now.cells) stack.old.items }
+    ensures table { IfOk result (λ n. Performs (Instr.Step step) live.now stack.old.items frame.old budget.old n live.now stack.new.items frame.new budget.new) }
+    ensures keeps { IfOk result (λ n. Keeps live.now stack.old.items n live.now stack.new.items) }
+{
+    let is_done = count_in_place(stack, budget, step);
+    if is_done {
+        frame.at += 1;
+        return Ok(Next::Again);
+    }
+    on_value(live, stack, frame, budget, step)
 }

@@ -11,6 +11,7 @@ pub mod counting;
 pub mod fault;
 pub mod globals;
 pub mod indexing;
+pub mod integers;
 pub mod jumps;
 pub mod literals;
 pub mod next;

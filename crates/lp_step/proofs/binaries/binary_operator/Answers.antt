@@ -1,34 +1,19 @@
-use Rattle.std.proofs.Common.{refl, subst, ◌+◌}
+use Rattle.std.proofs.Common.{◌+◌}
+use Rattle.lp_step.proofs.Led.{value}
+use Rattle.lp_step.proofs.Operated.{operated}
+use Rattle.lp_step.proofs.Placed.{placed_fit}
 use Rattle.lp_step.specs.declared.worked.Worked.TheVariants as worked
-use Rattle.lp_step.specs.Works.{IsWorkedThere, WorksOn}
-use Rattle.lp_step.proofs.Fits.{pushed_fit}
-use Rattle.lp_step.proofs.Led.{value, error, spent}
-use Rattle.lp_step.proofs.Operated.{cells_fit, operated}
+use Rattle.lp_values.specs.declared.value.Value.TheVariants.{Int}
 use Rattle.lp_step.proofs.binaries.binary_operator.Goals as goal
 
-pub returns-in_ok-push-in-Value : goal.returns-in_ok-push-in-Value
-returns-in_ok-push-in-Value c = record {
-  table = λ a m h fine named.
-      operated a c.args.live.now c.operate_top.new.cells c.args.stack.now.items c.operate_top.new.stack.items c.push.new.stack.items c.args.frame.now (c.args.frame.now.at + 1) c.args.budget.now c.operate_top.new.budget m c.args.op (worked.Value c.in-Value.v) _ h
-      (subst (λ d. WorksOn c.args.op c.args.stack.now.items c.operate_top.new.stack.items c.args.live.now.objects c.args.live.now.cells c.args.budget.now d c.operate_top.new.cells c.operate_top.new.budget) c.in-Value.is c.in_ok-d.ensures.works) (value c.in_ok-push-in-Value.ensures) fine;
-  keeps = λ f. let t = c.in_ok-d.ensures.works in (pushed_fit (record c.args.live.now { cells = c.operate_top.new.cells }) _ _ _ (subst (IsWorkedThere c.operate_top.new.cells) c.in-Value.is c.in_ok-d.ensures.keeps.1) c.in_ok-push-in-Value.ensures (cells_fit c.args.live.now c.operate_top.new.cells _ _ t.0 t.1 t.2 c.operate_top.ensures.stay c.in_ok-d.ensures.keeps.0 f), tt);
-  home = refl;
-}
+pub returns-then-is_done-clause-table : goal.returns-then-is_done-clause-table
+returns-then-is_done-clause-table c a m h fine named =
+    let t = c.if-is_done.ensures in
+    operated a c.args.live.now c.args.live.now.cells c.args.stack.now.items t.0 c.binary_in_place-is_done.new.stack.items c.args.frame.now (c.args.frame.now.at + 1) c.args.budget.now c.binary_in_place-is_done.new.budget m c.args.op (worked.Value (Int t.1)) _ h
+    (t.3 c.args.live.now.objects c.args.live.now.cells) (value t.2) fine
 
-pub returns-in-Error : goal.returns-in-Error
-returns-in-Error c = record {
-  table = λ a m h fine named.
-      operated a c.args.live.now c.operate_top.new.cells c.args.stack.now.items c.operate_top.new.stack.items c.operate_top.new.stack.items c.args.frame.now c.args.frame.now.at c.args.budget.now c.operate_top.new.budget m c.args.op (worked.Error c.in-Error.e) _ h
-      (subst (λ d. WorksOn c.args.op c.args.stack.now.items c.operate_top.new.stack.items c.args.live.now.objects c.args.live.now.cells c.args.budget.now d c.operate_top.new.cells c.operate_top.new.budget) c.in-Error.is c.in_ok-d.ensures.works) error fine;
-  keeps = λ f. let t = c.in_ok-d.ensures.works in (cells_fit c.args.live.now c.operate_top.new.cells _ _ t.0 t.1 t.2 c.operate_top.ensures.stay c.in_ok-d.ensures.keeps.0 f, tt);
-  home = refl;
-}
-
-pub returns-in-Spent : goal.returns-in-Spent
-returns-in-Spent c = record {
-  table = λ a m h fine named.
-      operated a c.args.live.now c.operate_top.new.cells c.args.stack.now.items c.operate_top.new.stack.items c.operate_top.new.stack.items c.args.frame.now c.args.frame.now.at c.args.budget.now c.operate_top.new.budget m c.args.op worked.Spent _ h
-      (subst (λ d. WorksOn c.args.op c.args.stack.now.items c.operate_top.new.stack.items c.args.live.now.objects c.args.live.now.cells c.args.budget.now d c.operate_top.new.cells c.operate_top.new.budget) c.in-Spent.is c.in_ok-d.ensures.works) spent fine;
-  keeps = λ f. let t = c.in_ok-d.ensures.works in (cells_fit c.args.live.now c.operate_top.new.cells _ _ t.0 t.1 t.2 c.operate_top.ensures.stay c.in_ok-d.ensures.keeps.0 f, tt);
-  home = refl;
-}
+pub returns-then-is_done-clause-keeps : goal.returns-then-is_done-clause-keeps
+returns-then-is_done-clause-keeps c f =
+    let t = c.if-is_done.ensures in
+    let w = t.3 c.args.live.now.objects c.args.live.now.cells in
+    (placed_fit c.args.live.now c.args.stack.now.items t.0 c.binary_in_place-is_done.new.stack.items w.0 w.1 t.1 w.2 t.2 f, tt)
