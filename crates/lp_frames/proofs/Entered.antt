@@ -9,13 +9,14 @@ use Rattle.lp_cells.specs.Cells.{IsThere}
 use Rattle.lp_code.specs.declared.program.FunRow.{FunRow}
 use Rattle.lp_code.specs.declared.program.RawProgram.{RawProgram}
 use Rattle.lp_code.specs.Owners.{AreRows, RowsRise}
+use Rattle.lp_code.specs.Programs.{IsProgram}
 use Rattle.lp_language.specs.Course.{zero_value}
 use Rattle.lp_world.specs.declared.frame.Catch.{Catch}
 use Rattle.lp_world.specs.declared.frame.Frame.{Frame}
 use Rattle.lp_world.specs.declared.live.Live.{Live}
 use Rattle.lp_step.specs.Steps.{IsFit}
 use Rattle.lp_frames.specs.declared.entry.Callee.{Callee}
-use Rattle.lp_frames.specs.Entries.{BeginsAsWritten, Enters, HasHeights, RunsFrom, begun_locals}
+use Rattle.lp_frames.specs.Entries.{BeginsAsWritten, CanRunFrom, Enters, IsOfRow, RunsFrom, begins, begun_locals}
 use Rattle.lp_frames.proofs.Filled.{length_begun}
 
 -- the frame with which a function begins
@@ -91,11 +92,33 @@ runs_entered code callee n stack0 stack1 params locals bottom frame new enters r
   home = home;
 }
 
-pub has_heights : (code : RawProgram) (callee : Callee) (n : ℕ) (stack0 : List Value) (row0 : FunRow) (bottom : ℕ) → slice_get code.funs callee.fun ≡ Some row0 → bottom ≡ length stack0 - n
-    → bottom + row0.locals + code.max_height < 2 ^ 32 → HasHeights code callee n stack0
-has_heights code callee n stack0 row0 bottom found b h row e =
-    let r : row0 ≡ row = ap (λ o. unwrap_or o row0) (sym found ∙ e) in
-    subst (λ q. (length stack0 - n) + q.locals + code.max_height < 2 ^ 32) r (subst (λ k. k + row0.locals + code.max_height < 2 ^ 32) b h)
+pub of_row : (code : RawProgram) (callee : Callee) (n : ℕ) (stack0 : List Value) (row0 : FunRow) (bottom : ℕ) → slice_get code.funs callee.fun ≡ Some row0 → n ≤ length stack0 → bottom ≡ length stack0 - n
+    → bottom + row0.locals + code.max_height < 2 ^ 32 → IsOfRow code callee n stack0
+of_row code callee n stack0 row0 bottom found enough b h row a xs around e l variables finds places =
+    let r : row0 ≡ row = ap (λ o. unwrap_or o row0) (sym found ∙ around.found) in
+    let low : bottom ≡ length a.below = omega (arith, b, l, ap length e, length-append a.below xs) in
+    record {
+      program = ap (λ v. slice_get a.programs v.0) (sym around.belongs.version) ∙ around.belongs.program;
+      locals = around.locals;
+      variables = variables;
+      rows = finds;
+      places = places;
+      heights = omega (arith, h, low, around.locals, ap (λ q. q.locals) r);
+    }
+
+pub can_run_from : (code : RawProgram) (callee : Callee) (n : ℕ) (stack0 stack1 : List Value) (frame : Frame) → IsProgram code → IsOfRow code callee n stack0 → RunsFrom code callee n stack0 stack1 frame → CanRunFrom code callee n stack0 stack1 frame
+can_run_from code callee n stack0 stack1 frame sound of runs row a xs live budget s around e l opens variables finds places fit home =
+    let f = sound.functions callee.fun row around.found in
+    record {
+      p = code;
+      k = callee.fun;
+      row = row;
+      function = f;
+      around = a;
+      moment = begins row xs s;
+      of = of row a xs around e l variables finds places;
+      runs = runs row f a xs live budget s around e l opens finds fit home;
+    }
 
 pub begins_as_written : BeginsAsWritten
 begins_as_written f row xs p l = ap (λ n. begun_locals n row.locals xs) p ∙ ap (λ n. begun_locals (length f.parameters) n xs) l

@@ -1,5 +1,5 @@
 -- How a function begins.
-use Rattle.std.specs.Prelude.{◌≡◌, ℕ, ◌+◌, ◌-◌, ◌<◌, ◌≤◌, ◌^◌, ◌++◌, List, [], Some, length, replicate, slice_get, take}
+use Rattle.std.specs.Prelude.{◌≡◌, ℕ, ◌-◌, ◌<◌, ◌^◌, ◌++◌, List, [], Some, length, replicate, slice_get, take}
 use Rattle.lp_values.specs.declared.value.Value.{Value}
 use Rattle.lp_code.specs.declared.program.FunRow.{FunRow}
 use Rattle.lp_code.specs.declared.program.RawProgram.{RawProgram}
@@ -10,10 +10,11 @@ use Rattle.lp_language.specs.Resolve.{Function}
 use Rattle.lp_isa.specs.Machine.{Moment}
 use Rattle.lp_world.specs.declared.frame.Frame.{Frame}
 use Rattle.lp_world.specs.declared.live.Live.{Live}
-use Rattle.lp_world.specs.Matches.{Around, Belongs, Matches, floor}
+use Rattle.lp_world.specs.Matches.{Around, Belongs, Matches}
 use Rattle.lp_world.specs.Stands.{Stands}
 use Rattle.lp_step.specs.Steps.{IsFit}
-use Rattle.lp_step_laws.specs.Running.{IsHome, Runs}
+use Rattle.lp_step_laws.specs.Running.{IsHome, IsOf, Runs}
+use Rattle.lp_run.specs.Runs.{CanRun}
 use Rattle.lp_frames.specs.declared.entry.Callee.{Callee}
 
 -- The locals with which a function begins: its parameters, of which missing ones are 0 while surplus arguments are dropped,
@@ -54,9 +55,21 @@ RunsFrom code callee n stack0 stack1 frame =
     → FindsRows code a.code.parents → IsFit live stack0 → IsHome a live
     → Runs f.shapes a live stack1 frame budget (begins row xs s)
 
--- Each height of the stack has a number while it runs.
-abbrev pub HasHeights : RawProgram → Callee → ℕ → List Value → Type 0
-HasHeights code callee n stack0 = (row : FunRow) → slice_get code.funs callee.fun ≡ Some row → (length stack0 - n) + row.locals + code.max_height < 2 ^ 32
+-- What stays while it runs is that of a row of its program, so that each height of its stack has a number.
+abbrev pub IsOfRow : RawProgram → Callee → ℕ → List Value → Type 0
+IsOfRow code callee n stack0 =
+    (row : FunRow) (a : Around) (xs : List Value) → IsAround a callee code row → stack0 ≡ a.below ++ xs → length xs ≡ n
+    → a.variables ≡ length code.tables.vars → FindsRows code a.code.parents → length code.instrs < 2 ^ 32
+    → IsOf a code row
+
+-- So instructions can be carried out.
+abbrev pub CanRunFrom : RawProgram → Callee → ℕ → List Value → List Value → Frame → Type 0
+CanRunFrom code callee n stack0 stack1 frame =
+    (row : FunRow) (a : Around) (xs : List Value) (live : Live) (budget : ℕ) (s : State)
+    → IsAround a callee code row → stack0 ≡ a.below ++ xs → length xs ≡ n → Opens a live budget s
+    → a.variables ≡ length code.tables.vars → FindsRows code a.code.parents → length code.instrs < 2 ^ 32
+    → IsFit live stack0 → IsHome a live
+    → CanRun live stack1 frame budget
 
 -- These locals are those with which the language begins the function's body.
 abbrev pub BeginsAsWritten : Type 0

@@ -1,7 +1,7 @@
 //! Entries of functions.
 ghost use Rattle.std.specs.Prelude.{◌≡◌, ◌+◌, ◌-◌, ◌<◌, ◌≤◌, ◌^◌, ◌++◌, IfOk, IsTrue, OnOk, Some, drop, length, replicate, slice_get, take};
 ghost use Rattle.lp_language.specs.Course.{zero_value};
-ghost use Rattle.lp_frames.specs.Entries.{BeginsAsWritten, Enters, HasHeights, RunsFrom, begun_locals};
+ghost use Rattle.lp_frames.specs.Entries.{BeginsAsWritten, CanRunFrom, Enters, IsOfRow, RunsFrom, begun_locals};
 
 use lp_code::program::{FunRow, RawProgram};
 use lp_step::fault::StepFault;
@@ -90,7 +90,8 @@ pub fn enter(
     requires arguments { args ≤ length stack.old.items }
     ensures enters { IfOk result (λ frame. Enters code callee args stack.old.items stack.new.items frame) }
     ensures runs { IfOk result (λ frame. RunsFrom code callee args stack.old.items stack.new.items frame) }
-    ensures heights { OnOk result (HasHeights code callee args stack.old.items) }
+    ensures of { OnOk result (IsOfRow code callee args stack.old.items) }
+    ensures can { IfOk result (λ frame. CanRunFrom code callee args stack.old.items stack.new.items frame) }
 {
     let raw = code.raw();
     let row = row_at(raw, callee.fun);

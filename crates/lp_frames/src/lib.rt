@@ -5,3 +5,4 @@
 #![tactic(auto)]
 
 pub mod entry;
+pub mod leaving;

@@ -1,6 +1,5 @@
-use Rattle.std.proofs.Common.{◌≡◌, ◌+◌, ◌-◌, ◌<◌, ◌≤◌, ◌^◌, ◌++◌, IfOk, IsTrue, OnOk, drop, length, replicate, take, ℕ, ◌*◌}
+use Rattle.std.proofs.Common.{◌≡◌, ◌-◌, ◌++◌, length, replicate}
 use Rattle.lp_language.specs.Course.{zero_value}
-use Rattle.lp_frames.specs.Entries.{BeginsAsWritten, Enters, HasHeights, RunsFrom, begun_locals}
 use Rattle.lp_frames.proofs.entry.fill.Given as goal
 
 abbrev pub invariant-loop-stack : goal.invariant-loop-stack
