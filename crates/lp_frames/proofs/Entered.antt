@@ -16,7 +16,7 @@ use Rattle.lp_world.specs.declared.frame.Frame.{Frame}
 use Rattle.lp_world.specs.declared.live.Live.{Live}
 use Rattle.lp_step.specs.Steps.{IsFit}
 use Rattle.lp_frames.specs.declared.entry.Callee.{Callee}
-use Rattle.lp_frames.specs.Entries.{BeginsAsWritten, CanRunFrom, Enters, IsOfRow, RunsFrom, begins, begun_locals}
+use Rattle.lp_frames.specs.Entries.{BeginsAsWritten, CanRunFrom, Enters, IsOfRow, LaysOut, RunsFrom, begins, begun_locals}
 use Rattle.lp_frames.proofs.Filled.{length_begun}
 
 -- the frame with which a function begins
@@ -69,6 +69,24 @@ entered code callee n stack0 stack1 row0 at bottom catches found few enough p b 
       player = opens.player;
       commands = opens.commands;
     }
+
+pub lays_out : (code : RawProgram) (callee : Callee) (n : ℕ) (stack0 stack1 : List Value) (row : FunRow) (bottom : ℕ) (catches : Vec Catch Global)
+    → slice_get code.funs callee.fun ≡ Some row → bottom ≡ length stack0 - n → catches.items ≡ [] → stack1 ≡ take bottom stack0 ++ begun_locals row.params row.locals (drop bottom stack0)
+    → LaysOut code callee n stack0 stack1 (first_frame callee code row.from bottom catches)
+lays_out code callee n stack0 stack1 row bottom catches found b none new = record {
+  row = row;
+  found = found;
+  stack = new ∙ ap (λ k. take k stack0 ++ begun_locals row.params row.locals (drop k stack0)) b;
+  at = refl;
+  bottom = b;
+  catches = none;
+  this = refl;
+  program = refl;
+  part = refl;
+  base = refl;
+  fun = refl;
+  code_same = refl;
+}
 
 zeros_there : (live : Live) (n : ℕ) → All (IsThere live.cells) (replicate n zero_value)
 zeros_there live zero = All-nil (IsThere live.cells)

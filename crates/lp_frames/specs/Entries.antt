@@ -1,5 +1,5 @@
 -- How a function begins.
-use Rattle.std.specs.Prelude.{◌≡◌, ℕ, ◌-◌, ◌<◌, ◌^◌, ◌++◌, List, [], Some, length, replicate, slice_get, take}
+use Rattle.std.specs.Prelude.{◌≡◌, ℕ, ◌-◌, ◌<◌, ◌^◌, ◌++◌, List, [], Some, drop, length, replicate, slice_get, take}
 use Rattle.lp_values.specs.declared.value.Value.{Value}
 use Rattle.lp_code.specs.declared.program.FunRow.{FunRow}
 use Rattle.lp_code.specs.declared.program.RawProgram.{RawProgram}
@@ -31,6 +31,22 @@ pub record IsAround (a : Around) (callee : Callee) (code : RawProgram) (row : Fu
   pub found : slice_get code.funs callee.fun ≡ Some row
   pub belongs : Belongs a callee.this callee.program callee.part callee.base callee.fun code
   pub locals : a.locals ≡ row.locals
+
+-- On the stack alone: the last n values become the first locals, what lies below them stays, and the frame is at the first
+-- instruction of the row, without an open catch.
+pub record LaysOut (code : RawProgram) (callee : Callee) (n : ℕ) (stack0 stack1 : List Value) (frame : Frame) : Type 0 where
+  pub row : FunRow
+  pub found : slice_get code.funs callee.fun ≡ Some row
+  pub stack : stack1 ≡ take (length stack0 - n) stack0 ++ begun_locals row.params row.locals (drop (length stack0 - n) stack0)
+  pub at : frame.at ≡ row.from
+  pub bottom : frame.bottom ≡ length stack0 - n
+  pub catches : frame.catches.items ≡ []
+  pub this : frame.this ≡ callee.this
+  pub program : frame.program ≡ callee.program
+  pub part : frame.part ≡ callee.part
+  pub base : frame.base ≡ callee.base
+  pub fun : frame.fun ≡ callee.fun
+  pub code_same : frame.code ≡ code
 
 -- The live state stands for a state of the machine, whatever that has for locals.
 pub record Opens (a : Around) (live : Live) (budget : ℕ) (s : State) : Type 0 where

@@ -1,7 +1,7 @@
 //! Entries of functions.
 ghost use Rattle.std.specs.Prelude.{◌≡◌, ◌+◌, ◌-◌, ◌<◌, ◌≤◌, ◌^◌, ◌++◌, IfOk, IsTrue, OnOk, Some, drop, length, replicate, slice_get, take};
 ghost use Rattle.lp_language.specs.Course.{zero_value};
-ghost use Rattle.lp_frames.specs.Entries.{BeginsAsWritten, CanRunFrom, Enters, IsOfRow, RunsFrom, begun_locals};
+ghost use Rattle.lp_frames.specs.Entries.{BeginsAsWritten, CanRunFrom, Enters, IsOfRow, LaysOut, RunsFrom, begun_locals};
 
 use lp_code::program::{FunRow, RawProgram};
 use lp_step::fault::StepFault;
@@ -88,6 +88,7 @@ pub fn enter(
 ) -> Result<Frame, StepFault>
     requires function { callee.fun < length code.funs }
     requires arguments { args ≤ length stack.old.items }
+    ensures stack { IfOk result (λ frame. LaysOut code callee args stack.old.items stack.new.items frame) }
     ensures enters { IfOk result (λ frame. Enters code callee args stack.old.items stack.new.items frame) }
     ensures runs { IfOk result (λ frame. RunsFrom code callee args stack.old.items stack.new.items frame) }
     ensures of { OnOk result (IsOfRow code callee args stack.old.items) }

@@ -1,5 +1,5 @@
 //! Ends of functions: the caller goes on.
-ghost use Rattle.std.specs.Prelude.{◌≡◌, ◌-◌, ◌≤◌, IfOk, OnOk, take};
+ghost use Rattle.std.specs.Prelude.{◌≡◌, ◌-◌, ◌≤◌, ◌++◌, ◌∷◌, [], IfOk, OnOk, take};
 ghost use Rattle.lp_cells.specs.Cells.{IsThere};
 ghost use Rattle.lp_step.specs.Steps.{IsFit};
 ghost use Rattle.lp_frames.specs.Calls.{CallsPart, WaitsThere};
@@ -26,6 +26,7 @@ pub fn cut(stack: &mut Vec<Value>, frame: &Frame, under: u32)
 /// Leaves a function that ended with a value, which goes on top of the caller's operands.
 pub fn leave(stack: &mut Vec<Value>, frame: &Frame, under: u32, v: Value) -> Result<(), StepFault>
     requires { under ≤ frame.now.bottom }
+    ensures items { OnOk result (stack.new.items ≡ take (frame.now.bottom - under) stack.old.items ++ v ∷ []) }
     ensures returns { OnOk result (Returns under v stack.old.items frame.now stack.new.items) }
     ensures runs { OnOk result (RunsOn under v stack.old.items frame.now stack.new.items) }
     ensures keeps { OnOk result ((live : _) → IsThere live.cells v → IsFit live stack.old.items → IsFit live stack.new.items) }

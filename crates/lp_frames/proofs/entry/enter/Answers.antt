@@ -1,11 +1,17 @@
 use Rattle.std.proofs.Common.{rules, ◌≡◌, ◌+◌, ◌-◌, ◌<◌, ◌^◌, length, refl, Some, slice_get}
-use Rattle.lp_frames.proofs.Entered.{can_run_from, entered, of_row, params_of, runs_entered}
+use Rattle.lp_frames.proofs.Entered.{can_run_from, entered, lays_out, of_row, params_of, runs_entered}
 use Rattle.lp_frames.proofs.entry.enter.Goals as goal
 
 pub begin_locals-requires-clause-params : goal.begin_locals-requires-clause-params
 begin_locals-requires-clause-params c =
     let found : slice_get c.args.code.funs c.args.callee.fun ≡ Some c.row_at-row.result.now = search rules in
     params_of (length c.args.code.instrs) c.args.code.funs c.args.callee.fun c.row_at-row.result.now c.raw-raw.ensures.sound.rows found
+
+pub returns-clause-stack : goal.returns-clause-stack
+returns-clause-stack c =
+    let found : slice_get c.args.code.funs c.args.callee.fun ≡ Some c.row_at-row.result.now = search rules in
+    let bottom : c.len.result - c.args.args ≡ length c.args.stack.now.items - c.args.args = search rules in
+    lays_out c.args.code c.args.callee c.args.args c.args.stack.now.items c.begin_locals.new.stack.items c.row_at-row.result.now (c.len.result - c.args.args) c.new.result found bottom c.new.ensures.items c.in_ok-begin_locals.ensures
 
 pub returns-clause-enters : goal.returns-clause-enters
 returns-clause-enters c =
