@@ -1,0 +1,4 @@
+pub mod Filled
+pub mod Entered
+pub mod Left
+pub mod Parts
