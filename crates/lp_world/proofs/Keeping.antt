@@ -48,7 +48,7 @@ pub get_end : {A : Type 0} (xs : List A) (x : A) → slice_get (xs ++ x ∷ []) 
 get_end [] x = refl
 get_end (y ∷ xs) x = get_end xs x
 
-get_new : {A : Type 0} (xs : List A) (x : A) (i : ℕ) (y : A) → slice_get (xs ++ x ∷ []) i ≡ Some y → (slice_get xs i ≡ Some y) ⊎ ((Some x ≡ Some y) × (i ≡ length xs))
+pub get_new : {A : Type 0} (xs : List A) (x : A) (i : ℕ) (y : A) → slice_get (xs ++ x ∷ []) i ≡ Some y → (slice_get xs i ≡ Some y) ⊎ ((Some x ≡ Some y) × (i ≡ length xs))
 get_new [] x zero y h = inr (h, refl)
 get_new [] x (suc i) y h = cc
 get_new (z ∷ xs) x zero y h = inl h

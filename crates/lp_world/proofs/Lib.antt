@@ -2,3 +2,4 @@ pub mod Answering
 pub mod Keeping
 pub mod Closing
 pub mod BareWorlds
+pub mod Grown

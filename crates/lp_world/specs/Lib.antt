@@ -7,3 +7,4 @@ pub mod Matches
 pub mod Closed
 pub mod Laws
 pub mod Bare
+pub mod Additions

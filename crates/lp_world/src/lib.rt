@@ -5,6 +5,7 @@
 //! stands for the same one. It is closed (`specs/Closed.antt`): what it names is there.
 #![tactic(auto)]
 
+pub mod additions;
 pub mod bare;
 pub mod connections;
 pub mod frame;

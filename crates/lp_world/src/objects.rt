@@ -1,8 +1,9 @@
 //! Objects of the state, by their serials.
-ghost use Rattle.std.specs.Prelude.{◌≡◌, [], IsSome, List, Some, length, slice_get, slice_set};
+ghost use Rattle.std.specs.Prelude.{◌≡◌, ◌∷◌, ◌++◌, [], IfOk, IsSome, List, OnErr, OnOk, Option, Some, length, slice_get, slice_set};
 ghost use Rattle.std.specs.Option.{option_copied};
 ghost use Rattle.lp_values.specs.declared.value.Value.{Value as V};
 ghost use Rattle.lp_world.specs.declared.objects.Object.{Object as O};
+ghost use Rattle.lp_world.specs.Additions.{new_object};
 ghost use Rattle.lp_world.specs.Rows.{HasPlace, IsWritten, is_live_row, is_out_row, live_in, row_after_death, row_at, row_with_state, state_in, variables_at, variables_in, variables_of, with_value};
 
 use crate::serials::Serials;
@@ -10,7 +11,7 @@ use lp_cells::content::Items;
 use lp_swapper::Ticket;
 use lp_values::id::{ObjId, ProgId};
 use lp_values::value::{Living, Value};
-use std::alloc::Global;
+use std::alloc::{AllocError, Global};
 use std::marker::Model;
 use std::mem;
 
@@ -224,5 +225,35 @@ impl ObjectTable {
         ensures { self.new ≡ slice_set self.old id.0 (row_after_death (row_at self.old id.0)) }
     {
         kill_row(&mut self.rows[id.0 as usize]);
+    }
+
+    /// A live object in memory comes behind the others and has the next serial. It is not living. `latest` is a
+    /// clock, in seconds. After want of memory all is as it was.
+    pub fn add(
+        &mut self,
+        program: ProgId,
+        latest: u64,
+        variables: Items,
+    ) -> Result<ObjId, AllocError>
+        ensures serial { IfOk result (λ id. id.0 ≡ length self.old) }
+        ensures ok { OnOk result (self.new ≡ self.old ++ Some (new_object program latest variables) ∷ []) }
+        ensures err { OnErr result (self.new ≡ self.old) }
+    {
+        let serial = self.rows.len() as u64;
+        self.rows.push(Some(Object {
+            program,
+            is_live: true,
+            is_living: false,
+            latest,
+            state: ObjectState::Resident(variables),
+        }))?;
+        Ok(ObjId(serial))
+    }
+
+    /// The object that was added last is gone, and its serial is the next one again. Takes no memory.
+    pub fn take_back(&mut self)
+        ensures { (rows : List (Option O)) (row : Option O) → self.old ≡ rows ++ row ∷ [] → self.new ≡ rows }
+    {
+        self.rows.pop();
     }
 }

@@ -1,12 +1,16 @@
 //! Versions of programs, by their numbers.
-ghost use Rattle.std.specs.Prelude.{◌≡◌, [], IsSome, OnErr, OnOk, Some, length, slice_set, ℕ};
+ghost use Rattle.std.specs.Prelude.{◌≡◌, ◌∷◌, ◌++◌, [], IfOk, IsSome, List, OnErr, OnOk, Option, Some, length, slice_set, ℕ};
 ghost use Rattle.std.specs.Option.{option_copied};
+ghost use Rattle.lp_world.specs.Additions.{IsVersionAdded, IsVersionOf};
 ghost use Rattle.lp_world.specs.Rows.{row_at, version_state, version_with_state};
+ghost use Rattle.lp_world.specs.Stands.{IsOutline};
+ghost use Rattle.lp_world.specs.declared.versions.Version.{Version as V};
 ghost use Rattle.lp_world.specs.Targets.{HasAnswer, HasAnswerIn, HasSameAnswers, HasSameAnswersIn};
 
 use crate::shared::SharedProgram;
 use crate::targets::{FunAt, Targets};
 use lp_code::listed::Listed;
+use lp_code::program::RawProgram;
 use lp_swapper::Ticket;
 use lp_values::id::ProgId;
 use std::alloc::{AllocError, Global};
@@ -95,6 +99,42 @@ fn keep_in(
     }
 }
 
+/// A length as a number of an outline. The answer is want of memory too where it is 2^32 or more.
+fn count(n: usize) -> Result<u32, AllocError>
+    ensures { IfOk result (λ k. k ≡ n) }
+{
+    if n > 4294967295 {
+        return Err(AllocError);
+    }
+    Ok(n as u32)
+}
+
+/// What stays in memory of a program.
+fn outline_of(alloc: Global, raw: &RawProgram) -> Result<Outline, AllocError>
+    ensures { IfOk result (λ o. IsOutline raw.now o) }
+{
+    Ok(Outline {
+        parents: Listed::from_vec(Vec::from_slice(alloc, raw.tables.parents.as_slice())?),
+        parts: count(raw.tables.parts.as_slice().len())?,
+        variables: count(raw.tables.vars.as_slice().len())?,
+        functions: count(raw.funs.as_slice().len())?,
+        slots: count(raw.tables.slots.as_slice().len())?,
+    })
+}
+
+/// A version of a program in memory.
+fn version_of(alloc: Global, latest: u64, program: SharedProgram) -> Result<Version, AllocError>
+    ensures { IfOk result (λ v. IsVersionOf latest program v) }
+{
+    let outline = outline_of(alloc, program.raw())?;
+    Ok(Version {
+        latest,
+        outline,
+        state: ProgramState::Resident(program),
+        targets: Targets::new(alloc),
+    })
+}
+
 impl VersionTable {
     /// No versions. Takes no memory.
     pub fn new(alloc: Global) -> VersionTable
@@ -149,5 +189,31 @@ impl VersionTable {
         ensures err { OnErr result (HasSameAnswers self.old self.new p.0) }
     {
         keep_in(&mut self.rows[p.0 as usize], alloc, part, slot, answer)
+    }
+
+    /// A version of a program in memory comes behind the others and has the next number. Its outline is that of
+    /// the program, and no answer of an internal call is kept yet. `latest` is a clock, in seconds. After want of
+    /// memory all is as it was; it also comes where a table of the program has 2^32 rows.
+    pub fn add(
+        &mut self,
+        alloc: Global,
+        latest: u64,
+        program: SharedProgram,
+    ) -> Result<ProgId, AllocError>
+        ensures number { IfOk result (λ p. p.0 ≡ length self.old) }
+        ensures ok { OnOk result (IsVersionAdded self.old self.new latest program) }
+        ensures err { OnErr result (self.new ≡ self.old) }
+    {
+        let number = self.rows.len() as u64;
+        let version = version_of(alloc, latest, program)?;
+        self.rows.push(Some(version))?;
+        Ok(ProgId(number))
+    }
+
+    /// The version that was added last is gone, and its number is the next one again. Takes no memory.
+    pub fn take_back(&mut self)
+        ensures { (rows : List (Option V)) (row : Option V) → self.old ≡ rows ++ row ∷ [] → self.new ≡ rows }
+    {
+        self.rows.pop();
     }
 }

@@ -1,0 +1,5 @@
+use Rattle.lp_world.proofs.Grown.{closed_with_new_object}
+use Rattle.lp_world.proofs.additions.new_object_stays_closed.Goals as goal
+
+pub returns : goal.returns
+returns c = closed_with_new_object
