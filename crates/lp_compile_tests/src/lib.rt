@@ -3,8 +3,15 @@
 //! The tests stand here and not beside the code, so that no library is proved twice.
 #![tactic(auto)]
 
-mod build;
+#[cfg(test)]
+mod alone;
+#[cfg(test)]
+mod ends;
 #[cfg(test)]
 mod large;
+#[cfg(test)]
+mod nested;
+#[cfg(test)]
+mod over;
 #[cfg(test)]
 mod rows;
