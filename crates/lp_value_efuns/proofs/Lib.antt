@@ -1,0 +1,6 @@
+pub mod ArgumentLemmas
+pub mod FitLemmas
+pub mod FormatLemmas
+pub mod ListLemmas
+pub mod PriceLemmas
+pub mod TextLemmas
