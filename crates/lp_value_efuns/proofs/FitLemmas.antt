@@ -1,5 +1,5 @@
 -- The first argument of another kind, from a place on.
-use Rattle.std.proofs.Common.{◌≡◌, ◌≤◌, ◌<◌, ◌+◌, ◌∷◌, [], ◌∙◌, ℕ, suc, zero, Bool, true, false, List, Option, Some, None, refl, ap, sym, arith, length, map, take, drop, get_or, drop-cons, add-one, if◌then◌else◌}
+use Rattle.std.proofs.Common.{◌≡◌, ◌≤◌, ◌<◌, ◌+◌, ◌∷◌, [], ◌∙◌, ℕ, Bool, true, false, List, Option, Some, None, refl, ap, sym, length, map, drop, get_or, drop-cons, add-one, if◌then◌else◌}
 use Rattle.std.proofs.Math.ListN.{drop_of_length-le}
 use Rattle.lp_values.specs.declared.id.ObjId.{ObjId}
 use Rattle.lp_values.specs.declared.value.Value.{Value}

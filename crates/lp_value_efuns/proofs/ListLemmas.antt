@@ -1,5 +1,5 @@
 -- Lists of values and of pairs, for loops.
-use Rattle.std.proofs.Common.{◌≡◌, ◌≤◌, ◌≤ℤ◌, negsuc, ◌<◌, ◌+◌, ◌-◌, ◌++◌, ◌∷◌, [], ◌∙◌, ℕ, suc, zero, pos, Bool, true, false, List, Option, Some, None, ℤ, unwrap_or, nat_eq, refl, ap, sym, subst, arith, append-nil, append_assoc, length, map, filter_map, nat_lt, if◌then◌else◌, is_some, take, drop, get_or, min, replicate}
+use Rattle.std.proofs.Common.{◌≡◌, ◌≤◌, ◌≤ℤ◌, negsuc, ◌<◌, ◌+◌, ◌++◌, ◌∷◌, [], ◌∙◌, ℕ, suc, zero, pos, Bool, true, false, List, Some, ℤ, unwrap_or, nat_eq, refl, ap, sym, subst, arith, append-nil, append_assoc, length, map, filter_map, nat_lt, if◌then◌else◌, is_some, take, drop, get_or, min, replicate}
 use Rattle.std.specs.List.{AllByRecursion, IsDistinct, position}
 use Rattle.std.proofs.lemmas.Bool.{cond-false, true≢false, lt-ltb}
 use Rattle.std.proofs.lemmas.List.{take_more, map-append, length-replicate, replicate-append-replicate}
@@ -7,7 +7,7 @@ use Rattle.std.proofs.lemmas.List.Elements.{filter_map-append}
 use Rattle.std.proofs.lemmas.Map.Made.{IsDistinct-keys_filter}
 use Rattle.indexmap.specs.IndexMap.{insert_all, insert_entry}
 use Rattle.lp_values.specs.Limits.{max_items}
-use Rattle.lp_values.specs.Read.{as_read, live_part, same, value_eq}
+use Rattle.lp_values.specs.Read.{live_part, same, value_eq}
 use Rattle.lp_values.specs.declared.error.ErrorKind.TheVariants.{TooLong}
 use Rattle.lp_values.specs.declared.id.CellId.{CellId}
 use Rattle.lp_values.specs.declared.id.ObjId.{ObjId}

@@ -1,5 +1,5 @@
 -- Prices by what is live and the cells of a state.
-use Rattle.std.proofs.Common.{◌≡◌, ◌+◌, ◌∙◌, Bool, List, refl, ap, sym, if◌then◌else◌}
+use Rattle.std.proofs.Common.{◌≡◌, ◌+◌, ◌∙◌, Bool, List, ap, sym, if◌then◌else◌}
 use Rattle.lp_values.specs.declared.id.ObjId.{ObjId}
 use Rattle.lp_values.specs.declared.value.Value.{Value}
 use Rattle.lp_cells.specs.Cells.{Store}

@@ -1,5 +1,5 @@
 -- Efuns that compute, by what they look at: which objects are live, what objects are called, the cells, and the arguments.
-use Rattle.std.specs.Prelude.{ℕ, pos, nat_abs, int_le, List, map, drop, length, replicate, filter_map, Bool, false, Option, unwrap_or, if◌then◌else◌}
+use Rattle.std.specs.Prelude.{ℕ, pos, nat_abs, int_le, List, map, drop, length, filter_map, Bool, false, Option, unwrap_or, if◌then◌else◌}
 use Rattle.std.specs.Char.{to_ascii_lowercase, to_ascii_uppercase}
 use Rattle.std.specs.Fmt.{signed_decimal}
 use Rattle.std.specs.Prelude.{codes, []}

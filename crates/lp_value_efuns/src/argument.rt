@@ -1,5 +1,5 @@
 //! What efuns see of their arguments.
-ghost use Rattle.std.specs.Prelude.{◌≡◌, All, Bool, IfOk, map};
+ghost use Rattle.std.specs.Prelude.{◌≡◌, All, Bool, IfOk, drop, map};
 ghost use Rattle.lp_values.specs.declared.id.ObjId.{ObjId};
 ghost use Rattle.lp_cells.specs.Cells.{IsThere, Store};
 ghost use Rattle.lp_ops.specs.Operands.{opened, operand};
@@ -13,13 +13,25 @@ use lp_values::value::{Living, Value};
 use std::alloc::{AllocError, Global};
 
 /// The argument at a place, counted from 0, as read. One that is missing is 0.
-#[tactic(auto, using(crate::proofs::ArgumentLemmas::argument_is, crate::proofs::ArgumentLemmas::missing_is))]
+#[tactic(auto, using(crate::proofs::ArgumentLemmas::argument_is, crate::proofs::ArgumentLemmas::missing_is, crate::proofs::ThereLemmas::get_there))]
 pub fn argument<L: Living>(args: &[Value], i: usize, live: &L) -> Result<Value, AllocError>
     ensures value { (cells : Store) → IfOk result (λ v. opened (L.live live.now) cells v ≡ arg (map (operand (L.live live.now) cells) args.now) i) }
+    ensures there { (cells : Store) → All (IsThere cells) args.now → IfOk result (IsThere cells) }
 {
     match args.get(i) {
         Some(v) => v.copy_as_read(live),
         None => Ok(Value::Int(0)),
+    }
+}
+
+/// The arguments behind the first.
+pub fn rest(args: &[Value]) -> &[Value]
+    ensures value { result.now ≡ drop 1 args.now }
+    ensures there { (cells : Store) → All (IsThere cells) args.now → All (IsThere cells) result.now }
+{
+    match args {
+        [] => &[],
+        [_, rest @ ..] => rest,
     }
 }
 

@@ -50,7 +50,7 @@ pub fn formatted<L: Living + Names>(
 
 /// `to_string`: a text as it is, an integer in decimal, an object's name; arrays and mappings are not shown.
 pub fn written<N: Names>(alloc: Global, v: &Value, names: &N) -> Result<Effect, AllocError>
-    ensures { (live : ObjId → Bool) (cells : Store) → IfOk result (λ e. e ≡ text (written (N.name names.now) (opened live cells v.now))) }
+    ensures { IfOk result (λ e. (live : ObjId → Bool) (cells : Store) → e ≡ text (written (N.name names.now) (opened live cells v.now))) }
 {
     Ok(Effect::Gives(Value::Str(text_of(alloc, v, names)?)))
 }
@@ -58,7 +58,7 @@ pub fn written<N: Names>(alloc: Global, v: &Value, names: &N) -> Result<Effect, 
 /// What is written of a value.
 #[tactic(auto, using(crate::proofs::FormatLemmas::array_chars, crate::proofs::FormatLemmas::mapping_chars))]
 fn text_of<N: Names>(alloc: Global, v: &Value, names: &N) -> Result<Text, AllocError>
-    ensures { (live : ObjId → Bool) (cells : Store) → IfOk result (λ t. t ≡ written (N.name names.now) (opened live cells v.now)) }
+    ensures { IfOk result (λ t. (live : ObjId → Bool) (cells : Store) → t ≡ written (N.name names.now) (opened live cells v.now)) }
 {
     match v {
         Value::Int(n) => Text::from_vec(alloc, signed_spelling(alloc, *n)?),

@@ -2,6 +2,7 @@
 #![tactic(auto)]
 
 pub mod argument;
+pub mod compute;
 pub mod fit;
 pub mod format;
 pub mod kind;

@@ -52,7 +52,7 @@ pub fn text_len(s: &[char]) -> Effect
 /// `to_int`: an integer itself, the integer that a text begins with, and 0 of another value. A number that does not
 /// fit 64 bits is refused.
 pub fn to_int(alloc: Global, v: &Value) -> Result<Effect, AllocError>
-    ensures { (live : ObjId → Bool) (cells : Store) → IfOk result (λ e. e ≡ to_int (opened live cells v.now)) }
+    ensures { IfOk result (λ e. (live : ObjId → Bool) (cells : Store) → e ≡ to_int (opened live cells v.now)) }
 {
     match v {
         Value::Int(n) => Ok(int(*n)),

@@ -1,4 +1,4 @@
-use Rattle.std.proofs.Common.{◌∙◌, ap, sym, false}
+use Rattle.std.proofs.Common.{◌∙◌, ap, sym}
 use Rattle.std.proofs.lemmas.List.{nil_from_length}
 use Rattle.lp_meaning.specs.WorldSteps.{is_clone_name}
 use Rattle.lp_value_efuns.proofs.FormatLemmas.{empty_chars, hash_here, hash_later}
