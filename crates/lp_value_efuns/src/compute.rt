@@ -1,5 +1,6 @@
 //! One call of an efun that computes.
-ghost use Rattle.std.specs.Prelude.{◌≡◌, All, IfOk, IsSome, length, map};
+ghost use Rattle.std.specs.Prelude.{◌≡◌, All, IfOk, map, true};
+ghost use Rattle.lp_values.specs.declared.id.ObjId.{ObjId};
 ghost use Rattle.lp_cells.specs.Cells.{IsClosed, IsThere, KeepsThere};
 ghost use Rattle.lp_ops.specs.Effects.{Meets, within};
 ghost use Rattle.lp_ops.specs.Operands.{opened, operand};
@@ -27,7 +28,7 @@ use std::alloc::{AllocError, Global};
 /// What an efun of this group gives for arguments whose kinds and number have been looked at. A result in a new cell is
 /// made; on a refusal nothing changes. Another efun gives 0.
 ///
-/// The objects are those of a state where the same ones are live and each has the name that `live` gives.
+/// The objects are those of a state where the same ones are live and each of these has the name that `live` gives.
 pub fn compute<L: Living + Names>(
     alloc: Global,
     efun: Efun,
@@ -37,7 +38,7 @@ pub fn compute<L: Living + Names>(
 ) -> Result<Value, OpFault>
     requires closed { IsClosed cells.old }
     requires there { All (IsThere cells.old) args.now }
-    ensures value { (s : State) → living s ≡ L.live live.now → name_in s.world ≡ L.name live.now → cells_of s ≡ cells.old → Meets (computes efun s args.now (opened_args s args.now)) cells.old cells.new result }
+    ensures value { (s : State) → living s ≡ L.live live.now → ((o : ObjId) → L.live live.now o ≡ true → name_in s.world o ≡ L.name live.now o) → cells_of s ≡ cells.old → Meets (computes efun s args.now (opened_args s args.now)) cells.old cells.new result }
     ensures stay { KeepsThere cells.old cells.new }
     ensures closed { IsClosed cells.new × IfOk result (IsThere cells.new) }
 {
