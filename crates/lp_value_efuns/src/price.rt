@@ -1,8 +1,10 @@
 //! What efuns cost: a part that is paid before an efun acts, and a part for its result.
 ghost use Rattle.std.specs.Prelude.{◌≡◌, ◌+◌, All, if◌then◌else◌};
-ghost use Rattle.lp_cells.specs.Cells.{IsThere};
+ghost use Rattle.lp_cells.specs.Cells.{IsThere, Store};
 ghost use Rattle.lp_ops.specs.Operands.{operand, size_of};
-ghost use Rattle.lp_ops.specs.Prices.{share, total_size};
+ghost use Rattle.lp_ops.specs.Prices.{share, size_made, total_size};
+ghost use Rattle.lp_ops.specs.Effects.{Yields};
+ghost use Rattle.lp_ops.specs.declared.effect.Effect.{Effect};
 ghost use Rattle.lp_language.specs.Course.{State};
 ghost use Rattle.lp_language.specs.Operations.{cells_of, living};
 ghost use Rattle.lp_meaning.specs.EfunArguments.{has_share, price_after, price_before};
@@ -80,10 +82,12 @@ pub fn price_after(efun: Efun, length: u64) -> u64
     0
 }
 
-/// What a result costs after an efun, by its length as read. Takes no memory.
+/// What a result costs after an efun, by its length as read: of one that was given, and of one that was made. Takes no
+/// memory.
 pub fn price_of_result<L: Living>(efun: Efun, v: &Value, cells: &Cells, live: &L) -> u64
     requires { IsThere cells.now v.now }
-    ensures { result ≡ price_after efun (size_of (operand (L.live live.now) cells.now v.now)) }
+    ensures read { result ≡ price_after efun (size_of (operand (L.live live.now) cells.now v.now)) }
+    ensures made { (effect : Effect) (old : Store) → Yields effect old cells.now v.now → result ≡ price_after efun (size_made (L.live live.now) old effect) }
 {
     if has_share(efun) {
         return price_after(efun, size(v, cells, live));
