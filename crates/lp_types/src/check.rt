@@ -27,7 +27,7 @@ pub fn check(
     ensures well_typed { OnOk result (IsWellTyped (unit_of unit.now) pragmas.now parents.now simuls.now) }
     ensures faults { IfErr result (IsToldOf (type_faults (unit_of unit.now) pragmas.now parents.now simuls.now)) }
 {
-    let around = Surroundings::new(alloc, pragmas.types, unit, parents, simuls.as_slice())?;
+    let around = Surroundings::new(alloc, pragmas.types, unit, parents, simuls)?;
     let faults = items_faults(alloc, &around, unit)?;
     if faults.is_empty() {
         return Ok(());

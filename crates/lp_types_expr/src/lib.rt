@@ -20,6 +20,7 @@ pub mod row;
 pub mod scopes;
 pub mod shown;
 pub mod signature;
+mod simuls;
 pub mod surroundings;
 pub mod tables;
 pub mod types;

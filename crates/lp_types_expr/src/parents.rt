@@ -1,21 +1,16 @@
 //! Functions of parents.
-ghost use Rattle.std.specs.Prelude.{◌≡◌, IfOk, List, is_some, option_copied, ℕ};
-ghost use Rattle.std.specs.List.{list_any};
+ghost use Rattle.std.specs.Prelude.{◌≡◌, IfOk, List, option_copied};
 ghost use Rattle.lp_code.specs.declared.tables.Tables.{Tables};
-ghost use Rattle.lp_instr.specs.EfunList.{is_name};
 ghost use Rattle.lp_types_expr.specs.NameMaps.{named};
 ghost use Rattle.lp_types_expr.specs.Shown.{Shows};
 ghost use Rattle.lp_types_expr.specs.Signatures.{of_parents, or_else};
 
-use crate::names::{letters, put};
 use crate::shown::Shown;
 use crate::signature::Signature;
 use crate::tables::last_shown;
-use lp_code::name::Name;
 use lp_code::tables::Tables;
 use lp_tree::chars::Chars;
 use std::alloc::{AllocError, Global};
-use std::collections::HashMap;
 
 /// What some parents show.
 pub(crate) fn shown(alloc: Global, parents: &[Tables]) -> Result<Shown, AllocError>
@@ -36,16 +31,4 @@ pub(crate) fn find<'a>(shown: &'a Shown, name: &Chars) -> Option<&'a Signature>
         Some(signature) => Some(signature),
         None => shown.rows.get(name.as_slice()),
     }
-}
-
-/// Some names, to be found by their letters.
-pub(crate) fn names(alloc: Global, simuls: &[Name]) -> Result<HashMap<Vec<char>, bool>, AllocError>
-    ensures { IfOk result (λ m. (w : List ℕ) → is_some (named m w) ≡ list_any (is_name w) simuls.now) }
-{
-    let mut names = HashMap::new(alloc);
-    for simul in simuls {
-        let name = letters(alloc, simul.as_str())?;
-        put(alloc, &mut names, name.as_slice(), true)?;
-    }
-    Ok(names)
 }

@@ -15,11 +15,12 @@ use crate::chosen::Chosen;
 use crate::items::{functions, prototypes, variables};
 use crate::named::{chosen_of, each_of};
 use crate::parent::Parent;
-use crate::parents::{find, names, shown};
+use crate::parents::{find, shown};
 use crate::scopes::Scopes;
 use crate::signature::Signature;
+use crate::simuls::has;
 use crate::tables::inherited;
-use lp_code::name::Name;
+use lp_code::names::Names2;
 use lp_code::tables::Tables;
 use lp_instr::efun::Efun;
 use lp_tree::chars::Chars;
@@ -53,14 +54,15 @@ fn call_of<'a>(each: &'a [Parent], parent: &Chars, name: &Chars) -> Called<'a>
 }
 
 impl<'a> Surroundings<'a> {
-    /// Makes the maps, in time in proportion to the items of the unit, the rows of the parents and the names of the simul efuns.
+    /// Makes the maps, in time in proportion to the items of the unit and the rows of the parents. The names of the simul
+    /// efuns are borrowed: how many there are takes no time and no memory here.
     #[tactic(auto, unfolding(crate::specs::Surroundings::around_of))]
     pub fn new(
         alloc: Global,
         mode: TypeMode,
         unit: &'a Unit,
         parents: &'a [Tables],
-        simuls: &'a [Name],
+        simuls: &'a Names2,
     ) -> Result<Surroundings<'a>, AllocError>
         ensures { IfOk result (λ s. around_of s ≡ record { mode = mode; items = unit_of unit.now; parents = parents.now; simuls = simuls.now }) }
     {
@@ -69,9 +71,9 @@ impl<'a> Surroundings<'a> {
         let kinds = variables(alloc, unit.items.as_slice())?;
         let inherited = inherited(alloc, parents)?;
         let shown = shown(alloc, parents)?;
-        let names = names(alloc, simuls)?;
         let each = each_of(alloc, parents)?;
         Ok(Surroundings {
+            alloc,
             mode,
             unit,
             parents,
@@ -81,7 +83,6 @@ impl<'a> Surroundings<'a> {
             kinds,
             inherited,
             shown,
-            names,
             each,
         })
     }
@@ -161,7 +162,8 @@ impl<'a> Surroundings<'a> {
         }
     }
 
-    /// Whom `name(..)` calls: a function of the file or its parents, else a simul efun, else an efun.
+    /// Whom `name(..)` calls: a function of the file or its parents, else a simul efun, else an efun. Takes no longer with more
+    /// of them, unless there is no memory for the letters of the name.
     #[tactic(auto, unfolding(crate::specs::Surroundings::around_of))]
     pub fn plain_callee(&self, name: &Chars) -> Called<'_>
         ensures { callee_of result ≡ plain_callee (around_of self.now) name.now }
@@ -169,7 +171,7 @@ impl<'a> Surroundings<'a> {
         match self.known_function(name) {
             Some(signature) => Called::AFunction(signature),
             None => {
-                if self.names.contains_key(name.as_slice()) {
+                if has(self.alloc, self.simuls, name.as_slice()) {
                     return Called::ASimul;
                 }
                 efun_callee(name)
