@@ -1,5 +1,5 @@
 //! Entries of functions.
-ghost use Rattle.std.specs.Prelude.{◌≡◌, ◌+◌, ◌-◌, ◌<◌, ◌≤◌, ◌^◌, ◌++◌, IfOk, IsTrue, OnOk, Some, drop, length, replicate, slice_get, take};
+ghost use Rattle.std.specs.Prelude.{◌≡◌, ◌+◌, ◌-◌, ◌<◌, ◌≤◌, ◌^◌, ◌++◌, IfOk, IsFalse, IsTrue, OnOk, Some, drop, length, replicate, slice_get, take};
 ghost use Rattle.lp_language.specs.Course.{zero_value};
 ghost use Rattle.lp_frames.specs.Entries.{BeginsAsWritten, CanRunFrom, Enters, IsOfRow, LaysOut, RunsFrom, begun_locals};
 
@@ -39,7 +39,8 @@ fn row_at(code: &RawProgram, fun: u16) -> &FunRow
 fn has_heights(bottom: usize, locals: usize, operands: usize) -> bool
     requires locals { locals < 2 ^ 16 }
     requires operands { operands < 2 ^ 32 }
-    ensures { IsTrue result → bottom + locals + operands < 2 ^ 32 }
+    ensures yes { IsTrue result → bottom + locals + operands < 2 ^ 32 }
+    ensures no { IsFalse result → 2 ^ 32 ≤ bottom + locals + operands }
 {
     if bottom > u32::MAX as usize {
         return false;
