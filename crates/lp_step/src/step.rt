@@ -36,8 +36,9 @@ fn fetch(frame: &Frame) -> Instr
     frame.code.raw().instrs.as_slice()[frame.at as usize]
 }
 
-/// Carries out one instruction.
-pub fn step(
+/// Carries out one instruction of any kind.
+#[inline(never)]
+fn step_any(
     live: &mut Live,
     stack: &mut Vec<Value>,
     frame: &mut Frame,
@@ -86,5 +87,33 @@ pub fn step(
         Instr::MakeMap(n) => make_map(live, stack, frame, budget, n),
         Instr::Range(from, to) => cut_range(live, stack, frame, budget, from, to),
         Instr::Rotate(n) => rotate(stack, frame, n),
+    }
+}
+
+/// Carries out one instruction. The commonest stand by themselves: their code is small and keeps no values.
+pub fn step(
+    live: &mut Live,
+    stack: &mut Vec<Value>,
+    frame: &mut Frame,
+    budget: &mut u64,
+) -> Result<Next, StepFault>
+    requires { CanStep live.old stack.old.items frame.old }
+    ensures table { IfOk result (λ n. Steps live.old stack.old.items frame.old budget.old n live.new stack.new.items frame.new budget.new) }
+    ensures keeps { IfOk result (λ n. Keeps live.old stack.old.items n live.new stack.new.items) }
+    ensures home { IfOk result (λ n. KeepsVariables live.old.objects live.new.objects) }
+{
+    match fetch(frame) {
+        Instr::PushInt(z) => push_int(stack, frame, z),
+        Instr::PushLocal(k) => push_local(stack, frame, k),
+        Instr::SetLocal(k) => set_local(stack, frame, k),
+        Instr::Pop => Ok(drop_value(stack, frame)),
+        Instr::Jump(to) => Ok(jump(stack, frame, to)),
+        Instr::JumpIfZero(to) => Ok(jump_if_zero(live, stack, frame, to)),
+        Instr::JumpIfNotZero(to) => Ok(jump_if_not_zero(live, stack, frame, to)),
+        Instr::LoopTurn => Ok(loop_turn(stack, frame, budget)),
+        Instr::PushGlobal(k) => push_global(live, stack, frame, k),
+        Instr::Binary(op) => binary_operator(live, stack, frame, budget, op),
+        Instr::Step(up) => step_operator(live, stack, frame, budget, up),
+        _ => step_any(live, stack, frame, budget),
     }
 }
