@@ -12,3 +12,4 @@ pub mod Placed
 pub mod Returned
 pub mod Fitted
 pub mod IdleLemmas
+pub mod Added

@@ -5,3 +5,4 @@ pub mod Entering
 pub mod Ending
 pub mod Programs
 pub mod Idling
+pub mod Adding

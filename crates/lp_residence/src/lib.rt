@@ -4,6 +4,7 @@
 //! Whatever is out, the state stands for the same world.
 #![tactic(auto)]
 
+pub mod adding;
 pub mod answers;
 pub mod ending;
 pub mod entering;
