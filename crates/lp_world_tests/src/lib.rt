@@ -4,6 +4,10 @@
 #![tactic(auto)]
 
 #[cfg(test)]
+mod build;
+#[cfg(test)]
 mod causes;
 #[cfg(test)]
 mod records;
+#[cfg(test)]
+mod states;
