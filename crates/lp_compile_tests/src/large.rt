@@ -99,12 +99,12 @@ const NESTED: [Row; 15] = [
         End::Faulty(1),
     ),
     (
-        ["void f(int n) {", "do { n--; ", ";", "} while (n);", "}"],
+        ["void f(int n) {", "do { --n; ", ";", "} while (n);", "}"],
         98,
         End::Made(1, 687),
     ),
     (
-        ["void f(int n) {", "do { n--; ", ";", "} while (n);", "}"],
+        ["void f(int n) {", "do { --n; ", ";", "} while (n);", "}"],
         99,
         End::Faulty(1),
     ),

@@ -12,6 +12,4 @@ mod large;
 #[cfg(test)]
 mod nested;
 #[cfg(test)]
-mod over;
-#[cfg(test)]
 mod rows;
