@@ -1,2 +1,5 @@
 pub mod Counting
 pub mod Lowering
+pub mod Placing
+pub mod PlacingStmts
+pub mod Slots

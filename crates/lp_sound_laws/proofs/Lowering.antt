@@ -1,14 +1,14 @@
 -- Sound code is sound with a low stack.
-use Rattle.std.proofs.Common.{◌≡◌, ℕ, zero, suc, ◌+◌, ◌-◌, ◌*◌, ◌≤◌, ◌<◌, Bool, true, false, ◌&&◌, cond, List, [], ◌∷◌, Option, Some, None, refl, sym, ap, ◌∙◌, subst, arith}
+use Rattle.std.proofs.Common.{◌≡◌, ℕ, ◌+◌, ◌-◌, ◌*◌, ◌≤◌, ◌<◌, Bool, true, false, ◌&&◌, cond, List, [], ◌∷◌, Option, Some, None, refl, ap, ◌∙◌, subst, arith}
 use Rattle.std.specs.Prelude.{slice_get, nat_lt, ⊤}
 use Rattle.std.proofs.lemmas.Bool.{and_from, lt-ltb, ltb-true}
 use Rattle.lp_instr.specs.declared.instr.Instr.{Instr}
 use Rattle.lp_instr.specs.declared.instr.Instr.TheVariants.{PushInt, PushText, PushLocal, SetLocal, PushGlobal, SetGlobal, Pop, Dup, Dup2, Unary, Binary, Step, Rotate, Index, SetIndex, Range, MakeArray, MakeMap, Jump, JumpIfZero, JumpIfNotZero, KeepIfZero, KeepIfNotZero, LoopTurn, CallSlot, CallFixed, CallOther, CallEfun, CallSimul, Scan, CatchBegin, CatchEnd, Switch, EachBegin, EachNext, Return, ReturnZero}
 use Rattle.lp_instr.specs.declared.instr.Case.{Case}
-use Rattle.lp_instr.specs.Code.{Code, Catching, Table, case_place}
-use Rattle.lp_instr.specs.Sound.{Shape, Shapes, shape, Bounds, By, CatchLeads, LeadsTo, Flows, CasesLead, TableLeads, Closes, IsNamed, IsFine, IsReachedWell, IsSound, end_count}
-use Rattle.lp_sound_laws.specs.Heights.{SoundCodeIsLow, gain, gains}
-use Rattle.lp_sound_laws.proofs.Counting.{Free, free_height}
+use Rattle.lp_instr.specs.Code.{Code, Catching, Table}
+use Rattle.lp_instr.specs.Sound.{Shape, Shapes, shape, By, CatchLeads, LeadsTo, Flows, CasesLead, TableLeads, Closes, IsFine, end_count}
+use Rattle.lp_sound_laws.specs.Heights.{SoundCodeIsLow, gain}
+use Rattle.lp_sound_laws.proofs.Counting.{free_height}
 
 -- what is caught goes on below a height
 abbrev AreBelow : ℕ → List Catching → Type 0
