@@ -2,6 +2,7 @@
 #![tactic(auto)]
 
 ghost use Rattle.lp_sound_laws.specs.Heights.{SoundCodeIsLow};
+ghost use Rattle.lp_sound_laws.specs.Parts.{PartsAreProgram};
 ghost use Rattle.lp_sound_laws.specs.Placed.{InitialisersArePlaced, TranslatedCodeIsPlaced};
 
 /// The law of heights: what all instructions of sound code leave together bounds its stack, and the code is sound for any
@@ -19,4 +20,10 @@ pub fn law_places()
 /// The same of initialisers.
 pub fn law_initialisers()
     ensures { InitialisersArePlaced }
+{}
+
+/// The law of programs: where the rows of functions are those of all code, in order, functions begin at rising places, each
+/// instruction stands, each function is sound, and so is each switch that an instruction names.
+pub fn law_programs()
+    ensures { PartsAreProgram }
 {}
