@@ -1,0 +1,68 @@
+-- Which function a call reaches, as a callee.
+use Rattle.std.specs.Prelude.{◌≡◌, ℕ, ◌+◌, ◌<◌, ⊤, true, List, map, Option, Some, None, All, slice_get, length, if◌then◌else◌}
+use Rattle.lp_values.specs.declared.id.ObjId.{ObjId}
+use Rattle.lp_code.specs.declared.program.RawProgram.{RawProgram}
+use Rattle.lp_swapfile.specs.Device.{Bytes}
+use Rattle.lp_language.specs.World.{World, is_live}
+use Rattle.lp_language.specs.Resolve.{Found, Part, Target, chain_of, first_with, function_of, heritage_of, number_of, part_at, target_here}
+use Rattle.lp_meaning.specs.FunctionCalls.{goes_to_shadows}
+use Rattle.lp_world.specs.declared.live.Live.{Live}
+use Rattle.lp_world.specs.declared.versions.Version.{Version}
+use Rattle.lp_world.specs.Rows.{row_at, variables_at}
+use Rattle.lp_world.specs.Stands.{Stands}
+use Rattle.lp_step_laws.specs.Running.{HasVariables}
+use Rattle.lp_frames.specs.declared.entry.Callee.{Callee}
+use Rattle.lp_part_laws.specs.Versions.{AreCompiled, FitsVersion}
+use Rattle.lp_part_laws.specs.Parts.{IsFunctionAt}
+
+-- A state stands for a world whose programs fit their versions, and whose shadows are live objects.
+pub record IsWorldOf (told : Option Bytes) (programs : List RawProgram) (live : Live) (w : World) : Type 0 where
+  pub stands : Stands told programs live w
+  pub compiled : AreCompiled programs w.versions
+  pub shadows : All (λ s. is_live w s.shadow ≡ true) w.shadows
+
+-- Who calls: a part of an object's version, and the program of that part.
+pub record IsCaller (programs : List RawProgram) (w : World) (this : ObjId) (part : ℕ) (code : RawProgram) : Type 0 where
+  pub place : Part
+  pub at : part_at (heritage_of w this) part ≡ Some place
+  pub is : slice_get programs (number_of place.tree).0 ≡ Some code
+
+-- A callee is the function that a search found in an object: the part with its version and the place of its variables, and
+-- the row of the function in that version's program, which fits it.
+pub record IsCallee (programs : List RawProgram) (w : World) (callee : Callee) (o : ObjId) (f : Found) : Type 0 where
+  pub this : callee.this ≡ o
+  pub part : callee.part ≡ f.part
+  pub place : Part
+  pub at : part_at (heritage_of w o) f.part ≡ Some place
+  pub program : callee.program ≡ number_of place.tree
+  pub base : callee.base ≡ place.base
+  pub code : RawProgram
+  pub is : slice_get programs callee.program.0 ≡ Some code
+  pub fits : FitsVersion place.tree code
+  pub function : IsFunctionAt code place.tree f.function callee.fun
+
+-- the callee of what a search found, if it found something
+abbrev pub IsAnswer : List RawProgram → World → ObjId → Option Callee → Option Found → Type 0
+IsAnswer programs w o None None = ⊤
+IsAnswer programs w o (Some c) (Some f) = IsCallee programs w c o f
+IsAnswer programs w o _ _ = ⊥
+
+-- and of what a search through several objects found
+abbrev pub IsTargetAnswer : List RawProgram → World → Option Callee → Option Target → Type 0
+IsTargetAnswer programs w None None = ⊤
+IsTargetAnswer programs w (Some c) (Some t) = IsCallee programs w c t.object t.found
+IsTargetAnswer programs w _ _ = ⊥
+
+-- What a callee names is there: its object, and its version with so many functions.
+pub record IsCalleeThere (live : Live) (callee : Callee) : Type 0 where
+  pub version : Version
+  pub there : row_at live.versions callee.program.0 ≡ Some version
+  pub function : callee.fun < version.outline.functions
+
+-- its variables are in memory
+abbrev pub IsAtHome : Live → Callee → RawProgram → Type 0
+IsAtHome live callee code = HasVariables (variables_at live.objects callee.this) (callee.base + length code.tables.vars)
+
+-- Where an apply goes: `init`, `logon` and `catch_tell` to the outermost shadow that has the function, every other one to the object itself.
+abbrev pub applied : World → ObjId → List ℕ → Option Target
+applied w o name = if goes_to_shadows name then first_with w (chain_of w o) name else target_here o (function_of w o name)
