@@ -80,6 +80,35 @@ settled versions (suc k) r v a b i p l e =
 pub part_settled : (versions : List Version) (v : ProgId) (i : ℕ) (p : Part) → AreRising versions → part_at (heritage_in versions v) i ≡ Some p → IsSettled versions v.0 p.tree
 part_settled versions v i p r e = settled versions v.0 r v 0 0 i p (let z : v.0 ≤ v.0 = omega arith in z) e
 
+-- What holds of a version and passes on to the parents of each holds of the versions of all parts.
+abbrev KeepsAt : List Version → (ProgId → Type 0) → ℕ → Type 0
+KeepsAt versions P k = (v : ProgId) (a b i : ℕ) (p : Part) → P v → slice_get (parts_from (heritage_within k (bare versions) v) a b) i ≡ Some p → P (number_of p.tree)
+
+keeps_before : (versions : List Version) (P : ProgId → Type 0) (k : ℕ) → KeepsAt versions P k → (vs : List ProgId) (a b i : ℕ) (p : Part) → All P vs
+    → slice_get (parents_parts (each_heritage (heritage_within k (bare versions)) vs) a b) i ≡ Some p → P (number_of p.tree)
+keeps_before versions P k ih [] a b i p h e = absurd cc
+keeps_before versions P k ih (v ∷ vs) a b i p h e =
+    let t = heritage_within k (bare versions) v in
+    elim (parted (parts_from t a b) (parents_parts (each_heritage (heritage_within k (bare versions)) vs) (a + part_count t) (b + variable_count t)) i p e) [
+      | inl f ↦ ih v a b i p (All-head P v vs h) f
+      | inr g ↦ keeps_before versions P k ih vs (a + part_count t) (b + variable_count t) g.place p (All-tail P v vs h) g.there
+    ]
+
+keeps : (versions : List Version) (P : ProgId → Type 0) → ((v : ProgId) → P v → All P (version_at (bare versions) v).parents) → (k : ℕ) → KeepsAt versions P k
+keeps versions P pass zero v a b i p h e =
+    let o = one_at (record { tree = Heir v (version_at (bare versions) v) NoParent; first = a; base = b }) p i e in
+    subst (λ (x : Part). P (number_of x.tree)) o.0 h
+keeps versions P pass (suc k) v a b i p h e =
+    elim (parted (parents_parts (each_heritage (heritage_within k (bare versions)) (version_at (bare versions) v).parents) a b) (record { tree = heritage_within (suc k) (bare versions) v; first = a; base = b } ∷ []) i p e) [
+      | inl f ↦ keeps_before versions P k (keeps versions P pass k) (version_at (bare versions) v).parents a b i p (pass v h) f
+      | inr g ↦
+          let o = one_at (record { tree = heritage_within (suc k) (bare versions) v; first = a; base = b }) p g.place g.there in
+          subst (λ (x : Part). P (number_of x.tree)) o.0 h
+    ]
+
+pub part_keeps : (versions : List Version) (P : ProgId → Type 0) → ((v : ProgId) → P v → All P (version_at (bare versions) v).parents) → (v : ProgId) (i : ℕ) (p : Part) → P v → part_at (heritage_in versions v) i ≡ Some p → P (number_of p.tree)
+part_keeps versions P pass v i p h e = keeps versions P pass v.0 v 0 0 i p h e
+
 -- Parents by their places.
 
 abbrev pub parts_until : (ProgId → Heritage) → List ProgId → ℕ → ℕ

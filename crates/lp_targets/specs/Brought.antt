@@ -48,7 +48,8 @@ IsFaultOf live told last NoMemory = ⊤
 IsFaultOf live told last (Swap cause) = (who : Owner) × IsCausedBy who (ticket_at live who) told last (Swap cause)
 
 -- What a call answers that brings something into memory. A fault is that of a read of an object or a program that is out
--- still; the count of read faults rose exactly where the read failed. Nothing was written. An honest file never gives other bytes.
+-- still; the count of read faults rose exactly where the read failed. Nothing was written. A file that is honest
+-- and truthful never gives other bytes.
 pub record Brings {A : Type 0} (told0 told1 : Option Bytes) (last : Last) (reads0 reads1 writes0 writes1 : ℕ) (true0 true1 honest0 honest1 : Type 0) (live0 live1 : Live) (result : Result A EnterFault) : Type 0 where
   pub stays : StaysInMemory live0 live1
   pub cause : IfErr result (IsFaultOf live1 told1 last)
@@ -56,4 +57,4 @@ pub record Brings {A : Type 0} (told0 told1 : Option Bytes) (last : Last) (reads
   pub write_faults : writes1 ≡ writes0
   pub kept : told1 ≡ told0
   pub truthful : true1 → true0
-  pub honest : honest1 → honest0 × ((programs : List RawProgram) (w : World) → Stands told0 programs live0 w → IsHonest result)
+  pub honest : honest1 → honest0 × (true1 → (programs : List RawProgram) (w : World) → Stands told0 programs live0 w → IsHonest result)

@@ -1,10 +1,20 @@
 -- Which function a call reaches, as a callee.
-use Rattle.std.specs.Prelude.{◌≡◌, ℕ, ◌+◌, ◌<◌, ⊤, true, List, map, Option, Some, None, All, slice_get, length, if◌then◌else◌}
+use Rattle.std.specs.Prelude.{Bool, not, ◌&&◌, ◌||◌, [], ◌∷◌, ◌≡◌, ℕ, ◌+◌, ◌<◌, ⊤, true, List, map, Option, Some, None, All, slice_get, length, if◌then◌else◌}
 use Rattle.lp_values.specs.declared.id.ObjId.{ObjId}
+use Rattle.lp_values.specs.declared.id.ProgId.{ProgId}
 use Rattle.lp_code.specs.declared.program.RawProgram.{RawProgram}
+use Rattle.lp_code.specs.declared.tables.Slot.{Slot}
+use Rattle.lp_isa.specs.Programs.{Reached}
+use Rattle.lp_places.specs.Places.{is_object}
+use Rattle.lp_plan_laws.specs.Tables.{reached_by}
+use Rattle.lp_types_expr.specs.Signatures.{has_bit}
+use Rattle.lp_targets.specs.declared.wants.Seeker.{Seeker}
+use Rattle.lp_targets.specs.declared.wants.Seeker.TheVariants as seekers
+use Rattle.lp_targets.specs.declared.wants.Want.{Want}
+use Rattle.lp_targets.specs.declared.wants.Want.TheVariants as wants
 use Rattle.lp_swapfile.specs.Device.{Bytes}
 use Rattle.lp_language.specs.World.{World, is_live}
-use Rattle.lp_language.specs.Resolve.{Found, Part, Target, chain_of, first_with, function_of, heritage_of, number_of, part_at, target_here}
+use Rattle.lp_language.specs.Resolve.{Found, Part, Target, callable_found, or_else, chain_of, first_with, function_of, heritage_of, number_of, part_at, target_here}
 use Rattle.lp_meaning.specs.FunctionCalls.{goes_to_shadows}
 use Rattle.lp_world.specs.declared.live.Live.{Live}
 use Rattle.lp_world.specs.declared.versions.Version.{Version}
@@ -53,10 +63,10 @@ IsTargetAnswer programs w None None = ⊤
 IsTargetAnswer programs w (Some c) (Some t) = IsCallee programs w c t.object t.found
 IsTargetAnswer programs w _ _ = ⊥
 
--- What a callee names is there: its object, and its version with so many functions.
-pub record IsCalleeThere (live : Live) (callee : Callee) : Type 0 where
+-- A callee's version is there, with so many functions.
+pub record IsCalleeThere (versions : List (Option Version)) (callee : Callee) : Type 0 where
   pub version : Version
-  pub there : row_at live.versions callee.program.0 ≡ Some version
+  pub there : row_at versions callee.program.0 ≡ Some version
   pub function : callee.fun < version.outline.functions
 
 -- its variables are in memory
@@ -66,3 +76,35 @@ IsAtHome live callee code = HasVariables (variables_at live.objects callee.this)
 -- Where an apply goes: `init`, `logon` and `catch_tell` to the outermost shadow that has the function, every other one to the object itself.
 abbrev pub applied : World → ObjId → List ℕ → Option Target
 applied w o name = if goes_to_shadows name then first_with w (chain_of w o) name else target_here o (function_of w o name)
+
+-- whether a function with these modifiers may be called from outside, by its own object or by another one
+abbrev pub is_callable_number : Bool → ℕ → Bool
+is_callable_number is_self mods = not (has_bit 1 mods) && not (has_bit 2 mods) && (is_self || not (has_bit 8 mods))
+
+-- the function of a row of tables that is wanted
+abbrev pub wanted_row : Want → Slot → Option Reached
+wanted_row wants.Any s = reached_by s
+wanted_row (wants.Callable is_self) s = if is_callable_number is_self s.mods then reached_by s else None
+
+abbrev pub wanted_in : Want → Option Slot → Option Reached
+wanted_in want None = None
+wanted_in want (Some s) = wanted_row want s
+
+-- and of what resolve gives
+abbrev pub wanted : Want → Option Found → Option Found
+wanted wants.Any x = x
+wanted (wants.Callable is_self) x = callable_found is_self x
+
+-- what is wanted of an object
+abbrev pub want_of : Seeker → ObjId → Want
+want_of seekers.Anyone o = wants.Any
+want_of (seekers.Caller c) o = wants.Callable (is_object c o)
+
+-- the first object of some that has what is wanted
+abbrev pub first_wanted : Seeker → World → List ObjId → List ℕ → Option Target
+first_wanted seeker w [] name = None
+first_wanted seeker w (o ∷ os) name = or_else (target_here o (wanted (want_of seeker o) (function_of w o name))) (first_wanted seeker w os name)
+
+-- the function of a part of an object's program, where a look-up found it
+abbrev pub answer_for : ObjId → ProgId → ℕ → ℕ → ℕ → Callee
+answer_for this program part base fun = record { this = this; program = program; part = part; base = base; fun = fun }
