@@ -214,6 +214,8 @@ parent_lies (OneParent h hs) a b (suc j) q e = let l = parent_lies hs (a + part_
 pub parent_inside : (t : Heritage) (j k : ℕ) (q r : Part) → parent_from (parents_of t) 0 j ≡ Some q → part_at q.tree k ≡ Some r → (base : ℕ) × (part_at t (q.first + k) ≡ Some (shifted q.first base r))
 parent_inside (Heir n v ps) j k q r e f =
     let l = parent_lies ps 0 0 j q e in
-    let d : q.first + k ≡ l.place + k = let z = l.first in omega (arith, z) in
-    (l.base, ap (λ z. slice_get (parts (Heir n v ps)) z) d ∙ within (parents_parts ps 0 0) (record { tree = Heir n v ps; first = 0; base = 0 } ∷ []) (l.place + k) (shifted q.first l.base r)
-        (l.holds k (shifted q.first l.base r) (again q.tree q.first l.base k r f)))
+    let d : q.first + k ≡ l.place + k = let z = l.first in omega (arith, z) in (
+      l.base,
+      ap (λ z. slice_get (parts (Heir n v ps)) z) d ∙ within (parents_parts ps 0 0) (record { tree = Heir n v ps; first = 0; base = 0 } ∷ []) (l.place + k) (shifted q.first l.base r)
+          (l.holds k (shifted q.first l.base r) (again q.tree q.first l.base k r f)),
+    )

@@ -85,9 +85,10 @@ reached_inside whole t first None (Some r) i h = absurd h
 reached_inside whole t first (Some f) None i h = absurd h
 reached_inside whole t first (Some f) (Some r) i h =
     let q = fun_there (part_at t f.part) f.function.name r.fun h.1 in
-    let x = i f.part q.0 q.1 in
-    (ap (λ z. first + z) h.0,
-      ap (λ o. fun_in o f.function.name) x.1 ∙ ap (λ (y : Heritage). fun_from 0 (own_functions (version_of y).items) f.function.name) x.2 ∙ ap (λ o. fun_in o f.function.name) (sym q.1) ∙ h.1)
+    let x = i f.part q.0 q.1 in (
+      ap (λ z. first + z) h.0,
+      ap (λ o. fun_in o f.function.name) x.1 ∙ ap (λ (y : Heritage). fun_from 0 (own_functions (version_of y).items) f.function.name) x.2 ∙ ap (λ o. fun_in o f.function.name) (sym q.1) ∙ h.1,
+    )
 
 -- What a name's row tells.
 
@@ -162,3 +163,7 @@ named_at w (x ∷ ss) = by (bytes_eq w x.name) (is_name x.name w) (other_way w x
     by false false e (Some k) h = h
     by true false e o h = absurd cc
     by false true e o h = absurd cc
+
+-- a name's row in a program that fits
+pub fit_reached : (h : Heritage) (p : RawProgram) (w : List ℕ) → FitsVersion h p → IsReached h (resolve h w) (reached_in (slot_named p.tables.slots w))
+fit_reached h p w f = subst (λ t. IsReached h (resolve h w) (reached_in (slot_named t.slots w))) f.own.own (table_reached h w f.own.numbered f.own.once)

@@ -29,10 +29,10 @@ use Rattle.lp_residence.specs.declared.owner.Owner.TheVariants as owners
 use Rattle.lp_residence.proofs.RowChanges.{row_there}
 use Rattle.lp_targets.specs.Brought.{Brings, IsFaultOf, IsSameObject, IsSameVersion, StaysInMemory, program_at}
 
-same_object : (x : Object) → IsSameObject x x
+pub same_object : (x : Object) → IsSameObject x x
 same_object x = record { program = refl; is_live = refl; is_living = refl; latest = refl }
 
-same_version : (v : Version) → IsSameVersion v v
+pub same_version : (v : Version) → IsSameVersion v v
 same_version v = record { latest = refl; outline = refl }
 
 pub stays_same : (live : Live) → StaysInMemory live live

@@ -14,16 +14,20 @@ use Rattle.lp_targets.specs.declared.wants.Want.{Want}
 use Rattle.lp_targets.specs.declared.wants.Want.TheVariants as wants
 use Rattle.lp_swapfile.specs.Device.{Bytes}
 use Rattle.lp_language.specs.World.{World, is_live}
-use Rattle.lp_language.specs.Resolve.{Found, Part, Target, callable_found, or_else, chain_of, first_with, function_of, heritage_of, number_of, part_at, target_here}
+use Rattle.lp_language.specs.Resolve.{Found, Heritage, Part, Target, callable_found, or_else, chain_of, first_with, function_of, heritage_of, number_of, part_at, target_here}
 use Rattle.lp_meaning.specs.FunctionCalls.{goes_to_shadows}
+use Rattle.lp_layout.specs.Layout.{slot_named}
 use Rattle.lp_world.specs.declared.live.Live.{Live}
+use Rattle.lp_world.specs.declared.targets.FunAt.{FunAt}
+use Rattle.lp_world.specs.Closed.{IsFunctionThere}
+use Rattle.lp_world.specs.Targets.{answer_at}
 use Rattle.lp_world.specs.declared.versions.Version.{Version}
 use Rattle.lp_world.specs.Rows.{row_at, variables_at}
 use Rattle.lp_world.specs.Stands.{Stands}
 use Rattle.lp_step_laws.specs.Running.{HasVariables}
 use Rattle.lp_frames.specs.declared.entry.Callee.{Callee}
 use Rattle.lp_part_laws.specs.Versions.{AreCompiled, FitsVersion}
-use Rattle.lp_part_laws.specs.Parts.{IsFunctionAt}
+use Rattle.lp_part_laws.specs.Parts.{IsFunctionAt, IsInText}
 
 -- A state stands for a world whose programs fit their versions, and whose shadows are live objects.
 pub record IsWorldOf (told : Option Bytes) (programs : List RawProgram) (live : Live) (w : World) : Type 0 where
@@ -50,6 +54,11 @@ pub record IsCallee (programs : List RawProgram) (w : World) (callee : Callee) (
   pub is : slice_get programs callee.program.0 ≡ Some code
   pub fits : FitsVersion place.tree code
   pub function : IsFunctionAt code place.tree f.function callee.fun
+
+-- a function that was found stands in the text of its part
+abbrev pub AreInText : Heritage → Option Found → Type 0
+AreInText h None = ⊤
+AreInText h (Some f) = IsInText h f
 
 -- the callee of what a search found, if it found something
 abbrev pub IsAnswer : List RawProgram → World → ObjId → Option Callee → Option Found → Type 0
@@ -108,3 +117,18 @@ first_wanted seeker w (o ∷ os) name = or_else (target_here o (wanted (want_of 
 -- the function of a part of an object's program, where a look-up found it
 abbrev pub answer_for : ObjId → ProgId → ℕ → ℕ → ℕ → Callee
 answer_for this program part base fun = record { this = this; program = program; part = part; base = base; fun = fun }
+
+-- a row of a program's table is the one of its name
+abbrev pub IsRowOfItsName : RawProgram → Slot → Type 0
+IsRowOfItsName code s = slot_named code.tables.slots s.name ≡ Some s
+
+-- what is kept for a slot of a part of a version
+abbrev pub kept_at : Option Version → ℕ → ℕ → Option (Option FunAt)
+kept_at None part slot = None
+kept_at (Some v) part slot = answer_at v.targets part slot
+
+-- An answer that may be kept: a function is there.
+abbrev pub IsKeepable : List (Option Version) → Option RawProgram → Option FunAt → Type 0
+IsKeepable versions None answer = ⊤
+IsKeepable versions (Some p) None = ⊤
+IsKeepable versions (Some p) (Some f) = IsFunctionThere versions p.tables.parts f.part f.fun
