@@ -21,7 +21,7 @@ use Rattle.lp_plan_laws.specs.Tables.{IsNamedOnce, reached_by, table_row}
 use Rattle.lp_plan_laws.proofs.Meant.{Own, found_named, table_own}
 use Rattle.lp_plan_laws.proofs.Standing.{table_stands}
 use Rattle.lp_part_laws.specs.Versions.{FitsVersion, row_of, rows_of}
-use Rattle.lp_part_laws.specs.Parts.{IsFunctionAt, reached_in}
+use Rattle.lp_part_laws.specs.Parts.{IsFunctionAt, moved_reached, reached_in}
 use Rattle.lp_part_laws.proofs.Lists.{get_map, got_map}
 use Rattle.lp_part_laws.proofs.Places.{parent_inside, part_inside, shifted}
 
@@ -74,10 +74,6 @@ inside_part h i p e k q f = (shifted p.first p.base q, part_inside h i k p q e f
 
 pub inside_parent : (t : Heritage) (j : ℕ) (q : Part) → parent_from (parents_of t) 0 j ≡ Some q → IsInside t q.tree q.first
 inside_parent t j q e k r f = let x = parent_inside t j k q r e f in (shifted q.first x.0 r, x.1, refl)
-
-abbrev pub moved_reached : ℕ → Option Reached → Option Reached
-moved_reached n None = None
-moved_reached n (Some r) = Some (record { part = n + r.part; fun = r.fun })
 
 pub reached_inside : (whole t : Heritage) (first : ℕ) (x : Option Found) (r : Option Reached) → IsInside whole t first → IsReached t x r → IsReached whole (moved first x) (moved_reached first r)
 reached_inside whole t first None None i h = tt

@@ -36,6 +36,11 @@ abbrev pub reached_in : Option Slot → Option Reached
 reached_in None = None
 reached_in (Some s) = reached_by s
 
+-- seen from a tree in which the first part has another place
+abbrev pub moved_reached : ℕ → Option Reached → Option Reached
+moved_reached n None = None
+moved_reached n (Some r) = Some (record { part = n + r.part; fun = r.fun })
+
 -- rows of variables stand in parts below a number up to a place, and from there on in the others
 pub record IsSplit (rows : List VarRow) (part place : ℕ) : Type 0 where
   pub inside : place ≤ length rows

@@ -11,10 +11,10 @@ use Rattle.lp_inherit.specs.Heirs.{table}
 use Rattle.lp_inherit.proofs.Meanings.{count_parts}
 use Rattle.lp_plan_laws.specs.Tables.{reached_by}
 use Rattle.lp_part_laws.specs.Versions.{FitsVersion}
-use Rattle.lp_part_laws.specs.Parts.{IsInText, reached_in}
+use Rattle.lp_part_laws.specs.Parts.{IsInText, moved_reached, reached_in}
 use Rattle.lp_part_laws.proofs.Lists.{is_below}
 use Rattle.lp_part_laws.proofs.Places.{count_from, number_of_part, part_inside, shifted}
-use Rattle.lp_part_laws.proofs.Rows.{fit_reached, inside_part, moved_reached, reached_inside, row_by_place, table_hidden}
+use Rattle.lp_part_laws.proofs.Rows.{fit_reached, inside_part, reached_inside, row_by_place, table_hidden}
 use Rattle.lp_part_laws.proofs.Texts.{moved_in_text, resolved_in_text}
 use Rattle.lp_targets.specs.Callees.{AreInText, IsRowOfItsName}
 

@@ -1,6 +1,6 @@
 -- What stays in memory.
-use Rattle.std.proofs.Common.{◌≡◌, ◌∙◌, ℕ, List, [], ◌∷◌, Bool, true, false, Option, Some, None, IsSome, Result, Ok, Err, IfErr, OnOk, OnErr, refl, ap, sym, subst, inl, inr, slice_get, unwrap_or}
-use Rattle.std.specs.Prelude.{◌⊎◌, slice_set}
+use Rattle.std.proofs.Common.{◌≡◌, ◌∙◌, ◌<◌, ℕ, arith, length, List, [], ◌∷◌, Bool, true, false, Option, Some, None, IsSome, Result, Ok, Err, IfErr, IfSome, OnOk, OnErr, refl, ap, sym, subst, inl, inr, slice_get, unwrap_or}
+use Rattle.std.specs.Prelude.{slice_set}
 use Rattle.lp_values.specs.declared.id.ObjId.{ObjId}
 use Rattle.lp_values.specs.declared.id.ProgId.{ProgId}
 use Rattle.lp_values.specs.declared.value.Value.{Value}
@@ -15,7 +15,11 @@ use Rattle.lp_world.specs.declared.objects.ObjectState.{ObjectState}
 use Rattle.lp_world.specs.declared.objects.ObjectState.TheVariants as objects_of
 use Rattle.lp_world.specs.declared.versions.ProgramState.{ProgramState}
 use Rattle.lp_world.specs.declared.versions.ProgramState.TheVariants as programs_of
+use Rattle.lp_world.specs.declared.versions.Outline.{Outline}
 use Rattle.lp_world.specs.declared.versions.Version.{Version}
+use Rattle.lp_world.specs.Closed.{IsClosed}
+use Rattle.lp_frames.specs.declared.entry.Callee.{Callee}
+use Rattle.lp_targets.specs.Callees.{IsCalleeThere}
 use Rattle.lp_world.specs.Rows.{object_ticket, program_ticket, row_at, row_with_state, state_in, variables_at, variables_in, variables_of, version_state, version_with_state}
 use Rattle.lp_world.specs.Stands.{Stands}
 use Rattle.lp_world.proofs.Keeping.{get_set, get_set_here, same_or_not}
@@ -220,9 +224,9 @@ read_fault_same A B (Swap Read) = refl
 read_fault_same A B (Swap (Changed who found)) = refl
 read_fault_same A B NoMemory = refl
 
-pub brings_err : {A B : Type 0} (told0 told1 : Option Bytes) (last : Last) (reads0 reads1 writes0 writes1 : ℕ) (true0 true1 honest0 honest1 : Type 0) (old new : Live) (e : EnterFault)
+pub brings_err : {A B : Type 0} {told0 told1 : Option Bytes} {last : Last} {reads0 reads1 writes0 writes1 : ℕ} {true0 true1 honest0 honest1 : Type 0} {old new : Live} {e : EnterFault}
     → Brings {A = A} told0 told1 last reads0 reads1 writes0 writes1 true0 true1 honest0 honest1 old new (Err e) → Brings {A = B} told0 told1 last reads0 reads1 writes0 writes1 true0 true1 honest0 honest1 old new (Err e)
-brings_err {A} {B} told0 told1 last reads0 reads1 writes0 writes1 true0 true1 honest0 honest1 old new e h = record {
+brings_err {A = A} {B = B} {reads0 = reads0} {reads1 = reads1} {e = e} h = record {
   stays = h.stays;
   cause = h.cause;
   faults = subst (λ b. Counts b reads0 reads1) (read_fault_same A B e) h.faults;
@@ -232,9 +236,9 @@ brings_err {A} {B} told0 told1 last reads0 reads1 writes0 writes1 true0 true1 ho
   honest = h.honest;
 }
 
-pub brings_ok : {A B : Type 0} (told0 told1 : Option Bytes) (last : Last) (reads0 reads1 writes0 writes1 : ℕ) (true0 true1 honest0 honest1 : Type 0) (old mid new : Live) (x : A) (y : B)
+pub brings_ok : {A B : Type 0} {told0 told1 : Option Bytes} {last : Last} {reads0 reads1 writes0 writes1 : ℕ} {true0 true1 honest0 honest1 : Type 0} {old mid new : Live} {x : A} {y : B}
     → Brings told0 told1 last reads0 reads1 writes0 writes1 true0 true1 honest0 honest1 old mid (Ok x) → StaysInMemory mid new → Brings told0 told1 last reads0 reads1 writes0 writes1 true0 true1 honest0 honest1 old new (Ok y)
-brings_ok told0 told1 last reads0 reads1 writes0 writes1 true0 true1 honest0 honest1 old mid new x y h s = record {
+brings_ok {old = old} {mid = mid} {new = new} h s = record {
   stays = stays_more old mid new h.stays s;
   cause = tt;
   faults = h.faults;
@@ -244,9 +248,9 @@ brings_ok told0 told1 last reads0 reads1 writes0 writes1 true0 true1 honest0 hon
   honest = h.honest;
 }
 
-pub brings_no_memory : {A B : Type 0} (told0 told1 : Option Bytes) (last : Last) (reads0 reads1 writes0 writes1 : ℕ) (true0 true1 honest0 honest1 : Type 0) (old new : Live) (x : A)
+pub brings_no_memory : {A B : Type 0} {told0 told1 : Option Bytes} {last : Last} {reads0 reads1 writes0 writes1 : ℕ} {true0 true1 honest0 honest1 : Type 0} {old new : Live} {x : A}
     → Brings told0 told1 last reads0 reads1 writes0 writes1 true0 true1 honest0 honest1 old new (Ok x) → Brings {A = B} told0 told1 last reads0 reads1 writes0 writes1 true0 true1 honest0 honest1 old new (Err NoMemory)
-brings_no_memory told0 told1 last reads0 reads1 writes0 writes1 true0 true1 honest0 honest1 old new x h = record {
+brings_no_memory h = record {
   stays = h.stays;
   cause = tt;
   faults = h.faults;
@@ -256,12 +260,12 @@ brings_no_memory told0 told1 last reads0 reads1 writes0 writes1 true0 true1 hone
   honest = h.honest;
 }
 
-pub brings_more : {A B : Type 0} (told0 told1 told2 : Option Bytes) (last1 last2 : Last) (reads0 reads1 reads2 writes0 writes1 writes2 : ℕ) (true0 true1 true2 honest0 honest1 honest2 : Type 0) (old mid new : Live) (x : A) (r : Result B EnterFault)
-    → Brings told0 told1 last1 reads0 reads1 writes0 writes1 true0 true1 honest0 honest1 old mid (Ok x)
+pub brings_more : {A B : Type 0} {told0 told1 told2 : Option Bytes} {last1 last2 : Last} {reads0 reads1 reads2 writes0 writes1 writes2 : ℕ} {true0 true1 true2 honest0 honest1 honest2 : Type 0} {old mid new : Live} {x : A} {r : Result B EnterFault}
+    → Brings {A = A} told0 told1 last1 reads0 reads1 writes0 writes1 true0 true1 honest0 honest1 old mid (Ok x)
     → (true1 → (programs : List RawProgram) (w : World) → Stands told0 programs old w → Stands told1 programs mid w)
-    → Brings told1 told2 last2 reads1 reads2 writes1 writes2 true1 true2 honest1 honest2 mid new r
-    → Brings told0 told2 last2 reads0 reads2 writes0 writes2 true0 true2 honest0 honest2 old new r
-brings_more told0 told1 told2 last1 last2 reads0 reads1 reads2 writes0 writes1 writes2 true0 true1 true2 honest0 honest1 honest2 old mid new x r h s k = record {
+    → Brings {A = B} told1 told2 last2 reads1 reads2 writes1 writes2 true1 true2 honest1 honest2 mid new r
+    → Brings {A = B} told0 told2 last2 reads0 reads2 writes0 writes2 true0 true2 honest0 honest2 old new r
+brings_more {reads2 = reads2} {old = old} {mid = mid} {new = new} {r = r} h s k = record {
   stays = stays_more old mid new h.stays k.stays;
   cause = k.cause;
   faults = subst (λ n. Counts (is_read_fault r) n reads2) h.faults k.faults;
@@ -270,3 +274,61 @@ brings_more told0 told1 told2 last1 last2 reads0 reads1 reads2 writes0 writes1 w
   truthful = λ t. h.truthful (k.truthful t);
   honest = λ z. ((h.honest (k.honest z).0).0, λ t programs w g. (k.honest z).1 t programs w (s (k.truthful t) programs w g));
 }
+
+-- Rows that are there still.
+
+pub some_row : {A : Type 0} (o : Option A) → IsSome o → (x : A) × (o ≡ Some x)
+some_row None h = absurd cc
+some_row (Some x) h = (x, refl)
+
+pub object_still : (a b : Live) (n : ℕ) → StaysInMemory a b → IsSome (row_at a.objects n) → IsSome (row_at b.objects n)
+object_still a b n s h = let x = some_row (row_at a.objects n) h in let y = s.objects n x.0 x.1 in subst IsSome (sym y.1) refl
+
+pub variables_still : (a b : Live) (o : ObjId) → StaysInMemory a b → IsSome (variables_at a.objects o) → IsSome (variables_at b.objects o)
+variables_still a b o s h = let x = some_row (variables_at a.objects o) h in subst IsSome (sym (s.variables o x.0 x.1)) refl
+
+pub program_still : (a b : Live) (p : ProgId) → StaysInMemory a b → IsSome (program_at a.versions p) → IsSome (program_at b.versions p)
+program_still a b p s h = let x = some_row (program_at a.versions p) h in subst IsSome (sym (s.programs p x.0 x.1)) refl
+
+pub callee_still : (a b : Live) (c : Callee) → StaysInMemory a b → IsCalleeThere a.versions c → IsCalleeThere b.versions c
+callee_still a b c s h =
+    let y = s.versions c.program.0 h.version h.there in
+    record { version = y.0; there = y.1; function = subst (λ (o : Outline). c.fun < o.functions) (sym y.2.outline) h.function }
+
+pub version_still : (a b : Live) (c : Callee) → StaysInMemory a b → IsCalleeThere a.versions c → IsSome (row_at b.versions c.program.0)
+version_still a b c s h = let y = s.versions c.program.0 h.version h.there in subst IsSome (sym y.1) refl
+
+-- the version of an object that is there
+pub own_version_there : (live : Live) (n : ℕ) (p : ProgId) → IsClosed live → IsSome (row_at live.objects n) → ((o : Object) → row_at live.objects n ≡ Some o → p ≡ o.program) → IsSome (row_at live.versions p.0)
+own_version_there live n p c h e =
+    let x = some_row (row_at live.objects n) h in
+    let is = c.objects n x.0 (row_there live.objects n x.0 x.1) in
+    subst (λ (q : ProgId). IsSome (row_at live.versions q.0)) (sym (e x.0 x.1)) (subst IsSome (sym is.there) refl)
+
+pub on_ok_any : {A : Type 0} (r : Result A EnterFault) (P : Type 0) → P → OnOk r P
+on_ok_any (Ok x) P h = h
+on_ok_any (Err e) P h = tt
+
+-- a callee's row is one of its version's program
+pub callee_room : (live : Live) (c : Callee) (code : RawProgram) → IsClosed live → IsCalleeThere live.versions c → program_at live.versions c.program ≡ Some code → c.fun < length code.funs
+callee_room live c code h t e =
+    let is = h.versions c.program.0 t.version (row_there live.versions c.program.0 t.version t.there) in
+    let state : program_of (Some t.version.state) ≡ Some code = ap (λ o. program_of (version_state o)) (sym t.there) ∙ e in
+    let n = (is.program code (held t.version.state code state)).outline.functions in
+    let f = t.function in
+    omega (arith, n, f)
+  where
+    held : (s : ProgramState) (q : RawProgram) → program_of (Some s) ≡ Some q → s ≡ programs_of.Resident q
+    held (programs_of.Resident x) q g = ap (λ o. programs_of.Resident (unwrap_or o x)) g
+    held (programs_of.Swapped t) q g = cc
+
+pub program_row : (versions : List (Option Version)) (p : ProgId) → IsSome (program_at versions p) → IsSome (row_at versions p.0)
+program_row versions p h = by (row_at versions p.0) h
+  where
+    by : (o : Option Version) → IsSome (program_of (version_state o)) → IsSome o
+    by None h = absurd cc
+    by (Some v) h = refl
+
+pub there_still : (a b : Live) (o : Option Callee) → StaysInMemory a b → IfSome o (IsCalleeThere a.versions) → IfSome o (IsCalleeThere b.versions)
+there_still a b None s h = tt
+there_still a b (Some c) s h = callee_still a b c s h

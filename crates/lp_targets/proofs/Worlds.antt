@@ -3,36 +3,42 @@ use Rattle.std.proofs.Common.{◌≡◌, ◌∙◌, ◌≤◌, ◌<◌, ℕ, suc
 use Rattle.std.specs.Prelude.{◌+◌, ◌-◌, ◌^◌, ⊤}
 use Rattle.lp_values.specs.declared.id.ObjId.{ObjId}
 use Rattle.lp_values.specs.declared.id.ProgId.{ProgId}
+use Rattle.lp_values.specs.declared.value.Value.{Value}
 use Rattle.lp_code.specs.declared.program.RawProgram.{RawProgram}
 use Rattle.lp_swapfile.specs.Device.{Bytes}
 use Rattle.lp_language.specs.World as world
 use Rattle.lp_language.specs.World.{World, no_object, no_version, object_at, version_at}
-use Rattle.lp_language.specs.Resolve.{Found, Heritage, Part, heritage, heritage_of, number_of, part_at, part_count}
+use Rattle.lp_language.specs.Resolve.{Found, Heritage, Part, heritage, heritage_of, internal_from, number_of, part_at, part_count, variable_count}
 use Rattle.lp_isa.specs.Programs.{IsReached, Reached, fun_in}
 use Rattle.lp_inherit.specs.Heirs.{table}
-use Rattle.lp_inherit.proofs.Meanings.{count_parts}
-use Rattle.lp_world.specs.Closed.{IsClosed}
+use Rattle.lp_inherit.proofs.Meanings.{count_parts, count_variables}
+use Rattle.lp_world.specs.Closed.{IsClosed, IsFunctionThere}
+use Rattle.lp_world.specs.declared.targets.FunAt.{FunAt}
 use Rattle.lp_world.specs.declared.live.Live.{Live}
 use Rattle.lp_world.specs.declared.objects.Object.{Object}
 use Rattle.lp_world.specs.declared.versions.ProgramState.{ProgramState}
 use Rattle.lp_world.specs.declared.versions.ProgramState.TheVariants as programs_of
 use Rattle.lp_world.specs.declared.versions.Version.{Version}
-use Rattle.lp_world.specs.Rows.{row_at, version_state}
-use Rattle.lp_world.specs.Stands.{IsOutline, IsVersion, ProgramIs, Stands}
+use Rattle.lp_world.specs.Rows.{row_at, variables_at, variables_in, variables_of, version_state}
+use Rattle.lp_step_laws.specs.Running.{HasVariables}
+use Rattle.lp_world.specs.Stands.{IsOutline, IsTarget, IsVersion, ProgramIs, Stands, reached_of, slot_in, slot_of_part}
+use Rattle.lp_world.specs.Targets.{answer_at}
+use Rattle.lp_code.specs.declared.tables.Slot.{Slot}
+use Rattle.lp_targets.proofs.Calls.{internal_in_text}
 use Rattle.lp_world.proofs.BareWorlds.{heritage_same}
 use Rattle.lp_residence.specs.Owners.{program_of}
 use Rattle.lp_residence.proofs.RowChanges.{object_behind, row_there}
 use Rattle.lp_frames.specs.declared.entry.Callee.{Callee}
 use Rattle.lp_part_laws.specs.Versions.{AreCompiled, FitsVersion, heritage_in}
 use Rattle.lp_part_laws.specs.Parts.{IsFunctionAt, IsInText, IsSplit}
-use Rattle.lp_part_laws.proofs.Bases.{base_split}
-use Rattle.lp_part_laws.proofs.Lists.{is_below, there_below}
+use Rattle.lp_part_laws.proofs.Bases.{base_room, base_split}
+use Rattle.lp_part_laws.proofs.Lists.{is_below, one_value}
 use Rattle.lp_part_laws.proofs.Places.{number_at, number_of_part}
 use Rattle.lp_part_laws.proofs.Rows.{function_at}
 use Rattle.lp_part_laws.proofs.Texts.{row_in_text}
 use Rattle.lp_part_laws.proofs.Trees.{bare, part_keeps, part_settled}
 use Rattle.lp_targets.specs.Brought.{program_at}
-use Rattle.lp_targets.specs.Callees.{IsCallee, IsWorldOf, answer_for}
+use Rattle.lp_targets.specs.Callees.{AreInText, IsAnswer, IsAtHome, IsCallee, IsCaller, IsKeepable, IsWorldOf, answer_for, kept_at}
 
 -- the program of a version that is in memory is the one of that number
 pub program_is : (told : Option Bytes) (programs : List RawProgram) (live : Live) (w : World) (p : ProgId) (raw : RawProgram) → Stands told programs live w → program_at live.versions p ≡ Some raw → slice_get programs p.0 ≡ Some raw
@@ -141,3 +147,116 @@ made told programs live w o x whole f r h c e g t reached =
 
     n_below : (n m k : ℕ) → m ≤ n → n < k → m < k
     n_below n m k a b = omega (arith, a, b)
+
+-- The variables of a callee's part are among those of its object.
+pub at_home : (told : Option Bytes) (programs : List RawProgram) (live : Live) (w : World) (c : Callee) (o : ObjId) (f : Found) (code : RawProgram)
+    → IsWorldOf told programs live w → IsClosed live → IsCallee programs w c o f → IsSome (variables_at live.objects c.this) → slice_get programs c.program.0 ≡ Some code → IsAtHome live c code
+at_home told programs live w c o f code h closed is here e =
+    by (variables_at live.objects c.this) refl here
+  where
+    row : (vs : List Value) (r : Option Object) → row_at live.objects c.this.0 ≡ r → variables_in r ≡ Some vs → (x : Object) × (row_at live.objects c.this.0 ≡ Some x) × (variables_of x.state ≡ Some vs)
+    row vs None q g = cc
+    row vs (Some x) q g = (x, q, g)
+
+    many : (vs : List Value) → variables_at live.objects c.this ≡ Some vs → c.base + length code.tables.vars ≤ length vs
+    many vs g =
+        let x = row vs (row_at live.objects c.this.0) refl g in
+        let oc = closed.objects c.this.0 x.0 (row_there live.objects c.this.0 x.0 x.1) in
+        let len = (oc.variables vs x.2).0 in
+        let v = h.stands.versions.each x.0.program.0 oc.version (row_there live.versions x.0.program.0 oc.version oc.there) in
+        let fits = h.compiled.fit x.0.program.0 v.program v.is in
+        let tree : heritage_of w o ≡ heritage_in w.versions x.0.program = subst (λ (z : ObjId). heritage_of w z ≡ heritage_in w.versions x.0.program) is.this (tree_is told programs live w c.this x.0 h.stands x.1) in
+        let room = base_room (heritage_in w.versions x.0.program) f.part is.place (ap (λ z. part_at z f.part) (sym tree) ∙ is.at) in
+        let whole : length v.program.tables.vars ≡ variable_count (heritage_in w.versions x.0.program) = ap (λ z. length z.vars) (sym fits.own.own) ∙ count_variables (heritage_in w.versions x.0.program) in
+        let same : is.code ≡ code = one_value (slice_get programs c.program.0) is.code code is.is e in
+        let part : length code.tables.vars ≡ variable_count is.place.tree = ap (λ (z : RawProgram). length z.tables.vars) (sym same) ∙ ap (λ z. length z.vars) (sym is.fits.own.own) ∙ count_variables is.place.tree in
+        let out = v.outline.variables in
+        let base = is.base in
+        omega (arith, len, room, whole, part, out, base)
+
+    by : (k : Option (List Value)) → variables_at live.objects c.this ≡ k → IsSome k → HasVariables k (c.base + length code.tables.vars)
+    by None q s = absurd cc
+    by (Some vs) q s = many vs q
+
+-- What a look-up found is the callee of what the meaning found.
+pub right_callee : (told : Option Bytes) (programs : List RawProgram) (live : Live) (w : World) (o : ObjId) (x : Object) (whole : RawProgram) (f : Found) (r : Reached) (c : Option Callee)
+    → IsWorldOf told programs live w → IsClosed live → row_at live.objects o.0 ≡ Some x → program_at live.versions x.program ≡ Some whole → IsInText (heritage_of w o) f → IsReached (heritage_of w o) (Some f) (Some r)
+    → ((n : ProgId) (v : Version) (base : ℕ) → slice_get whole.tables.parts r.part ≡ Some n → row_at live.versions n.0 ≡ Some v → r.fun < v.outline.functions → v.outline.parts ≤ r.part + 1 → base < 2 ^ 32
+        → IsSplit whole.tables.vars (r.part + 1 - v.outline.parts) base → c ≡ Some (answer_for o n r.part base r.fun))
+    → IsAnswer programs w o c (Some f)
+right_callee told programs live w o x whole f r c h closed e g t reached is =
+    let m = made told programs live w o x whole f r h closed e g t reached in
+    subst (λ z. IsAnswer programs w o z (Some f)) (sym (is m.number m.version m.base m.listed m.there m.function m.enough m.few m.split)) m.callee
+
+-- the same of whatever was found
+pub right_any : (told : Option Bytes) (programs : List RawProgram) (live : Live) (w : World) (o : ObjId) (x : Object) (version : ProgId) (whole : RawProgram) (f : Option Found) (r : Reached) (c : Option Callee)
+    → IsWorldOf told programs live w → IsClosed live → row_at live.objects o.0 ≡ Some x → x.program ≡ version → program_at live.versions version ≡ Some whole → AreInText (heritage_of w o) f → IsReached (heritage_of w o) f (Some r)
+    → ((n : ProgId) (v : Version) (base : ℕ) → slice_get whole.tables.parts r.part ≡ Some n → row_at live.versions n.0 ≡ Some v → r.fun < v.outline.functions → v.outline.parts ≤ r.part + 1 → base < 2 ^ 32
+        → IsSplit whole.tables.vars (r.part + 1 - v.outline.parts) base → c ≡ Some (answer_for o n r.part base r.fun))
+    → IsAnswer programs w o c f
+right_any told programs live w o x version whole None r c h closed e p g t reached is = absurd reached
+right_any told programs live w o x version whole (Some f) r c h closed e p g t reached is =
+    right_callee told programs live w o x whole f r c h closed e (ap (program_at live.versions) p ∙ g) t reached is
+
+pub nothing_right : (programs : List RawProgram) (w : World) (o : ObjId) (h : Heritage) (x : Option Found) → IsReached h x None → IsAnswer programs w o None x
+nothing_right programs w o h None r = tt
+nothing_right programs w o h (Some f) r = absurd r
+
+pub keepable_some : (versions : List (Option Version)) (o : Option RawProgram) (f : FunAt) → ((q : RawProgram) → o ≡ Some q → IsFunctionThere versions q.tables.parts f.part f.fun) → IsKeepable versions o (Some f)
+keepable_some versions None f h = tt
+keepable_some versions (Some q) f h = h q refl
+
+pub keepable_none : (versions : List (Option Version)) (o : Option RawProgram) → IsKeepable versions o None
+keepable_none versions None = tt
+keepable_none versions (Some q) = tt
+
+-- the program of an object's version fits its tree
+pub whole_fits : (told : Option Bytes) (programs : List RawProgram) (live : Live) (w : World) (o : ObjId) (x : Object) (version : ProgId) (whole : RawProgram) → IsWorldOf told programs live w → row_at live.objects o.0 ≡ Some x → x.program ≡ version
+    → program_at live.versions version ≡ Some whole → FitsVersion (heritage_of w o) whole
+whole_fits told programs live w o x version whole h e p g =
+    subst (λ z. FitsVersion z whole) (sym (tree_is told programs live w o x h.stands e))
+    (h.compiled.fit x.program.0 whole (program_is told programs live w x.program whole h.stands (ap (program_at live.versions) p ∙ g)))
+
+-- a caller's program fits its part
+pub caller_fits : (told : Option Bytes) (programs : List RawProgram) (live : Live) (w : World) (o : ObjId) (x : Object) (part : ℕ) (code : RawProgram) → IsWorldOf told programs live w → row_at live.objects o.0 ≡ Some x
+    → (who : IsCaller programs w o part code) → FitsVersion who.place.tree code
+caller_fits told programs live w o x part code h e who =
+    let at : part_at (heritage_in w.versions x.program) part ≡ Some who.place = ap (λ z. part_at z part) (sym (tree_is told programs live w o x h.stands e)) ∙ who.at in
+    subst (λ t. FitsVersion t code) (sym (part_settled w.versions x.program part who.place h.compiled.rising at).tree) (h.compiled.fit (number_of who.place.tree).0 code who.is)
+
+-- what an internal call reaches stands in a text
+pub internal_text : (programs : List RawProgram) (w : World) (o : ObjId) (part : ℕ) (code : RawProgram) (name : List ℕ) → IsCaller programs w o part code → AreInText (heritage_of w o) (internal_from (heritage_of w o) (part_at (heritage_of w o) part) name)
+internal_text programs w o part code name who = subst (λ q. AreInText (heritage_of w o) (internal_from (heritage_of w o) q name)) (sym who.at) (internal_in_text (heritage_of w o) part who.place name who.at)
+
+-- An answer for a slot of a caller's part is a target of the object's version exactly where it is what the call reaches.
+
+slot_is : (programs : List RawProgram) (w : World) (o : ObjId) (part : ℕ) (code : RawProgram) (slot : ℕ) (row : Slot) → (who : IsCaller programs w o part code) → slice_get code.tables.slots slot ≡ Some row → slot_of_part programs (Some who.place) slot ≡ Some row
+slot_is programs w o part code slot row who e = ap (λ z. slot_in z slot) who.is ∙ e
+
+pub target_is : (told : Option Bytes) (programs : List RawProgram) (live : Live) (w : World) (o : ObjId) (x : Object) (version : ProgId) (part : ℕ) (code : RawProgram) (slot : ℕ) (row : Slot) (a : Option FunAt)
+    → IsWorldOf told programs live w → row_at live.objects o.0 ≡ Some x → x.program ≡ version → (who : IsCaller programs w o part code) → slice_get code.tables.slots slot ≡ Some row
+    → IsReached (heritage_of w o) (internal_from (heritage_of w o) (part_at (heritage_of w o) part) row.name) (reached_of a)
+    → IsTarget (heritage_in w.versions version) (part_at (heritage_in w.versions version) part) (slot_of_part programs (part_at (heritage_in w.versions version) part) slot) a
+target_is told programs live w o x version part code slot row a h e p who s reached =
+    let tree : heritage_of w o ≡ heritage_in w.versions version = tree_is told programs live w o x h.stands e ∙ ap (heritage_in w.versions) p in
+    subst (λ t. IsTarget t (part_at t part) (slot_of_part programs (part_at t part) slot) a) tree
+    (subst (λ q. IsTarget (heritage_of w o) q (slot_of_part programs q slot) a) (sym who.at)
+    (subst (λ z. IsTarget (heritage_of w o) (Some who.place) z a) (sym (slot_is programs w o part code slot row who s))
+    (subst (λ q. IsReached (heritage_of w o) (internal_from (heritage_of w o) q row.name) (reached_of a)) who.at reached)))
+
+kept_there : (o : Option Version) (part slot : ℕ) (a : Option FunAt) → kept_at o part slot ≡ Some a → (v : Version) × (o ≡ Some v) × (answer_at v.targets part slot ≡ Some a)
+kept_there None part slot a e = cc
+kept_there (Some v) part slot a e = (v, refl, e)
+
+pub kept_reached : (told : Option Bytes) (programs : List RawProgram) (live : Live) (w : World) (o : ObjId) (x : Object) (version : ProgId) (part : ℕ) (code : RawProgram) (slot : ℕ) (row : Slot) (a : Option FunAt)
+    → IsWorldOf told programs live w → row_at live.objects o.0 ≡ Some x → x.program ≡ version → (who : IsCaller programs w o part code) → slice_get code.tables.slots slot ≡ Some row
+    → kept_at (row_at live.versions version.0) part slot ≡ Some a
+    → IsReached (heritage_of w o) (internal_from (heritage_of w o) (part_at (heritage_of w o) part) row.name) (reached_of a)
+kept_reached told programs live w o x version part code slot row a h e p who s k =
+    let tree : heritage_of w o ≡ heritage_in w.versions version = tree_is told programs live w o x h.stands e ∙ ap (heritage_in w.versions) p in
+    let v = kept_there (row_at live.versions version.0) part slot a k in
+    let is = (h.stands.versions.each version.0 v.0 (row_there live.versions version.0 v.0 v.1)).targets part slot a v.2 in
+    subst (λ q. IsReached (heritage_of w o) (internal_from (heritage_of w o) q row.name) (reached_of a)) (sym who.at)
+    (subst (λ z. IsTarget (heritage_of w o) (Some who.place) z a) (slot_is programs w o part code slot row who s)
+    (subst (λ q. IsTarget (heritage_of w o) q (slot_of_part programs q slot) a) who.at
+    (subst (λ t. IsTarget t (part_at t part) (slot_of_part programs (part_at t part) slot) a) (sym tree) is)))

@@ -50,6 +50,32 @@ fn callee_in(
     })
 }
 
+/// The version of a part of a program.
+fn version_at(whole: &RawProgram, part: u16) -> Option<ProgId>
+    ensures { result ≡ slice_get whole.now.tables.parts part }
+{
+    whole.tables.parts.as_slice().get(part as usize).copied()
+}
+
+/// The callee at a part and a row of an object's program, where the part is of this version.
+fn callee_of_version(
+    versions: &VersionTable,
+    whole: &RawProgram,
+    this: ObjId,
+    at: FunAt,
+    program: ProgId,
+) -> Option<Callee>
+    ensures function { IfSome result (λ c. (v : V) × (row_at versions.now program.0 ≡ Some v) × (at.fun < v.outline.functions)) }
+    ensures there { IfSome result (IsCalleeThere versions.now) }
+    ensures is { (v : V) (base : ℕ) → row_at versions.now program.0 ≡ Some v → at.fun < v.outline.functions → v.outline.parts ≤ at.part + 1 → base < 2 ^ 32
+        → IsSplit whole.now.tables.vars (at.part + 1 - v.outline.parts) base → result ≡ Some (answer_for this program at.part base at.fun) }
+{
+    match versions.get(program) {
+        Some(v) => callee_in(whole, this, at, program, &v.outline),
+        None => None,
+    }
+}
+
 /// The callee at a part and a row of an object's program.
 pub(crate) fn callee_at(
     versions: &VersionTable,
@@ -62,13 +88,8 @@ pub(crate) fn callee_at(
     ensures is { (n : P) (v : V) (base : ℕ) → slice_get whole.now.tables.parts at.part ≡ Some n → row_at versions.now n.0 ≡ Some v → at.fun < v.outline.functions → v.outline.parts ≤ at.part + 1 → base < 2 ^ 32
         → IsSplit whole.now.tables.vars (at.part + 1 - v.outline.parts) base → result ≡ Some (answer_for this n at.part base at.fun) }
 {
-    let parts = whole.tables.parts.as_slice();
-    if at.part as usize >= parts.len() {
-        return None;
-    }
-    let program = parts[at.part as usize];
-    match versions.get(program) {
-        Some(v) => callee_in(whole, this, at, program, &v.outline),
+    match version_at(whole, at.part) {
+        Some(program) => callee_of_version(versions, whole, this, at, program),
         None => None,
     }
 }

@@ -1,5 +1,5 @@
 //! Functions of an object, by their names.
-ghost use Rattle.std.specs.Prelude.{◌≡◌, IfOk, IfSome, IsSome, List, None, Option, Some, ℕ};
+ghost use Rattle.std.specs.Prelude.{◌≡◌, IfOk, IfSome, IsSome, List, Option, Some};
 ghost use Rattle.lp_code.specs.declared.program.RawProgram.{RawProgram as Raw};
 ghost use Rattle.lp_isa.specs.Programs.{IsReached};
 ghost use Rattle.lp_language.specs.Resolve.{Found, function_of, heritage_of};
@@ -9,15 +9,13 @@ ghost use Rattle.lp_world.specs.Closed.{IsClosed, IsFunctionThere};
 ghost use Rattle.lp_world.specs.Rows.{row_at};
 ghost use Rattle.lp_world.specs.Stands.{Stands, reached_of};
 ghost use Rattle.lp_world.specs.declared.objects.Object.{Object};
-ghost use Rattle.lp_world.specs.declared.targets.FunAt.{FunAt as F};
 ghost use Rattle.lp_targets.specs.Brought.{Brings, program_at};
-ghost use Rattle.lp_targets.specs.Callees.{AreInText, IsAnswer, IsCalleeThere, IsWorldOf, wanted};
+ghost use Rattle.lp_targets.specs.Callees.{AreInText, IsAnswer, IsCalleeThere, IsKeepable, IsWorldOf, wanted};
 
 use crate::bringing::{bring_program, program_of, version_of};
 use crate::callees::callee_at;
 use crate::rows::wanted;
 use crate::wants::Want;
-use lp_code::program::RawProgram;
 use lp_frames::entry::Callee;
 use lp_residence::answers::EnterFault;
 use lp_swapfile::SwapFile;
@@ -25,7 +23,20 @@ use lp_values::id::{ObjId, ProgId};
 use lp_world::live::Live;
 use lp_world::targets::FunAt;
 
-/// The callee of what was found in an object's program, if something was.
+/// The callee of a function that was found in the program of an object's version.
+fn callee_in_version(live: &Live, version: ProgId, this: ObjId, f: FunAt) -> Option<Callee>
+    ensures there { IfSome result (IsCalleeThere live.now.versions) }
+    ensures function { (whole : Raw) → IsSome result → program_at live.now.versions version ≡ Some whole → IsFunctionThere live.now.versions whole.tables.parts f.part f.fun }
+    ensures is { (told : Option Bytes) (programs : List Raw) (w : World) (o : Object) (whole : Raw) (x : Option Found) → IsWorldOf told programs live.now w → IsClosed live.now → row_at live.now.objects this.0 ≡ Some o → o.program ≡ version
+        → program_at live.now.versions version ≡ Some whole → AreInText (heritage_of w this) x → IsReached (heritage_of w this) x (reached_of (Some f)) → IsAnswer programs w this result x }
+{
+    match program_of(&live.versions, version) {
+        Some(whole) => callee_at(&live.versions, whole.raw(), this, f),
+        None => None,
+    }
+}
+
+/// The callee of what was found in the program of an object's version, if something was.
 pub(crate) fn callee_of(
     live: &Live,
     version: ProgId,
@@ -33,15 +44,12 @@ pub(crate) fn callee_of(
     at: Option<FunAt>,
 ) -> Option<Callee>
     ensures there { IfSome result (IsCalleeThere live.now.versions) }
-    ensures function { (f : F) (whole : Raw) → at ≡ Some f → IsSome result → program_at live.now.versions version ≡ Some whole → IsFunctionThere live.now.versions whole.tables.parts f.part f.fun }
+    ensures function { IsSome result → IsKeepable live.now.versions (program_at live.now.versions version) at }
     ensures is { (told : Option Bytes) (programs : List Raw) (w : World) (o : Object) (whole : Raw) (x : Option Found) → IsWorldOf told programs live.now w → IsClosed live.now → row_at live.now.objects this.0 ≡ Some o → o.program ≡ version
         → program_at live.now.versions version ≡ Some whole → AreInText (heritage_of w this) x → IsReached (heritage_of w this) x (reached_of at) → IsAnswer programs w this result x }
 {
     match at {
-        Some(f) => match program_of(&live.versions, version) {
-            Some(whole) => callee_at(&live.versions, whole.raw(), this, f),
-            None => None,
-        },
+        Some(f) => callee_in_version(live, version, this, f),
         None => None,
     }
 }

@@ -13,4 +13,5 @@ pub mod internal;
 pub mod outside;
 pub mod parents;
 mod rows;
+mod search;
 pub mod wants;

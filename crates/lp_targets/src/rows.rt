@@ -1,7 +1,8 @@
 //! Rows of tables that a name means, and the functions that they reach.
-ghost use Rattle.std.specs.Prelude.{◌≡◌, ◌&&◌, ◌≤◌, IfSome, length};
+ghost use Rattle.std.specs.Prelude.{◌≡◌, ◌&&◌, ◌≤◌, length, slice_get};
 ghost use Rattle.std.specs.Option.{option_copied};
 ghost use Rattle.lp_layout.specs.Layout.{slot_named};
+ghost use Rattle.lp_part_laws.specs.Parts.{reached_in};
 ghost use Rattle.lp_plan_laws.specs.Tables.{reached_by};
 ghost use Rattle.lp_types_expr.specs.Signatures.{has_bit, has_function, is_private_number};
 ghost use Rattle.lp_world.specs.Stands.{reached_of};
@@ -12,13 +13,20 @@ use lp_code::program::RawProgram;
 use lp_code::tables::Slot;
 use lp_world::targets::FunAt;
 
+/// A row of a program's table, by its place.
+pub(crate) fn slot_at(code: &RawProgram, slot: u32) -> Option<&Slot>
+    ensures { option_copied result ≡ slice_get code.now.tables.slots slot }
+{
+    code.tables.slots.as_slice().get(slot as usize)
+}
+
 /// The row of a name in a program's tables, found by their map.
-pub(crate) fn row_named(whole: &RawProgram, name: &str) -> Option<&Slot>
+pub(crate) fn row_named<'a>(whole: &'a RawProgram, name: &str) -> Option<&'a Slot>
     requires { length whole.now.tables.slots ≤ 65535 }
     ensures { option_copied result ≡ slot_named whole.now.tables.slots name.now }
 {
     match whole.tables.slot(name) {
-        Some(k) => Some(&whole.tables.slots.as_slice()[k as usize]),
+        Some(k) => slot_at(whole, k as u32),
         None => None,
     }
 }
@@ -76,6 +84,17 @@ pub(crate) fn wanted(whole: &RawProgram, name: &str, want: Want) -> Option<FunAt
 {
     match row_named(whole, name) {
         Some(slot) => wanted_row(slot, want),
+        None => None,
+    }
+}
+
+/// The function that a name reaches in a program.
+pub(crate) fn named(whole: &RawProgram, name: &str) -> Option<FunAt>
+    requires { length whole.now.tables.slots ≤ 65535 }
+    ensures { reached_of result ≡ reached_in (slot_named whole.now.tables.slots name.now) }
+{
+    match row_named(whole, name) {
+        Some(slot) => reached(slot),
         None => None,
     }
 }
