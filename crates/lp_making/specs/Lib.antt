@@ -1,0 +1,5 @@
+pub mod Trees
+pub mod Versions
+pub mod Entries
+pub mod Objects
+pub mod Reloads
