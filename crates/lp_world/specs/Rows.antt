@@ -113,3 +113,8 @@ object_aged time (Some o) = Some (record o { latest = time })
 abbrev pub version_aged : ℕ → Option Version → Option Version
 version_aged time None = None
 version_aged time (Some v) = Some (record v { latest = time })
+
+-- the row of an object that is living, or no longer so
+abbrev pub object_animated : Bool → Option Object → Option Object
+object_animated is_living None = None
+object_animated is_living (Some o) = Some (record o { is_living = is_living })

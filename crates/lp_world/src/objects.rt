@@ -4,7 +4,7 @@ ghost use Rattle.std.specs.Option.{option_copied};
 ghost use Rattle.lp_values.specs.declared.value.Value.{Value as V};
 ghost use Rattle.lp_world.specs.declared.objects.Object.{Object as O};
 ghost use Rattle.lp_world.specs.Additions.{new_object};
-ghost use Rattle.lp_world.specs.Rows.{HasPlace, IsWritten, is_live_row, is_out_row, live_in, object_aged, row_after_death, row_at, row_with_state, state_in, variables_at, variables_in, variables_of, with_value};
+ghost use Rattle.lp_world.specs.Rows.{HasPlace, IsWritten, is_live_row, is_out_row, live_in, object_aged, object_animated, row_after_death, row_at, row_with_state, state_in, variables_at, variables_in, variables_of, with_value};
 
 use crate::serials::Serials;
 use lp_cells::content::Items;
@@ -128,6 +128,15 @@ fn age_row(row: &mut Option<Object>, latest: u64)
     }
 }
 
+/// Notes whether the object of a row that is there is living.
+fn animate_row(row: &mut Option<Object>, is_living: bool)
+    ensures { row.new ≡ object_animated is_living row.old }
+{
+    if let Some(o) = row {
+        o.is_living = is_living;
+    }
+}
+
 /// Whether an object is out.
 fn is_out(row: &Option<Object>) -> bool
     ensures { result ≡ is_out_row row.now }
@@ -190,6 +199,14 @@ impl ObjectTable {
         ensures { self.new ≡ slice_set self.old id.0 (object_aged latest (row_at self.old id.0)) }
     {
         age_row(&mut self.rows[id.0 as usize], latest);
+    }
+
+    /// Makes an object living, or no longer so. Nothing else changes. Takes no memory.
+    pub fn set_living(&mut self, id: ObjId, is_living: bool)
+        requires { IsSome (row_at self.old id.0) }
+        ensures { self.new ≡ slice_set self.old id.0 (object_animated is_living (row_at self.old id.0)) }
+    {
+        animate_row(&mut self.rows[id.0 as usize], is_living);
     }
 
     /// How many serials were given out. Takes no memory.

@@ -1,0 +1,53 @@
+-- What the state still stands for where a part of it changes that is neither objects, versions nor cells, and the same part of
+-- the world.
+use Rattle.std.proofs.Common.{◌≡◌, ℕ}
+use Rattle.lp_language.specs.Course.{State}
+use Rattle.lp_language.specs.Operations.{with_world}
+use Rattle.lp_meaning.specs.WorldEfuns.{with_generator}
+use Rattle.lp_world.specs.Closed.{IsClosed}
+use Rattle.lp_world.specs.declared.live.Live.{Live}
+use Rattle.lp_efuns.specs.declared.caller.Turn.{Turn}
+use Rattle.lp_efuns.specs.Turns.{At, Setting}
+
+-- the word of the generator
+pub at_generator : (g : Setting) (live : Live) (turn : Turn) (b : ℕ) (s : State) (k j : ℕ) → k ≡ j → At g live turn b s → At g (record live { generator = k }) turn b (with_world s (with_generator s.world j))
+at_generator g live turn b s k j e h = record {
+  stands = record {
+    cells = h.stands.cells;
+    objects = h.stands.objects;
+    names = h.stands.names;
+    versions = h.stands.versions;
+    kept = h.stands.kept;
+    rest = record {
+      files = h.stands.rest.files;
+      simul = h.stands.rest.simul;
+      places = h.stands.rest.places;
+      sentences = h.stands.rest.sentences;
+      next_sentence = h.stands.rest.next_sentence;
+      timing = h.stands.rest.timing;
+      connections = h.stands.rest.connections;
+      highest = h.stands.rest.highest;
+      present = h.stands.rest.present;
+      waiting = h.stands.rest.waiting;
+      clock = h.stands.rest.clock;
+      generator = e;
+      next_clone = h.stands.rest.next_clone;
+    };
+  };
+  left = h.left;
+  outputs = h.outputs;
+  player = h.player;
+  commands = h.commands;
+}
+
+pub closed_generator : (live : Live) (k : ℕ) → IsClosed live → IsClosed (record live { generator = k })
+closed_generator live k h = record {
+  clock = h.clock;
+  cells = h.cells;
+  objects = h.objects;
+  apart = h.apart;
+  versions = h.versions;
+  call_outs = h.call_outs;
+  waiting = h.waiting;
+  room = h.room;
+}

@@ -1,0 +1,13 @@
+//! The efuns that call no LPC, on the live state: those that compute, and those that look at the world or
+//! change it.
+#![tactic(auto)]
+
+pub mod answer;
+mod arguments;
+pub mod caller;
+mod carrying;
+mod changes;
+mod computed;
+mod known;
+mod looks;
+pub mod plain;
