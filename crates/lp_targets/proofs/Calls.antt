@@ -24,7 +24,7 @@ fit_row h p k s f e = subst (λ t. slot_named t.slots s.name ≡ Some s) f.own.o
 fit_hidden : (h : Heritage) (p : RawProgram) (s : Slot) → FitsVersion h p → IsRowOfItsName p s → is_hidden (resolve h s.name) ≡ (has_function s && is_private_number s.mods)
 fit_hidden h p s f e = table_hidden h s.name s f.own.numbered (subst (λ t. slot_named t.slots s.name ≡ Some s) (sym f.own.own) e)
 
-own_reached : (h : Heritage) (p : RawProgram) (s : Slot) → FitsVersion h p → IsRowOfItsName p s → IsReached h (resolve h s.name) (reached_by s)
+pub own_reached : (h : Heritage) (p : RawProgram) (s : Slot) → FitsVersion h p → IsRowOfItsName p s → IsReached h (resolve h s.name) (reached_by s)
 own_reached h p s f e = subst (λ o. IsReached h (resolve h s.name) (reached_in o)) e (fit_reached h p s.name f)
 
 pub hidden_reached : (h : Heritage) (part : ℕ) (place : Part) (code : RawProgram) (s : Slot) → part_at h part ≡ Some place → FitsVersion place.tree code → IsRowOfItsName code s → (has_function s && is_private_number s.mods) ≡ true

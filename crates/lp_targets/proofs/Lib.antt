@@ -1,4 +1,5 @@
 pub mod Calls
+pub mod Inherited
 pub mod Kept
 pub mod Lookups
 pub mod Memory

@@ -74,7 +74,7 @@ some_row : (o : Option Version) → IsSome o → (v : Version) × (o ≡ Some v)
 some_row None h = absurd cc
 some_row (Some v) h = (v, refl)
 
-passes : (told : Option Bytes) (programs : List RawProgram) (live : Live) (w : World) → Stands told programs live w → IsClosed live
+pub passes : (told : Option Bytes) (programs : List RawProgram) (live : Live) (w : World) → Stands told programs live w → IsClosed live
     → (v : ProgId) → IsSome (row_at live.versions v.0) → All (λ (p : ProgId). IsSome (row_at live.versions p.0)) (version_at (bare w.versions) v).parents
 passes told programs live w h c v s =
     let r = some_row (row_at live.versions v.0) s in

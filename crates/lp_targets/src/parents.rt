@@ -7,6 +7,8 @@ ghost use Rattle.lp_inherit.specs.Heirs.{tables};
 ghost use Rattle.lp_instr.specs.Code.{parent_row};
 ghost use Rattle.lp_language.specs.Resolve.{heritage_of, of_parent_from, parents_of, part_at};
 ghost use Rattle.lp_language.specs.World.{World};
+ghost use Rattle.lp_isa.specs.Programs.{Reached};
+ghost use Rattle.lp_part_laws.specs.Parts.{moved_reached};
 ghost use Rattle.lp_part_laws.specs.Versions.{rows_of};
 ghost use Rattle.lp_plan_laws.specs.Tables.{reached_by};
 ghost use Rattle.lp_swapfile.specs.Device.{Bytes};
@@ -147,5 +149,115 @@ fn parent_number(versions: &VersionTable, code: &RawProgram, parent: u32) -> Opt
             }
         }
         None => None,
+    }
+}
+
+/// What a call of a parent's row reaches in the whole program, where the parent's program is in memory.
+fn parent_at(
+    live: &Live,
+    part: u16,
+    code: &RawProgram,
+    parent: u32,
+    number: ProgId,
+    slot: u32,
+) -> Option<FunAt>
+    requires { parent ≤ length code.now.tables.parents }
+    ensures { (first : ℕ) (q : Raw) (s : S) → program_at live.now.versions number ≡ Some q → slice_get q.tables.slots slot ≡ Some s → first + length code.now.tables.parts ≡ part + 1
+        → ((r : Reached) → reached_by s ≡ Some r → first + (parts_together live.now.versions (take parent code.now.tables.parents) + r.part) ≤ 65535)
+        → reached_of result ≡ moved_reached first (moved_reached (parts_together live.now.versions (take parent code.now.tables.parents)) (reached_by s)) }
+{
+    match version_row(&live.versions, number, slot) {
+        Some(at) => parent_moved(&live.versions, part, code, parent, at),
+        None => None,
+    }
+}
+
+/// Where a call of a parent's row leads, where the programs of the object's version and of the parent are in memory.
+fn parent_in(
+    live: &Live,
+    this: ObjId,
+    version: ProgId,
+    part: u16,
+    code: &RawProgram,
+    parent: u32,
+    number: ProgId,
+    slot: u32,
+) -> Option<Callee>
+    requires { parent ≤ length code.now.tables.parents }
+    ensures there { IfSome result (IsCalleeThere live.now.versions) }
+    ensures found { (told : Option Bytes) (programs : List Raw) (w : World) (o : Object) (name : List ℕ) → IsWorldOf told programs live.now w → IsClosed live.now → row_at live.now.objects this.0 ≡ Some o → o.program ≡ version
+        → IsSome (program_at live.now.versions version) → IsSome (program_at live.now.versions number) → slice_get code.now.tables.parents parent ≡ Some number
+        → (who : IsCaller programs w this part code.now) → parent_row (code_of code.now (rows_of (tables (parents_of who.place.tree)))) parent slot ≡ Some name
+        → IsAnswer programs w this result (of_parent_from (part_at (heritage_of w this) part) parent name) }
+{
+    let at = parent_at(live, part, code, parent, number, slot);
+    callee_of(live, version, this, at)
+}
+
+/// Brings a parent's program into memory, and finds where a call of its row leads.
+fn parent_brought<W: SwapFile>(
+    live: &mut Live,
+    swap: &mut W,
+    this: ObjId,
+    version: ProgId,
+    part: u16,
+    code: &RawProgram,
+    parent: u32,
+    number: ProgId,
+    slot: u32,
+) -> Result<Option<Callee>, EnterFault>
+    requires closed { IsClosed live.old }
+    requires there { IsSome (row_at live.old.versions number.0) }
+    requires here { IsSome (program_at live.old.versions version) }
+    requires inside { parent ≤ length code.now.tables.parents }
+    ensures brings { Brings (W.content swap.old) (W.content swap.new) (W.last swap.new) (W.read_faults swap.old) (W.read_faults swap.new) (W.write_faults swap.old) (W.write_faults swap.new)
+        (W.is_truthful swap.old) (W.is_truthful swap.new) (W.is_honest swap.old) (W.is_honest swap.new) live.old live.new result }
+    ensures closed { IsClosed live.new }
+    ensures there { IfOk result (λ o. IfSome o (IsCalleeThere live.new.versions)) }
+    ensures stands { W.is_truthful swap.new → (programs : List Raw) (w : World) → Stands (W.content swap.old) programs live.old w → Stands (W.content swap.new) programs live.new w }
+    ensures found { W.is_truthful swap.new → (programs : List Raw) (w : World) (o : Object) (name : List ℕ) → IsWorldOf (W.content swap.old) programs live.old w → row_at live.old.objects this.0 ≡ Some o → o.program ≡ version
+        → slice_get code.now.tables.parents parent ≡ Some number → (who : IsCaller programs w this part code.now) → parent_row (code_of code.now (rows_of (tables (parents_of who.place.tree)))) parent slot ≡ Some name
+        → IfOk result (λ r. IsAnswer programs w this r (of_parent_from (part_at (heritage_of w this) part) parent name)) }
+{
+    match bring_program(live, swap, number) {
+        Ok(()) => Ok(parent_in(live, this, version, part, code, parent, number, slot)),
+        Err(e) => Err(e),
+    }
+}
+
+/// Where a call of a parent's function leads: by a row of the table of a parent of the program in whose text the calling
+/// function stands. The programs of the object's version and of the parent come into memory for it, in this order.
+///
+/// # Errors
+/// Those of the reads of these programs.
+pub fn parent_target<W: SwapFile>(
+    live: &mut Live,
+    swap: &mut W,
+    this: ObjId,
+    part: u16,
+    code: &SharedProgram,
+    parent: u32,
+    slot: u32,
+) -> Result<Option<Callee>, EnterFault>
+    requires closed { IsClosed live.old }
+    requires there { IsSome (row_at live.old.objects this.0) }
+    ensures brings { Brings (W.content swap.old) (W.content swap.new) (W.last swap.new) (W.read_faults swap.old) (W.read_faults swap.new) (W.write_faults swap.old) (W.write_faults swap.new)
+        (W.is_truthful swap.old) (W.is_truthful swap.new) (W.is_honest swap.old) (W.is_honest swap.new) live.old live.new result }
+    ensures closed { IsClosed live.new }
+    ensures there { IfOk result (λ o. IfSome o (IsCalleeThere live.new.versions)) }
+    ensures stands { W.is_truthful swap.new → (programs : List Raw) (w : World) → Stands (W.content swap.old) programs live.old w → Stands (W.content swap.new) programs live.new w }
+    ensures found { W.is_truthful swap.new → (programs : List Raw) (w : World) (name : List ℕ) → IsWorldOf (W.content swap.old) programs live.old w → (who : IsCaller programs w this part code.now)
+        → parent_row (code_of code.now (rows_of (tables (parents_of who.place.tree)))) parent slot ≡ Some name
+        → IfOk result (λ o. IsAnswer programs w this o (of_parent_from (part_at (heritage_of w this) part) parent name)) }
+{
+    let version = version_of(live, this);
+    match bring_program(live, swap, version) {
+        Ok(()) => match parent_number(&live.versions, code.raw(), parent) {
+            Some(number) => {
+                parent_brought(live, swap, this, version, part, code.raw(), parent, number, slot)
+            }
+            None => Ok(None),
+        },
+        Err(e) => Err(e),
     }
 }
