@@ -77,12 +77,12 @@ step_on programs w seeker ob s at next name r e n h k =
 
 live_shadow : (P : ObjId → Type 0) (p : Shadowing → Bool) (xs : List Shadowing) (k : ℕ) (s : ObjId) → All (λ (x : Shadowing). P x.shadow) xs → slice_get (map (λ (x : Shadowing). x.shadow) (filter p xs)) k ≡ Some s → P s
 live_shadow P p [] k s h e = absurd cc
-live_shadow P p (x ∷ xs) k s h e = by (p x) k e
+live_shadow P p (x ∷ xs) k s h e = by (λ k e. live_shadow P p xs k s (All-tail (λ (x : Shadowing). P x.shadow) x xs h) e) (p x) k e
   where
-    by : (b : Bool) (k : ℕ) → slice_get (map (λ (x : Shadowing). x.shadow) (if b then x ∷ filter p xs else filter p xs)) k ≡ Some s → P s
-    by true zero e = let q : x.shadow ≡ s = cc in subst P q (All-head (λ (x : Shadowing). P x.shadow) x xs h)
-    by true (suc k) e = live_shadow P p xs k s (All-tail (λ (x : Shadowing). P x.shadow) x xs h) e
-    by false k e = live_shadow P p xs k s (All-tail (λ (x : Shadowing). P x.shadow) x xs h) e
+    by : ((k : ℕ) → slice_get (map (λ (x : Shadowing). x.shadow) (filter p xs)) k ≡ Some s → P s) → (b : Bool) (k : ℕ) → slice_get (map (λ (x : Shadowing). x.shadow) (if b then x ∷ filter p xs else filter p xs)) k ≡ Some s → P s
+    by ih true zero e = let q : x.shadow ≡ s = cc in subst P q (All-head (λ (x : Shadowing). P x.shadow) x xs h)
+    by ih true (suc k) e = ih k e
+    by ih false k e = ih k e
 
 row_of_live : (told : Option Bytes) (part whole : Store) (n : ℕ) (r : Option (Option Object)) (x : Option world.Object) → ObjectIs told part whole n r x → (unwrap_or x no_object).is_live ≡ true → IsSome (unwrap_or r None)
 row_of_live told part whole n None None h e = absurd cc
@@ -125,7 +125,44 @@ pub record Begins (c : ObjId) (n : ℕ) (os ys : List ObjId) (any : Bool) : Type
 
 pub begins_at : (c : ObjId) (n : ℕ) (os ys : List ObjId) → Begins c n os ys (list_any (is_object c) os)
 begins_at c n [] ys = record { yes_there = λ e. absurd cc; not_there = λ e. refl }
-begins_at c n (x ∷ os) ys = by (is_object c x) (is_object x c) (either_way c x) (list_any (is_object c) os) (begins_at c (suc n) os ys)
+begins_at c n (x ∷ os) ys = by (begins_at c (suc n) os ys) (is_object c x) (is_object x c) refl refl (either_way c x)
   where
-    by : (a b : Bool) → a ≡ b → (any : Bool) → Begins c (suc n) os ys any → Begins c n (x ∷ os) ys (a || any)
-    by = ?
+    any : Bool
+    any = list_any (is_object c) os
+
+    by : Begins c (suc n) os ys any → (a b : Bool) → is_object c x ≡ a → is_object x c ≡ b → is_object c x ≡ is_object x c → Begins c n (x ∷ os) ys (is_object c x || any)
+    by ih a true p q r = record {
+      yes_there = λ e. (1, (let z : suc n ≡ n + 1 = omega arith in ap (λ z. if z then suc n else found_at (suc n) os c) q ∙ z), (let z : 1 ≤ length (x ∷ os) = omega arith in z),
+        ap (λ z. if z then os ++ ys else behind c (os ++ ys)) (sym q));
+      not_there = λ e. let f : true ≡ false = ap (λ z. z || any) (sym (r ∙ q)) ∙ e in absurd cc;
+    }
+    by ih a false p q r = record {
+      yes_there = λ e.
+          let k = ih.yes_there (ap (λ z. z || any) (sym (r ∙ q)) ∙ e) in
+          (suc k.0, (let z = k.1 in let y : suc n + k.0 ≡ n + suc k.0 = omega arith in ap (λ z. if z then suc n else found_at (suc n) os c) q ∙ z ∙ y), (let z = k.2 in let y : suc k.0 ≤ length (x ∷ os) = omega (arith, z) in y),
+            k.3 ∙ ap (λ z. if z then os ++ ys else behind c (os ++ ys)) (sym q));
+      not_there = λ e. ap (λ z. if z then suc n else found_at (suc n) os c) q ∙ ih.not_there (ap (λ z. z || any) (sym (r ∙ q)) ∙ e);
+    }
+
+-- A search begins where the meaning has it begin.
+pub record Starts (w : World) (c o : ObjId) : Type 0 where
+  pub inside : found_at 0 (shadows_of w.shadows o) c ≤ length (shadows_of w.shadows o)
+  pub is : drop (found_at 0 (shadows_of w.shadows o) c) (chain_of w o) ≡ searched w c o
+
+pub starts : (w : World) (c o : ObjId) → Starts w c o
+starts w c o = by (list_any (is_object c) (shadows_of w.shadows o)) refl (begins_at c 0 (shadows_of w.shadows o) (o ∷ []))
+  where
+    by : (b : Bool) → list_any (is_object c) (shadows_of w.shadows o) ≡ b → Begins c 0 (shadows_of w.shadows o) (o ∷ []) (list_any (is_object c) (shadows_of w.shadows o)) → Starts w c o
+    by true e h =
+        let k = h.yes_there e in
+        let z : found_at 0 (shadows_of w.shadows o) c ≡ k.0 = let y = k.1 in omega (arith, y) in
+        record {
+          inside = let l = k.2 in omega (arith, z, l);
+          is = ap (λ n. drop n (chain_of w o)) z ∙ k.3 ∙ ap (λ b. if b then behind c (chain_of w o) else chain_of w o) (sym e);
+        }
+    by false e h =
+        let z : found_at 0 (shadows_of w.shadows o) c ≡ 0 = h.not_there e in
+        record {
+          inside = omega (arith, z);
+          is = ap (λ n. drop n (chain_of w o)) z ∙ ap (λ b. if b then behind c (chain_of w o) else chain_of w o) (sym e);
+        }

@@ -20,17 +20,21 @@ use lp_swapfile::SwapFile;
 use lp_values::id::ObjId;
 use lp_world::live::Live;
 
-/// The place behind an object in a list, or 0 where it is not there.
-fn place_behind(shadows: &[ObjId], caller: ObjId) -> usize
-    ensures is { result ≡ found_at 0 shadows.now caller }
-    ensures inside { result ≤ length shadows.now }
+/// The place behind an object in a list whose first item has a place, or 0 where it is not there.
+fn place_behind(shadows: &[ObjId], caller: ObjId, first: usize) -> usize
+    requires { first + length shadows.now < 2 ^ 64 }
+    ensures { result ≡ found_at first shadows.now caller }
 {
-    for (i, s) in shadows.iter().enumerate() {
-        if *s == caller {
-            return i + 1;
+    match shadows {
+        [s, rest @ ..] => {
+            if *s == caller {
+                first + 1
+            } else {
+                place_behind(rest, caller, first + 1)
+            }
         }
+        [] => 0,
     }
-    0
 }
 
 /// A shadow of an object that is there, by its place in the chain.
@@ -118,5 +122,5 @@ pub(crate) fn search_all<W: SwapFile>(
 pub(crate) fn start_of(live: &Live, caller: ObjId, ob: ObjId) -> usize
     ensures { (lyings : List Lying) (shadows : List Shadowing) → places.Stands live.now.places lyings shadows → result ≡ found_at 0 (shadows_of shadows ob) caller }
 {
-    place_behind(live.places.shadows(ob), caller)
+    place_behind(live.places.shadows(ob), caller, 0)
 }
