@@ -1,5 +1,5 @@
 -- Where calls of parents' functions lead.
-use Rattle.std.proofs.Common.{◌≡◌, ◌∙◌, ◌≤◌, ◌<◌, ℕ, zero, suc, arith, List, [], ◌∷◌, Option, Some, None, IsSome, All, refl, ap, sym, subst, slice_get, unwrap_or, length, map, take, option_map}
+use Rattle.std.proofs.Common.{◌≡◌, ◌∙◌, ◌<◌, ℕ, zero, suc, arith, List, [], ◌∷◌, Option, Some, None, IsSome, All, refl, ap, sym, subst, slice_get, length, take, option_map}
 use Rattle.std.proofs.lemmas.List.Elements.{All-head, All-tail, All-weaker}
 use Rattle.std.specs.Prelude.{◌+◌}
 use Rattle.lp_values.specs.declared.id.ObjId.{ObjId}
@@ -22,12 +22,10 @@ use Rattle.lp_world.specs.declared.live.Live.{Live}
 use Rattle.lp_world.specs.declared.objects.Object.{Object}
 use Rattle.lp_world.specs.declared.versions.Version.{Version}
 use Rattle.lp_world.specs.Rows.{row_at}
-use Rattle.lp_world.specs.Stands.{Stands}
 use Rattle.lp_residence.proofs.RowChanges.{row_there}
-use Rattle.lp_part_laws.specs.Versions.{AreCompiled, AreRising, FitsVersion, heritage_in, rows_of}
+use Rattle.lp_part_laws.specs.Versions.{AreRising, FitsVersion, heritage_in, rows_of}
 use Rattle.lp_part_laws.specs.Parts.{moved_reached}
 use Rattle.lp_part_laws.proofs.Lists.{got_map, one_value}
-use Rattle.lp_part_laws.proofs.Places.{part_inside, shifted}
 use Rattle.lp_part_laws.proofs.Rows.{inside_parent, inside_part, reached_inside}
 use Rattle.lp_part_laws.proofs.Texts.{parent_in_text}
 use Rattle.lp_part_laws.proofs.Trees.{bare, parent_at, parent_part, parents_settled, part_keeps, part_settled, parts_until, version_settled}
@@ -134,9 +132,9 @@ of_parent_is told programs live w o part code whole j n first before s q k who w
     let r1 = reached_inside place.tree p.part.tree p.part.first x0 (reached_by s) (inside_parent place.tree j p.part p.at) (own_reached p.part.tree q s qf (fit_row p.part.tree q k s qf e)) in
     let r2 = reached_inside h place.tree place.first (moved p.part.first x0) (moved_reached p.part.first (reached_by s)) (inside_part h part place who.at) r1 in
     let found : of_parent_from (part_at h part) j s.name ≡ moved place.first (moved p.part.first x0) =
-      ap (λ z. of_parent_from z j s.name) who.at ∙ ap (λ z. moved place.first (resolve_in z s.name)) p.at in
+    ap (λ z. of_parent_from z j s.name) who.at ∙ ap (λ z. moved place.first (resolve_in z s.name)) p.at in
     let there : IsReached h (of_parent_from (part_at h part) j s.name) (moved_reached place.first (moved_reached p.part.first (reached_by s))) =
-      subst (λ z. IsReached h z (moved_reached place.first (moved_reached p.part.first (reached_by s)))) (sym found) r2 in
+    subst (λ z. IsReached h z (moved_reached place.first (moved_reached p.part.first (reached_by s)))) (sym found) r2 in
     record {
       reached = subst (λ z. IsReached h (of_parent_from (part_at h part) j s.name) (moved_reached first (moved_reached z (reached_by s)))) t
           (subst (λ z. IsReached h (of_parent_from (part_at h part) j s.name) (moved_reached first (moved_reached z (reached_by s)))) (sym b)
@@ -169,7 +167,7 @@ calls_parent told programs live w o x version part code whole j k name first h c
     let p = parent_is w.versions t j n.0 h.compiled.rising settled (ap (λ (z : WorldVersion). slice_get z.parents j) (ap version_of settled ∙ version_settled w.versions (number_of t)) ∙ n.1) in
     let same : table p.part.tree ≡ rt.0 = one_value (slice_get (tables (parents_of t)) j) (table p.part.tree) rt.0 (named_table (parents_of t) 0 j p.part p.at) rt.1 in
     let until = together_until live.versions (heritage_in w.versions) parents j
-        (All-weaker (λ (u : ProgId). IsSome (row_at live.versions u.0)) (λ (u : ProgId). parts_in (row_at live.versions u.0) ≡ part_count (heritage_in w.versions u)) (λ u s. counted told programs live w u h s) parents rows) in
+    (All-weaker (λ (u : ProgId). IsSome (row_at live.versions u.0)) (λ (u : ProgId). parts_in (row_at live.versions u.0) ≡ part_count (heritage_in w.versions u)) (λ u s. counted told programs live w u h s) parents rows) in
     let before : p.part.first ≡ parts_together live.versions (take j code.tables.parents) = p.first ∙ sym until ∙ ap (λ z. parts_together live.versions (take j z)) (sym listed) in
     let begin : first ≡ who.place.first = let z = part_end (heritage_of w o) part who.place code who.at cf in omega (arith, z, end) in
     record {
@@ -178,7 +176,10 @@ calls_parent told programs live w o x version part code whole j k name first h c
       there = all_at (λ (u : ProgId). IsSome (row_at live.versions u.0)) parents j n.0 rows n.1;
       calls = λ q is.
           let qf : FitsVersion p.part.tree q = subst (λ z. FitsVersion z q) (sym p.tree) (h.compiled.fit n.0.0 q is) in
-          let i = got_map (λ (s : Slot). s.name) q.tables.slots k name (subst (λ (z : Tables). slice_get (row_names z.slots) k ≡ Some name) (sym same ∙ qf.own.own) rt.2) in
-          (i.of, i.there, subst (λ m. OfParent programs live w o part code j n.0 m first i.of) i.is
-              (of_parent_is told programs live w o part code whole j n.0 first p.part.first i.of q k who wf cf p qf i.there refl begin before));
+          let i = got_map (λ (s : Slot). s.name) q.tables.slots k name (subst (λ (z : Tables). slice_get (row_names z.slots) k ≡ Some name) (sym same ∙ qf.own.own) rt.2) in (
+            i.of,
+            i.there,
+            subst (λ m. OfParent programs live w o part code j n.0 m first i.of) i.is
+                (of_parent_is told programs live w o part code whole j n.0 first p.part.first i.of q k who wf cf p qf i.there refl begin before),
+          );
     }

@@ -1,5 +1,5 @@
 -- Look-ups in tables.
-use Rattle.std.proofs.Common.{◌≡◌, ◌∙◌, ◌⊎◌, ◌≤◌, ◌<◌, ℕ, zero, suc, arith, Bool, true, false, ltb, List, [], ◌∷◌, Option, Some, None, IfSome, IsSome, IfOk, Result, Ok, Err, refl, ap, sym, subst, inl, inr, slice_get, length}
+use Rattle.std.proofs.Common.{◌≡◌, ◌∙◌, ◌⊎◌, ◌≤◌, ◌<◌, ℕ, zero, suc, arith, true, false, ltb, List, [], ◌∷◌, Option, Some, None, IfSome, IsSome, IfOk, Result, Ok, Err, ap, sym, subst, inl, inr, slice_get, length}
 use Rattle.std.specs.Prelude.{slice_index_or}
 use Rattle.std.specs.List.Sorted.{IsPartitionPoint, IsPartitionedBy}
 use Rattle.std.proofs.lemmas.Bool.Decides.{Decides-ltb}

@@ -1,5 +1,5 @@
 -- Searches through chains of shadows.
-use Rattle.std.proofs.Common.{◌≡◌, ◌∙◌, ◌≤◌, ◌<◌, ℕ, zero, suc, arith, Bool, true, false, ◌||◌, nat_eq, List, [], ◌∷◌, ◌++◌, Option, Some, None, IsSome, All, refl, ap, sym, subst, slice_get, unwrap_or, length, length-append, drop, map}
+use Rattle.std.proofs.Common.{◌≡◌, ◌∙◌, ◌≤◌, ◌<◌, ℕ, zero, suc, arith, Bool, true, false, ◌||◌, nat_eq, List, [], ◌∷◌, ◌++◌, Option, Some, None, IsSome, All, refl, ap, sym, subst, slice_get, unwrap_or, length, drop, map}
 use Rattle.std.specs.Prelude.{◌+◌, filter, if◌then◌else◌}
 use Rattle.std.specs.List.{list_any}
 use Rattle.std.proofs.lemmas.Bool.Decides.{Decides-eqb}
@@ -132,15 +132,22 @@ begins_at c n (x ∷ os) ys = by (begins_at c (suc n) os ys) (is_object c x) (is
 
     by : Begins c (suc n) os ys any → (a b : Bool) → is_object c x ≡ a → is_object x c ≡ b → is_object c x ≡ is_object x c → Begins c n (x ∷ os) ys (is_object c x || any)
     by ih a true p q r = record {
-      yes_there = λ e. (1, (let z : suc n ≡ n + 1 = omega arith in ap (λ z. if z then suc n else found_at (suc n) os c) q ∙ z), (let z : 1 ≤ length (x ∷ os) = omega arith in z),
-        ap (λ z. if z then os ++ ys else behind c (os ++ ys)) (sym q));
+      yes_there = λ e. (
+        1,
+        (let z : suc n ≡ n + 1 = omega arith in ap (λ z. if z then suc n else found_at (suc n) os c) q ∙ z),
+        (let z : 1 ≤ length (x ∷ os) = omega arith in z),
+        ap (λ z. if z then os ++ ys else behind c (os ++ ys)) (sym q),
+      );
       not_there = λ e. let f : true ≡ false = ap (λ z. z || any) (sym (r ∙ q)) ∙ e in absurd cc;
     }
     by ih a false p q r = record {
       yes_there = λ e.
-          let k = ih.yes_there (ap (λ z. z || any) (sym (r ∙ q)) ∙ e) in
-          (suc k.0, (let z = k.1 in let y : suc n + k.0 ≡ n + suc k.0 = omega arith in ap (λ z. if z then suc n else found_at (suc n) os c) q ∙ z ∙ y), (let z = k.2 in let y : suc k.0 ≤ length (x ∷ os) = omega (arith, z) in y),
-            k.3 ∙ ap (λ z. if z then os ++ ys else behind c (os ++ ys)) (sym q));
+          let k = ih.yes_there (ap (λ z. z || any) (sym (r ∙ q)) ∙ e) in (
+            suc k.0,
+            (let z = k.1 in let y : suc n + k.0 ≡ n + suc k.0 = omega arith in ap (λ z. if z then suc n else found_at (suc n) os c) q ∙ z ∙ y),
+            (let z = k.2 in let y : suc k.0 ≤ length (x ∷ os) = omega (arith, z) in y),
+            k.3 ∙ ap (λ z. if z then os ++ ys else behind c (os ++ ys)) (sym q),
+          );
       not_there = λ e. ap (λ z. if z then suc n else found_at (suc n) os c) q ∙ ih.not_there (ap (λ z. z || any) (sym (r ∙ q)) ∙ e);
     }
 

@@ -1,5 +1,5 @@
 -- Which function a call reaches, as a callee.
-use Rattle.std.specs.Prelude.{Bool, suc, not, ◌&&◌, ◌||◌, [], ◌∷◌, ◌≡◌, ℕ, ◌+◌, ◌<◌, ⊤, true, List, map, Option, Some, None, All, slice_get, length, if◌then◌else◌}
+use Rattle.std.specs.Prelude.{Bool, suc, not, ◌&&◌, ◌||◌, [], ◌∷◌, ◌≡◌, ℕ, ◌+◌, ◌<◌, ⊤, true, List, Option, Some, None, All, slice_get, length, if◌then◌else◌}
 use Rattle.lp_values.specs.declared.id.ObjId.{ObjId}
 use Rattle.lp_values.specs.declared.id.ProgId.{ProgId}
 use Rattle.lp_code.specs.declared.program.RawProgram.{RawProgram}

@@ -254,7 +254,17 @@ pub fn parent_target<W: SwapFile>(
     match bring_program(live, swap, version) {
         Ok(()) => match parent_number(&live.versions, code.raw(), parent) {
             Some(number) => {
-                parent_brought(live, swap, this, version, part, code.raw(), parent, number, slot)
+                parent_brought(
+                    live,
+                    swap,
+                    this,
+                    version,
+                    part,
+                    code.raw(),
+                    parent,
+                    number,
+                    slot,
+                )
             }
             None => Ok(None),
         },

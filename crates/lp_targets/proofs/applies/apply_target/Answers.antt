@@ -2,7 +2,7 @@ use Rattle.std.proofs.Common.{◌≡◌, ◌∙◌, ap, sym, subst, true, false}
 use Rattle.std.specs.Prelude.{IfOk, if◌then◌else◌}
 use Rattle.lp_language.specs.Resolve.{chain_of, first_with, function_of, target_here}
 use Rattle.lp_meaning.specs.FunctionCalls.{goes_to_shadows}
-use Rattle.lp_targets.specs.Callees.{IsTargetAnswer, applied}
+use Rattle.lp_targets.specs.Callees.{IsTargetAnswer}
 use Rattle.lp_targets.proofs.Lookups.{if_ok}
 use Rattle.lp_targets.proofs.Shadows.{answer_here, as_with}
 use Rattle.lp_targets.proofs.applies.apply_target.Goals as goal

@@ -1,6 +1,5 @@
-use Rattle.std.proofs.Common.{◌≡◌, ◌∙◌, ◌+◌, ℕ, Option, Some, None, arith, ap, refl, sym, subst}
+use Rattle.std.proofs.Common.{◌≡◌, ◌∙◌, ◌+◌, Option, Some, arith, ap, refl, sym, subst}
 use Rattle.std.specs.Prelude.{slice_get}
-use Rattle.lp_values.specs.declared.id.ObjId.{ObjId}
 use Rattle.lp_language.specs.Resolve.{function_of}
 use Rattle.lp_places.specs.Places.{shadows_of}
 use Rattle.lp_frames.specs.declared.entry.Callee.{Callee}
@@ -13,7 +12,7 @@ use Rattle.lp_targets.proofs.chains.+search_from.Goals as goal
 pub returns-then-left-eq0-clause-found : goal.returns-then-left-eq0-clause-found
 returns-then-left-eq0-clause-found g t c = λ x programs w h e.
     if_ok c.function_in.result (λ r i. last_right programs w c.args.seeker c.args.ob c.args.at c.args.name.now r (omega (arith, e))
-        (subst (λ z. IsAnswer programs w c.args.ob r (wanted z (function_of w c.args.ob c.args.name.now))) c.want.ensures i))
+    (subst (λ z. IsAnswer programs w c.args.ob r (wanted z (function_of w c.args.ob c.args.name.now))) c.want.ensures i))
     (c.function_in.ensures.found x programs w h)
 
 pub returns-in-Ok-Some-clause-found : goal.returns-in-Ok-Some-clause-found
@@ -37,7 +36,7 @@ returns-in-Ok-None-clause-found g t c = λ x programs w h e.
     let there : slice_get (shadows_of w.shadows c.args.ob) c.args.at ≡ Some c.in-Some.s = sh.1 ∙ ap (λ z. Some z) (sym same) in
     let y = c.search_from.ensures.brings.truthful x in
     let world : IsWorldOf (g.W.SwapFile.content c.function_in-in-Some.new.swap) programs c.function_in-in-Some.new.live w =
-      record { stands = c.in-Ok-None.ensures.stands y programs w h.stands; compiled = h.compiled; shadows = h.shadows } in
+    record { stands = c.in-Ok-None.ensures.stands y programs w h.stands; compiled = h.compiled; shadows = h.shadows } in
     let i = subst (λ z. IsAnswer programs w c.in-Some.s c.in-Ok-None.field-0 (wanted z (function_of w c.in-Some.s c.args.name.now))) c.want-in-Some.ensures (c.in-Ok-None.ensures.found y programs w h) in
     let n = subst (λ (o : Option Callee). IsAnswer programs w c.in-Some.s o (wanted (want_of c.args.seeker c.in-Some.s) (function_of w c.in-Some.s c.args.name.now))) c.in-Ok-None.field-0-is i in
     if_ok c.search_from.result (λ r k. step_on programs w c.args.seeker c.args.ob c.in-Some.s c.args.at (c.args.at + 1) c.args.name.now r there refl n k)

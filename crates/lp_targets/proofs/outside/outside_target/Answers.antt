@@ -1,4 +1,4 @@
-use Rattle.std.proofs.Common.{◌≡◌, ◌∙◌, arith, ap, subst, drop}
+use Rattle.std.proofs.Common.{◌∙◌, arith, ap, subst, drop}
 use Rattle.std.specs.Prelude.{IfOk}
 use Rattle.lp_language.specs.Resolve.{chain_of, searched}
 use Rattle.lp_targets.specs.Callees.{IsTargetAnswer, first_wanted}
@@ -19,5 +19,5 @@ returns-clause-found g c = λ x programs w h.
     let a = c.start_of-at.ensures w.places w.shadows h.stands.rest.places in
     let n = c.shadow_count-count.ensures w.places w.shadows h.stands.rest.places in
     let e = ap (λ k. first_wanted (seekers.Caller c.args.caller) w (drop k (chain_of w c.args.ob)) name) a ∙ ap (λ os. first_wanted (seekers.Caller c.args.caller) w os name) (starts w c.args.caller c.args.ob).is
-      ∙ as_callable w c.args.caller (searched w c.args.caller c.args.ob) name in
+    ∙ as_callable w c.args.caller (searched w c.args.caller c.args.ob) name in
     subst (λ t. IfOk c.search_from.result (λ o. IsTargetAnswer programs w o t)) e (c.search_from.ensures.found x programs w h (omega (arith, n)))

@@ -1,4 +1,4 @@
-use Rattle.std.proofs.Common.{◌≡◌, ◌∙◌, Some}
+use Rattle.std.proofs.Common.{◌∙◌}
 use Rattle.lp_targets.specs.Callees.{IsWorldOf}
 use Rattle.lp_targets.proofs.Memory.{brings_err, brings_ok, program_still, stays_same}
 use Rattle.lp_targets.proofs.parents.parent_brought.Goals as goal

@@ -1,4 +1,4 @@
-use Rattle.std.proofs.Common.{◌≡◌, ◌∙◌, Some, arith, ap, sym, subst}
+use Rattle.std.proofs.Common.{◌≡◌, Some, arith, sym, subst}
 use Rattle.std.specs.Prelude.{slice_get}
 use Rattle.lp_values.specs.declared.id.ProgId.{ProgId}
 use Rattle.lp_isa.specs.Programs.{IsReached}

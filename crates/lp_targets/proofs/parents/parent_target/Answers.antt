@@ -28,10 +28,10 @@ returns-in-Some-clause-found g c = λ t programs w name h who named.
     let y = c.in-Ok.ensures.brings.stays.objects c.args.this.0 x.0 x.1 in
     let program : y.0.program ≡ c.version_of-version.result = y.2.program ∙ sym (c.version_of-version.ensures x.0 x.1) in
     let world : IsWorldOf (g.W.SwapFile.content c.bring_program.new.swap) programs c.bring_program.new.live w =
-      record { stands = c.in-Ok.ensures.stands (c.parent_brought.ensures.brings.truthful t) programs w h.stands; compiled = h.compiled; shadows = h.shadows } in
+    record { stands = c.in-Ok.ensures.stands (c.parent_brought.ensures.brings.truthful t) programs w h.stands; compiled = h.compiled; shadows = h.shadows } in
     let listed = subst (λ (z : RawProgram). slice_get z.tables.parents c.args.parent ≡ Some c.in-Some.number) (c.raw.ensures.same ∙ sym c.raw-in-Some.ensures.same) c.in-Some.ensures.inside.0 in
     subst (λ (z : RawProgram). (who : IsCaller programs w c.args.this c.args.part z) → parent_row (code_of z (rows_of (tables (parents_of who.place.tree)))) c.args.parent c.args.slot ≡ Some name
-        → IfOk c.parent_brought.result (λ r. IsAnswer programs w c.args.this r (of_parent_from (part_at (heritage_of w c.args.this) c.args.part) c.args.parent name)))
+    → IfOk c.parent_brought.result (λ r. IsAnswer programs w c.args.this r (of_parent_from (part_at (heritage_of w c.args.this) c.args.part) c.args.parent name)))
     c.raw-in-Some.ensures.same
     (λ u n. c.parent_brought.ensures.found t programs w y.0 name world y.1 program listed u n) who named
 
