@@ -1,5 +1,5 @@
 -- What rows of tables and names reach, in an object's whole program.
-use Rattle.std.proofs.Common.{◌≡◌, ◌∙◌, ◌≤◌, ◌<◌, ℕ, suc, arith, Bool, true, false, ◌&&◌, List, [], ◌∷◌, Option, Some, None, refl, ap, sym, subst, slice_get, length}
+use Rattle.std.proofs.Common.{◌≡◌, ◌∙◌, ◌≤◌, ◌<◌, ℕ, arith, Bool, true, false, ◌&&◌, List, Option, Some, None, refl, ap, sym, subst, slice_get, length}
 use Rattle.std.specs.Prelude.{◌+◌, if◌then◌else◌}
 use Rattle.lp_code.specs.declared.program.RawProgram.{RawProgram}
 use Rattle.lp_code.specs.declared.tables.Slot.{Slot}
@@ -7,11 +7,10 @@ use Rattle.lp_language.specs.Resolve.{Found, Heritage, Part, internal_from, is_h
 use Rattle.lp_isa.specs.Programs.{IsReached, Reached, fun_in}
 use Rattle.lp_types_expr.specs.Signatures.{has_function, is_private_number}
 use Rattle.lp_layout.specs.Layout.{slot_named}
-use Rattle.lp_inherit.specs.Heirs.{table}
 use Rattle.lp_inherit.proofs.Meanings.{count_parts}
 use Rattle.lp_plan_laws.specs.Tables.{reached_by}
 use Rattle.lp_part_laws.specs.Versions.{FitsVersion}
-use Rattle.lp_part_laws.specs.Parts.{IsInText, moved_reached, reached_in}
+use Rattle.lp_part_laws.specs.Parts.{moved_reached, reached_in}
 use Rattle.lp_part_laws.proofs.Lists.{is_below}
 use Rattle.lp_part_laws.proofs.Places.{count_from, number_of_part, part_inside, shifted}
 use Rattle.lp_part_laws.proofs.Rows.{fit_reached, inside_part, reached_inside, row_by_place, table_hidden}
@@ -24,7 +23,7 @@ fit_row h p k s f e = subst (λ t. slot_named t.slots s.name ≡ Some s) f.own.o
 fit_hidden : (h : Heritage) (p : RawProgram) (s : Slot) → FitsVersion h p → IsRowOfItsName p s → is_hidden (resolve h s.name) ≡ (has_function s && is_private_number s.mods)
 fit_hidden h p s f e = table_hidden h s.name s f.own.numbered (subst (λ t. slot_named t.slots s.name ≡ Some s) (sym f.own.own) e)
 
-own_reached : (h : Heritage) (p : RawProgram) (s : Slot) → FitsVersion h p → IsRowOfItsName p s → IsReached h (resolve h s.name) (reached_by s)
+pub own_reached : (h : Heritage) (p : RawProgram) (s : Slot) → FitsVersion h p → IsRowOfItsName p s → IsReached h (resolve h s.name) (reached_by s)
 own_reached h p s f e = subst (λ o. IsReached h (resolve h s.name) (reached_in o)) e (fit_reached h p s.name f)
 
 pub hidden_reached : (h : Heritage) (part : ℕ) (place : Part) (code : RawProgram) (s : Slot) → part_at h part ≡ Some place → FitsVersion place.tree code → IsRowOfItsName code s → (has_function s && is_private_number s.mods) ≡ true

@@ -1,5 +1,5 @@
 -- A version keeps one answer more.
-use Rattle.std.proofs.Common.{◌≡◌, ◌∙◌, ◌⊎◌, ◌++◌, ℕ, zero, suc, Bool, true, false, List, [], ◌∷◌, Option, Some, None, IsSome, refl, ap, sym, subst, inl, inr, slice_get, unwrap_or, nat_eq, if◌then◌else◌}
+use Rattle.std.proofs.Common.{◌≡◌, ◌∙◌, ◌⊎◌, ◌++◌, ℕ, zero, suc, Bool, true, false, List, [], ◌∷◌, Option, Some, None, refl, ap, sym, subst, inl, inr, slice_get, unwrap_or, nat_eq, if◌then◌else◌}
 use Rattle.std.specs.Prelude.{slice_set}
 use Rattle.std.specs.List.{flat_map}
 use Rattle.std.proofs.lemmas.Bool.Decides.{Decides-eqb}
@@ -8,20 +8,17 @@ use Rattle.lp_code.specs.declared.program.RawProgram.{RawProgram}
 use Rattle.lp_swapfile.specs.Device.{Bytes}
 use Rattle.lp_swapfile.specs.Room.{AreTaken}
 use Rattle.lp_language.specs.World.{World}
-use Rattle.lp_world.specs.Closed.{IsClosed, IsFunctionThere, IsProgramClosed, extents_of, object_extents, version_extents}
+use Rattle.lp_world.specs.Closed.{IsClosed, object_extents, version_extents}
 use Rattle.lp_world.specs.Rows.{row_at, version_state}
 use Rattle.lp_world.specs.Stands.{IsTarget, Stands, heritage_in, slot_of_part}
 use Rattle.lp_language.specs.Resolve.{part_at}
-use Rattle.lp_world.specs.Targets.{HasAnswer, HasSameAnswers, answer_at, with_answer, with_slot}
+use Rattle.lp_world.specs.Targets.{HasAnswer, HasSameAnswers, answer_at, with_answer}
 use Rattle.lp_world.specs.declared.live.Live.{Live}
 use Rattle.lp_world.specs.declared.targets.FunAt.{FunAt}
 use Rattle.lp_world.specs.declared.targets.Targets.{Targets}
-use Rattle.lp_world.specs.declared.versions.ProgramState.{ProgramState}
-use Rattle.lp_world.specs.declared.versions.ProgramState.TheVariants as programs_of
 use Rattle.lp_world.specs.declared.versions.Version.{Version}
 use Rattle.lp_world.proofs.Keeping.{get_set, get_set_here, same_or_not}
 use Rattle.lp_residence.specs.Owners.{program_of}
-use Rattle.lp_residence.proofs.RowChanges.{row_there}
 use Rattle.lp_residence.proofs.VersionChanges.{closed_with_version, stands_with_version}
 use Rattle.lp_targets.specs.Brought.{IsSameVersion, StaysInMemory, program_at}
 use Rattle.lp_targets.specs.Callees.{IsKeepable}

@@ -1,5 +1,5 @@
 -- Look-ups in tables.
-use Rattle.std.proofs.Common.{◌≡◌, ◌∙◌, ◌⊎◌, ◌≤◌, ◌<◌, ℕ, zero, suc, arith, Bool, true, false, ltb, List, [], ◌∷◌, Option, Some, None, IfSome, IsSome, refl, ap, sym, subst, inl, inr, slice_get, length}
+use Rattle.std.proofs.Common.{◌≡◌, ◌∙◌, ◌⊎◌, ◌≤◌, ◌<◌, ℕ, zero, suc, arith, true, false, ltb, List, [], ◌∷◌, Option, Some, None, IfSome, IsSome, IfOk, Result, Ok, Err, ap, sym, subst, inl, inr, slice_get, length}
 use Rattle.std.specs.Prelude.{slice_index_or}
 use Rattle.std.specs.List.Sorted.{IsPartitionPoint, IsPartitionedBy}
 use Rattle.std.proofs.lemmas.Bool.Decides.{Decides-ltb}
@@ -58,3 +58,7 @@ if_some_at (Some x) s h = h
 
 pub one_some : {A : Type 0} (x y : A) → Some x ≡ Some y → x ≡ y
 one_some x y e = cc
+
+pub if_ok : {A E : Type 0} {P Q : A → Type 0} (r : Result A E) → ((x : A) → P x → Q x) → IfOk r P → IfOk r Q
+if_ok (Ok x) f h = f x h
+if_ok (Err e) f h = tt

@@ -1,6 +1,5 @@
 -- What stays in memory.
-use Rattle.std.proofs.Common.{◌≡◌, ◌∙◌, ◌<◌, ℕ, arith, length, List, [], ◌∷◌, Bool, true, false, Option, Some, None, IsSome, Result, Ok, Err, IfErr, IfSome, OnOk, OnErr, refl, ap, sym, subst, inl, inr, slice_get, unwrap_or}
-use Rattle.std.specs.Prelude.{slice_set}
+use Rattle.std.proofs.Common.{◌≡◌, ◌∙◌, ◌<◌, ℕ, arith, length, List, Option, Some, None, IsSome, Result, Ok, Err, IfErr, IfSome, OnOk, OnErr, refl, ap, sym, subst, inl, inr, unwrap_or}
 use Rattle.lp_values.specs.declared.id.ObjId.{ObjId}
 use Rattle.lp_values.specs.declared.id.ProgId.{ProgId}
 use Rattle.lp_values.specs.declared.value.Value.{Value}
@@ -23,7 +22,7 @@ use Rattle.lp_targets.specs.Callees.{IsCalleeThere}
 use Rattle.lp_world.specs.Rows.{object_ticket, program_ticket, row_at, row_with_state, state_in, variables_at, variables_in, variables_of, version_state, version_with_state}
 use Rattle.lp_world.specs.Stands.{Stands}
 use Rattle.lp_world.proofs.Keeping.{get_set, get_set_here, same_or_not}
-use Rattle.lp_residence.specs.Entering.{IsBack, IsCausedBy, IsEntered, IsHonest, is_read_fault, object_back, version_back}
+use Rattle.lp_residence.specs.Entering.{IsCausedBy, IsEntered, IsHonest, is_read_fault, object_back, version_back}
 use Rattle.lp_residence.specs.Owners.{program_of, ticket_at, ticket_of_state, ticket_of_version}
 use Rattle.lp_residence.specs.declared.answers.EnterFault.{EnterFault}
 use Rattle.lp_residence.specs.declared.answers.EnterFault.TheVariants.{NoMemory, Swap}

@@ -1,6 +1,6 @@
 -- Functions that are wanted.
-use Rattle.std.proofs.Common.{◌≡◌, ◌∙◌, ◌≤◌, ◌<◌, ℕ, suc, arith, Bool, true, false, ◌&&◌, ◌||◌, not, nat_eq, List, [], ◌∷◌, Option, Some, None, refl, ap, sym, subst, ◌%◌, ◌/◌}
-use Rattle.std.specs.Prelude.{◌+◌, ◌*◌, ⊤, if◌then◌else◌}
+use Rattle.std.proofs.Common.{◌≡◌, ◌∙◌, ◌≤◌, ℕ, arith, Bool, true, false, ◌&&◌, ◌||◌, not, nat_eq, List, [], ◌∷◌, Option, Some, None, refl, ap, sym, subst, ◌%◌, ◌/◌}
+use Rattle.std.specs.Prelude.{◌+◌, ◌*◌, if◌then◌else◌}
 use Rattle.lp_tree.specs.declared.keyword.Modifier.{Modifier}
 use Rattle.lp_tree.specs.declared.keyword.Modifier.TheVariants.{Private, Protected, Public, Static, Nosave, Nomask, Varargs}
 use Rattle.lp_values.specs.declared.id.ObjId.{ObjId}
@@ -8,10 +8,10 @@ use Rattle.lp_code.specs.declared.program.RawProgram.{RawProgram}
 use Rattle.lp_code.specs.declared.tables.Slot.{Slot}
 use Rattle.lp_language.specs.World.{World}
 use Rattle.lp_language.specs.Resolve.{Found, Heritage, callable_found, function_of, heritage_of, is_callable, is_private, is_protected, is_protected_word, is_static, is_static_word, resolve}
-use Rattle.lp_isa.specs.Programs.{IsReached, Reached}
-use Rattle.lp_types_expr.specs.Signatures.{has_bit, has_function, is_private_number}
+use Rattle.lp_isa.specs.Programs.{IsReached}
+use Rattle.lp_types_expr.specs.Signatures.{has_bit, has_function}
 use Rattle.lp_layout.specs.Layout.{bit_of, bits, bits_from, digit, has_word, slot_named}
-use Rattle.lp_inherit.specs.Heirs.{IsRowOf, MeansTheSame, table, with_function}
+use Rattle.lp_inherit.specs.Heirs.{MeansTheSame, with_function}
 use Rattle.lp_inherit.proofs.Meanings.{private_bit}
 use Rattle.lp_plan_laws.specs.Tables.{reached_by}
 use Rattle.lp_part_laws.specs.Versions.{FitsVersion}

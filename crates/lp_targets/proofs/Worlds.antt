@@ -1,6 +1,6 @@
 -- What is known of an object's program and its parts, in a world for which the state stands.
-use Rattle.std.proofs.Common.{◌≡◌, ◌∙◌, ◌≤◌, ◌<◌, ℕ, suc, arith, List, [], ◌∷◌, Option, Some, None, IsSome, All, refl, ap, sym, subst, slice_get, unwrap_or, length, option_map}
-use Rattle.std.specs.Prelude.{◌+◌, ◌-◌, ◌^◌, ⊤}
+use Rattle.std.proofs.Common.{◌≡◌, ◌∙◌, ◌≤◌, ◌<◌, ℕ, arith, List, Option, Some, None, IsSome, All, refl, ap, sym, subst, slice_get, unwrap_or, length}
+use Rattle.std.specs.Prelude.{◌+◌, ◌-◌, ◌^◌}
 use Rattle.lp_values.specs.declared.id.ObjId.{ObjId}
 use Rattle.lp_values.specs.declared.id.ProgId.{ProgId}
 use Rattle.lp_values.specs.declared.value.Value.{Value}
@@ -10,7 +10,6 @@ use Rattle.lp_language.specs.World as world
 use Rattle.lp_language.specs.World.{World, no_object, no_version, object_at, version_at}
 use Rattle.lp_language.specs.Resolve.{Found, Heritage, Part, heritage, heritage_of, internal_from, number_of, part_at, part_count, variable_count}
 use Rattle.lp_isa.specs.Programs.{IsReached, Reached, fun_in}
-use Rattle.lp_inherit.specs.Heirs.{table}
 use Rattle.lp_inherit.proofs.Meanings.{count_parts, count_variables}
 use Rattle.lp_world.specs.Closed.{IsClosed, IsFunctionThere}
 use Rattle.lp_world.specs.declared.targets.FunAt.{FunAt}
@@ -21,7 +20,7 @@ use Rattle.lp_world.specs.declared.versions.ProgramState.TheVariants as programs
 use Rattle.lp_world.specs.declared.versions.Version.{Version}
 use Rattle.lp_world.specs.Rows.{row_at, variables_at, variables_in, variables_of, version_state}
 use Rattle.lp_step_laws.specs.Running.{HasVariables}
-use Rattle.lp_world.specs.Stands.{IsOutline, IsTarget, IsVersion, ProgramIs, Stands, reached_of, slot_in, slot_of_part}
+use Rattle.lp_world.specs.Stands.{IsOutline, IsTarget, ProgramIs, Stands, reached_of, slot_in, slot_of_part}
 use Rattle.lp_world.specs.Targets.{answer_at}
 use Rattle.lp_code.specs.declared.tables.Slot.{Slot}
 use Rattle.lp_targets.proofs.Calls.{internal_in_text}
@@ -29,8 +28,8 @@ use Rattle.lp_world.proofs.BareWorlds.{heritage_same}
 use Rattle.lp_residence.specs.Owners.{program_of}
 use Rattle.lp_residence.proofs.RowChanges.{object_behind, row_there}
 use Rattle.lp_frames.specs.declared.entry.Callee.{Callee}
-use Rattle.lp_part_laws.specs.Versions.{AreCompiled, FitsVersion, heritage_in}
-use Rattle.lp_part_laws.specs.Parts.{IsFunctionAt, IsInText, IsSplit}
+use Rattle.lp_part_laws.specs.Versions.{FitsVersion, heritage_in}
+use Rattle.lp_part_laws.specs.Parts.{IsInText, IsSplit}
 use Rattle.lp_part_laws.proofs.Bases.{base_room, base_split}
 use Rattle.lp_part_laws.proofs.Lists.{is_below, one_value}
 use Rattle.lp_part_laws.proofs.Places.{number_at, number_of_part}
@@ -74,7 +73,7 @@ some_row : (o : Option Version) → IsSome o → (v : Version) × (o ≡ Some v)
 some_row None h = absurd cc
 some_row (Some v) h = (v, refl)
 
-passes : (told : Option Bytes) (programs : List RawProgram) (live : Live) (w : World) → Stands told programs live w → IsClosed live
+pub passes : (told : Option Bytes) (programs : List RawProgram) (live : Live) (w : World) → Stands told programs live w → IsClosed live
     → (v : ProgId) → IsSome (row_at live.versions v.0) → All (λ (p : ProgId). IsSome (row_at live.versions p.0)) (version_at (bare w.versions) v).parents
 passes told programs live w h c v s =
     let r = some_row (row_at live.versions v.0) s in
@@ -182,7 +181,7 @@ at_home told programs live w c o f code h closed is here e =
 pub right_callee : (told : Option Bytes) (programs : List RawProgram) (live : Live) (w : World) (o : ObjId) (x : Object) (whole : RawProgram) (f : Found) (r : Reached) (c : Option Callee)
     → IsWorldOf told programs live w → IsClosed live → row_at live.objects o.0 ≡ Some x → program_at live.versions x.program ≡ Some whole → IsInText (heritage_of w o) f → IsReached (heritage_of w o) (Some f) (Some r)
     → ((n : ProgId) (v : Version) (base : ℕ) → slice_get whole.tables.parts r.part ≡ Some n → row_at live.versions n.0 ≡ Some v → r.fun < v.outline.functions → v.outline.parts ≤ r.part + 1 → base < 2 ^ 32
-        → IsSplit whole.tables.vars (r.part + 1 - v.outline.parts) base → c ≡ Some (answer_for o n r.part base r.fun))
+    → IsSplit whole.tables.vars (r.part + 1 - v.outline.parts) base → c ≡ Some (answer_for o n r.part base r.fun))
     → IsAnswer programs w o c (Some f)
 right_callee told programs live w o x whole f r c h closed e g t reached is =
     let m = made told programs live w o x whole f r h closed e g t reached in
@@ -192,7 +191,7 @@ right_callee told programs live w o x whole f r c h closed e g t reached is =
 pub right_any : (told : Option Bytes) (programs : List RawProgram) (live : Live) (w : World) (o : ObjId) (x : Object) (version : ProgId) (whole : RawProgram) (f : Option Found) (r : Reached) (c : Option Callee)
     → IsWorldOf told programs live w → IsClosed live → row_at live.objects o.0 ≡ Some x → x.program ≡ version → program_at live.versions version ≡ Some whole → AreInText (heritage_of w o) f → IsReached (heritage_of w o) f (Some r)
     → ((n : ProgId) (v : Version) (base : ℕ) → slice_get whole.tables.parts r.part ≡ Some n → row_at live.versions n.0 ≡ Some v → r.fun < v.outline.functions → v.outline.parts ≤ r.part + 1 → base < 2 ^ 32
-        → IsSplit whole.tables.vars (r.part + 1 - v.outline.parts) base → c ≡ Some (answer_for o n r.part base r.fun))
+    → IsSplit whole.tables.vars (r.part + 1 - v.outline.parts) base → c ≡ Some (answer_for o n r.part base r.fun))
     → IsAnswer programs w o c f
 right_any told programs live w o x version whole None r c h closed e p g t reached is = absurd reached
 right_any told programs live w o x version whole (Some f) r c h closed e p g t reached is =

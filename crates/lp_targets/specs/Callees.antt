@@ -1,5 +1,5 @@
 -- Which function a call reaches, as a callee.
-use Rattle.std.specs.Prelude.{Bool, not, ◌&&◌, ◌||◌, [], ◌∷◌, ◌≡◌, ℕ, ◌+◌, ◌<◌, ⊤, true, List, map, Option, Some, None, All, slice_get, length, if◌then◌else◌}
+use Rattle.std.specs.Prelude.{Bool, suc, not, ◌&&◌, ◌||◌, [], ◌∷◌, ◌≡◌, ℕ, ◌+◌, ◌<◌, ⊤, true, List, Option, Some, None, All, slice_get, length, if◌then◌else◌}
 use Rattle.lp_values.specs.declared.id.ObjId.{ObjId}
 use Rattle.lp_values.specs.declared.id.ProgId.{ProgId}
 use Rattle.lp_code.specs.declared.program.RawProgram.{RawProgram}
@@ -132,3 +132,8 @@ abbrev pub IsKeepable : List (Option Version) → Option RawProgram → Option F
 IsKeepable versions None answer = ⊤
 IsKeepable versions (Some p) None = ⊤
 IsKeepable versions (Some p) (Some f) = IsFunctionThere versions p.tables.parts f.part f.fun
+
+-- the place behind an object in a list whose first item has a place, or 0 where it is not there
+abbrev pub found_at : ℕ → List ObjId → ObjId → ℕ
+found_at n [] c = 0
+found_at n (x ∷ xs) c = if is_object x c then suc n else found_at (suc n) xs c

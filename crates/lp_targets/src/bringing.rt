@@ -92,11 +92,7 @@ pub(crate) fn version_of(live: &Live, ob: ObjId) -> ProgId
 }
 
 /// Brings an object into memory, and then the program of its version.
-fn bring_both<W: SwapFile>(
-    live: &mut Live,
-    swap: &mut W,
-    ob: ObjId,
-) -> Result<(), EnterFault>
+fn bring_both<W: SwapFile>(live: &mut Live, swap: &mut W, ob: ObjId) -> Result<(), EnterFault>
     requires closed { IsClosed live.old }
     requires there { IsSome (row_at live.old.objects ob.0) }
     ensures brings { Brings (W.content swap.old) (W.content swap.new) (W.last swap.new) (W.read_faults swap.old) (W.read_faults swap.new) (W.write_faults swap.old) (W.write_faults swap.new)

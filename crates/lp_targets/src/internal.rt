@@ -60,13 +60,7 @@ fn keep(live: &mut Live, version: ProgId, part: u16, slot: u16, answer: Option<F
 }
 
 /// Keeps that an internal call reaches nothing, where that was found.
-fn keep_nothing(
-    live: &mut Live,
-    version: ProgId,
-    part: u16,
-    slot: u16,
-    answer: Option<FunAt>,
-)
+fn keep_nothing(live: &mut Live, version: ProgId, part: u16, slot: u16, answer: Option<FunAt>)
     requires closed { IsClosed live.old }
     requires there { IsSome (row_at live.old.versions version.0) }
     ensures closed { IsClosed live.new }

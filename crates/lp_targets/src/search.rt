@@ -31,7 +31,12 @@ pub(crate) fn moved(part: u16, parts: usize, at: FunAt) -> Option<FunAt>
 }
 
 /// What was found for a slot of a part of a version.
-pub(crate) fn kept(versions: &VersionTable, p: ProgId, part: u16, slot: u16) -> Option<Option<FunAt>>
+pub(crate) fn kept(
+    versions: &VersionTable,
+    p: ProgId,
+    part: u16,
+    slot: u16,
+) -> Option<Option<FunAt>>
     ensures { result ≡ kept_at (row_at versions.now p.0) part slot }
 {
     match versions.get(p) {

@@ -1,4 +1,4 @@
-use Rattle.std.proofs.Common.{◌≡◌, ◌∙◌, Option, Some, None, sym, subst, ap}
+use Rattle.std.proofs.Common.{sym, subst}
 use Rattle.lp_isa.specs.Programs.{IsReached}
 use Rattle.lp_language.specs.Resolve.{heritage_of}
 use Rattle.lp_world.specs.Stands.{reached_of}

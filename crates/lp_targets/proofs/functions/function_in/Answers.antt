@@ -1,4 +1,4 @@
-use Rattle.std.proofs.Common.{◌≡◌, ◌∙◌, Some, sym}
+use Rattle.std.proofs.Common.{◌≡◌, ◌∙◌, sym}
 use Rattle.lp_targets.specs.Callees.{IsWorldOf}
 use Rattle.lp_targets.proofs.Memory.{brings_err, brings_ok, own_version_there, some_row, stays_same}
 use Rattle.lp_targets.proofs.Wanting.{wanted_in_text}

@@ -1,4 +1,4 @@
-use Rattle.std.proofs.Common.{◌≡◌, ◌∙◌, Some, ap, sym, subst}
+use Rattle.std.proofs.Common.{sym, subst}
 use Rattle.std.specs.Prelude.{IsSome}
 use Rattle.lp_isa.specs.Programs.{IsReached}
 use Rattle.lp_language.specs.Resolve.{heritage_of, internal_from}

@@ -1,4 +1,4 @@
-use Rattle.std.proofs.Common.{None, subst, sym}
+use Rattle.std.proofs.Common.{subst}
 use Rattle.lp_world.specs.Stands.{IsTarget, heritage_in, slot_of_part}
 use Rattle.lp_language.specs.Resolve.{part_at}
 use Rattle.lp_targets.proofs.Memory.{stays_same}

@@ -1,5 +1,4 @@
-use Rattle.std.proofs.Common.{◌≡◌, ◌∙◌, ◌+◌, Some, arith, ap, length, sym}
-use Rattle.lp_isa.specs.Programs.{Reached}
+use Rattle.std.proofs.Common.{◌≡◌, ◌∙◌, Some, arith, ap, length, sym}
 use Rattle.lp_part_laws.specs.Parts.{moved_reached}
 use Rattle.lp_plan_laws.specs.Tables.{reached_by}
 use Rattle.lp_world.specs.Stands.{reached_of}
