@@ -13,7 +13,7 @@ use Rattle.lp_language.specs.World.{World, new_world, no_object, no_version, obj
 use Rattle.lp_meaning.specs.IdleAndKept.{IsKept, by_child, by_object}
 use Rattle.lp_meaning.specs.WorldSteps.{entered, version_entered}
 use Rattle.lp_world.specs.Closed.{IsClosed, IsObjectClosed, IsProgramClosed, IsVersionClosed, object_extents, version_extents}
-use Rattle.lp_world.specs.Rows.{row_at}
+use Rattle.lp_world.specs.Rows.{object_aged, row_at, version_aged}
 use Rattle.lp_world.specs.Stands.{AreObjects, AreTargets, IsObject, IsVersion, ObjectIs, Stands, heritage_in, named_of}
 use Rattle.lp_world.specs.Targets.{answer_at}
 use Rattle.lp_objects.specs.Stands as names
@@ -24,7 +24,7 @@ use Rattle.lp_world.specs.declared.versions.Version.{Version}
 use Rattle.lp_world.proofs.Keeping.{get_set, get_set_here, same_or_not}
 use Rattle.lp_residence.proofs.RowChanges.{apart_alone, object_behind}
 use Rattle.lp_residence.proofs.VersionChanges.{HaveSameOutlines, object_closed, version_closed}
-use Rattle.lp_making.specs.Entries.{EntryKeepsVersions, EntryStands, EntryStaysClosed, StandsEntered, TablesStay, entry_counted, object_aged, object_counted, program_in, version_aged, version_counted}
+use Rattle.lp_making.specs.Entries.{EntryKeepsVersions, EntryStands, EntryStaysClosed, StandsEntered, TablesStay, entry_counted, object_counted, program_in, version_counted}
 use Rattle.lp_making.specs.Trees.{AreSameVersions, timeless}
 use Rattle.lp_making.proofs.NewVersion.{some_row}
 use Rattle.lp_making.proofs.Timeless.{heritage_same, tables_are_same, targets_same}
@@ -359,3 +359,10 @@ entered_stands old new o p e i told programs w h = subst (λ l. Stands told prog
 
 pub entered_closed : (old new : Live) (o : ObjId) (p : ProgId) → new ≡ entry_counted old o p → IsClosed old → IsClosed new
 entered_closed old new o p e h = subst IsClosed (sym e) (entry_closed old o p h)
+
+pub counted_is : (old : Live) (o : ObjId) (p own : ProgId) (rows : List (Option Object)) (mid new : List (Option Version)) → own ≡ program_in (row_at old.objects o.0) → rows ≡ slice_set old.objects o.0 (object_aged old.clock (row_at old.objects o.0))
+    → mid ≡ slice_set old.versions own.0 (version_aged old.clock (row_at old.versions own.0)) → new ≡ slice_set mid p.0 (version_aged old.clock (row_at mid p.0)) → record old { objects = rows; versions = new } ≡ entry_counted old o p
+counted_is old o p own rows mid new e f g h =
+    ap (λ l. record old { objects = l; versions = new }) f
+    ∙ ap (λ vs. record old { objects = slice_set old.objects o.0 (object_aged old.clock (row_at old.objects o.0)); versions = vs })
+    (h ∙ ap (λ m. slice_set m p.0 (version_aged old.clock (row_at m p.0))) (g ∙ ap (λ (q : ProgId). slice_set old.versions q.0 (version_aged old.clock (row_at old.versions q.0))) e))

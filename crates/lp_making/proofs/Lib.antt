@@ -6,3 +6,4 @@ pub mod Counted
 pub mod Watched
 pub mod NewObject
 pub mod Reloaded
+pub mod Called

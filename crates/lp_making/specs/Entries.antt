@@ -8,21 +8,11 @@ use Rattle.lp_language.specs.World as world
 use Rattle.lp_language.specs.World.{World}
 use Rattle.lp_meaning.specs.WorldSteps.{entered}
 use Rattle.lp_world.specs.Closed.{IsClosed}
-use Rattle.lp_world.specs.Rows.{row_at}
-use Rattle.lp_world.specs.declared.versions.Version.{Version}
+use Rattle.lp_world.specs.Rows.{object_aged, row_at, version_aged}
 use Rattle.lp_world.specs.Stands.{Stands}
 use Rattle.lp_world.specs.declared.live.Live.{Live}
 use Rattle.lp_world.specs.declared.objects.Object.{Object}
 use Rattle.lp_making.specs.Trees.{AreSameVersions, HaveTables}
-
--- rows with another latest clock
-abbrev pub object_aged : ℕ → Option Object → Option Object
-object_aged time None = None
-object_aged time (Some o) = Some (record o { latest = time })
-
-abbrev pub version_aged : ℕ → Option Version → Option Version
-version_aged time None = None
-version_aged time (Some v) = Some (record v { latest = time })
 
 -- an entry counts for an object, and for a version
 abbrev pub object_counted : Live → ObjId → Live

@@ -3,3 +3,4 @@ pub mod Versions
 pub mod Entries
 pub mod Objects
 pub mod Reloads
+pub mod Calls

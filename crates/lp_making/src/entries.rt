@@ -19,6 +19,22 @@ fn program_of(objects: &ObjectTable, ob: ObjId) -> ProgId
     }
 }
 
+/// An entry of a function of an object, in the text of a version, counts: the latest clocks of the object, of its version and of
+/// that version are the state's clock. Nothing else changes. Takes no memory, and always the same time.
+pub fn count_entry(live: &mut Live, ob: ObjId, program: ProgId)
+    requires closed { IsClosed live.old }
+    requires there { IsSome (row_at live.old.objects ob.0) }
+    requires text { IsSome (row_at live.old.versions program.0) }
+    ensures after { live.new ≡ entry_counted live.old ob program }
+    ensures stands { StandsEntered live.old live.new ob program }
+    ensures closed { IsClosed live.new }
+{
+    let own = program_of(&live.objects, ob);
+    live.objects.note_entry(ob, live.clock);
+    live.versions.note_entry(own, live.clock);
+    live.versions.note_entry(program, live.clock);
+}
+
 /// The state with an entry counted stands for the world after the entry, where it has the object.
 pub fn entry_stands()
     ensures { EntryStands }

@@ -4,6 +4,7 @@
 //! After each the state stands for the world that the written meaning has after it, and is closed.
 #![tactic(auto)]
 
+pub mod calls;
 pub mod entries;
 pub mod files;
 pub mod objects;
