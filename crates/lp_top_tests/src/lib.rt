@@ -8,6 +8,8 @@ mod checks;
 #[cfg(test)]
 mod families;
 #[cfg(test)]
+mod makes;
+#[cfg(test)]
 mod reports;
 #[cfg(test)]
 mod running;

@@ -71,6 +71,38 @@ const OTHERS: [Words; 6] = [
     &["replay", "--fast"],
 ];
 
+/// Words of a workload that is none: values that are missing or too many, or that are not spelled as
+/// numbers are, or that are below or above the limits.
+const MAKE: [Words; 27] = [
+    &["make"],
+    &["make", "1"],
+    &["make", "1", "0", "0"],
+    &["make", "1", "0", "--report"],
+    &["make", "--simul", "/s.c", "1", "0"],
+    &["1", "make", "0"],
+    &["make 1 0"],
+    &["make", "1 0"],
+    &["make", "", "0"],
+    &["make", "1", ""],
+    &["make", "--", "1", "0"],
+    &["make", "1", "0", "--"],
+    &["make", "01", "2"],
+    &["make", "1", "00"],
+    &["make", "+1", "2"],
+    &["make", "1", "+2"],
+    &["make", "-1", "2"],
+    &["make", "1", "-2"],
+    &["make", "1", "-0"],
+    &["make", " 1", "2"],
+    &["make", "1x", "2"],
+    &["make", "0x1", "2"],
+    &["make", "0", "0"],
+    &["make", "200001", "0"],
+    &["make", "4294967297", "0"],
+    &["make", "1", "18446744073709551616"],
+    &["make", "1", "36893488147419103232"],
+];
+
 #[test]
 fn plain(rt: HostRuntime) -> Result<(), Fail> {
     are_refused(&rt, rt.alloc(), &PLAIN)
@@ -84,4 +116,9 @@ fn simul(rt: HostRuntime) -> Result<(), Fail> {
 #[test]
 fn others(rt: HostRuntime) -> Result<(), Fail> {
     are_refused(&rt, rt.alloc(), &OTHERS)
+}
+
+#[test]
+fn workloads(rt: HostRuntime) -> Result<(), Fail> {
+    are_refused(&rt, rt.alloc(), &MAKE)
 }
