@@ -1,6 +1,6 @@
 -- In a unit without faults each call of an efun has a number of arguments that it allows.
-use Rattle.std.proofs.Common.{◌≡◌, ℕ, zero, suc, ◌≤◌, refl, sym, ap, ◌∙◌, subst, List, [], ◌∷◌, ◌++◌, length, map, ◌&&◌, ◌||◌, Bool, true, false, not, Option, Some, None}
-use Rattle.std.specs.Prelude.{⊤, is_some, nat_le, if◌then◌else◌}
+use Rattle.std.proofs.Common.{◌≡◌, ℕ, suc, refl, ap, ◌∙◌, subst, List, [], ◌∷◌, ◌++◌, length, map, ◌&&◌, ◌||◌, Bool, true, false, not, Option, Some, None}
+use Rattle.std.specs.Prelude.{is_some, nat_le}
 use Rattle.std.specs.List.{list_any}
 use Rattle.std.proofs.lemmas.Bool.{leb-true}
 use Rattle.lp_instr.specs.declared.efun.Efun.{Efun}
@@ -23,7 +23,7 @@ use Rattle.lp_types_expr.specs.Known.{Around, allows, is_at_most, is_strong, pla
 use Rattle.lp_types_expr.specs.Known as kinds
 use Rattle.lp_types_expr.specs.Scopes.{Scope, visible, inside, declaring, is_double}
 use Rattle.lp_types_expr.specs.Signatures.{inherited_kind}
-use Rattle.lp_types_expr.specs.Walk.{all_at, at_first, behind_first, in_tree}
+use Rattle.lp_types_expr.specs.Walk.{all_at, at_first, behind_first}
 use Rattle.lp_types.specs.TypeFaults.{kind_with, local_of, initialiser_kinds, declarators_assignments, declarators_faults, behind, declares_first, declares_each, declares_second, each_faults, second_faults, init_assignments, init_faults, label_faults, is_bad_return, type_if, stmt_faults, stmts_faults, else_faults, parts_faults, missing_type, params_faults, body_scope, global_faults, globals_faults, names_of, items_faults}
 use Rattle.lp_sound_laws.specs.Counted.{AllCounted, Counted, CountedIf, ElseCounted, EndCounted, FunctionsCounted, InitCounted, IsAllowed, OnesCounted, PairsCounted, PartsCounted, StmtCounted, StmtsCounted, VariablesCounted}
 use Rattle.lp_codegen_layout.specs.Each.{Each, EachOf, EachOfEnd, EachOfPairs}

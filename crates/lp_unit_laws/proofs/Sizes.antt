@@ -1,5 +1,5 @@
 -- How large the tables of a unit without faults are.
-use Rattle.std.proofs.Common.{◌≡◌, ℕ, zero, suc, ◌+◌, ◌≤◌, refl, sym, ap, ◌∙◌, List, [], ◌∷◌, ◌++◌, length, ◌||◌, Bool, true, false, Option, Some, None, arith}
+use Rattle.std.proofs.Common.{◌≡◌, ℕ, suc, ◌≤◌, refl, ap, List, [], ◌∷◌, ◌++◌, length, ◌||◌, Bool, true, false, None, arith}
 use Rattle.std.specs.Prelude.{nat_lt}
 use Rattle.std.proofs.lemmas.Bool.{ltb-false, or_parts}
 use Rattle.lp_tree.specs.declared.fault.FaultKind.{FaultKind}

@@ -1,22 +1,19 @@
 -- The program of a unit without faults is sound.
-use Rattle.std.proofs.Common.{◌≡◌, ℕ, zero, suc, ◌+◌, ◌≤◌, ◌<◌, refl, sym, ap, ◌∙◌, subst, List, [], ◌∷◌, ◌++◌, length, map, Option, Some, None, Bool, true, false, arith}
+use Rattle.std.proofs.Common.{◌≡◌, ℕ, suc, ◌+◌, ◌≤◌, ◌<◌, refl, sym, ap, ◌∙◌, subst, List, [], ◌∷◌, length, map, Option, Some, None, Bool, true, false, arith}
 use Rattle.std.specs.Prelude.{is_some, slice_get, if◌then◌else◌}
 use Rattle.std.specs.List.{list_any}
 use Rattle.std.proofs.lemmas.List.{length-map}
 use Rattle.lp_tree.specs.declared.pragma.Pragmas.{Pragmas}
 use Rattle.lp_tree.specs.Units.{ItemTree}
 use Rattle.lp_instr.specs.declared.efun.Efun.{Efun}
-use Rattle.lp_instr.specs.declared.instr.Instr.{Instr}
 use Rattle.lp_instr.specs.EfunList.{efun_named, is_name}
-use Rattle.lp_instr.specs.Sound.{Bounds, IsNamed}
 use Rattle.lp_code.specs.declared.program.FunRow.{FunRow}
 use Rattle.lp_code.specs.declared.program.RawProgram.{RawProgram}
 use Rattle.lp_code.specs.declared.tables.VarRow.{VarRow}
 use Rattle.lp_code.specs.declared.tables.Tables.{Tables}
 use Rattle.lp_code.specs.Programs.{IsProgram, bounds_of, code_of}
-use Rattle.lp_language.specs.Exec.{local_count}
-use Rattle.lp_language.specs.Resolve.{Function, Heir, Heritage, Heritages, NoParent, OneParent, Variable, has_initialiser, or_else, own_variables, parents_of, row, variable_count, variable_in, variables_before, version_of}
-use Rattle.lp_language.specs.Scope.{AFunction, ASimul, AnEfun, Callee, as_efun, callee, slot_of}
+use Rattle.lp_language.specs.Resolve.{Function, Heir, Heritage, Heritages, NoParent, OneParent, has_initialiser, or_else, own_variables, parents_of, row, variable_count, variables_before, version_of}
+use Rattle.lp_language.specs.Scope.{AFunction, ASimul, AnEfun, as_efun, callee}
 use Rattle.lp_isa.specs.Programs.{own_functions}
 use Rattle.lp_isa.specs.SoundCode.{TranslatedCodeIsSound, TranslatedInitialisersAreSound}
 use Rattle.lp_layout.specs.Layout.{laid_slots, slot_named}
@@ -26,15 +23,14 @@ use Rattle.lp_inherit.proofs.Meanings.{count_variables}
 use Rattle.lp_types_expr.specs.Known.{Around, known_function, plain_callee}
 use Rattle.lp_types_expr.specs.Known as kinds
 use Rattle.lp_types_expr.specs.declared.signature.Signature.{Signature}
-use Rattle.lp_codegen_expr.specs.Names.{Lays, global_in}
-use Rattle.lp_codegen_layout.specs.declared.entry.Entry.{Entry}
+use Rattle.lp_codegen_expr.specs.Names.{Lays}
 use Rattle.lp_codegen_layout.specs.Laid.{entry, is_seen, last_number, plan_of, row_names, seen}
 use Rattle.lp_codegen_layout.proofs.Entries.{last_counts}
 use Rattle.lp_codegen_laws.proofs.Layouts.{known_is, row_there}
 use Rattle.lp_plan_laws.proofs.Fresh.{laid_fresh, unique}
 use Rattle.lp_plan_laws.proofs.Laying.{layouts_lay}
 use Rattle.lp_codegen_flow.specs.Functions.{of_fun}
-use Rattle.lp_codegen_unit.specs.Rows.{IsInitRow, IsRow, init_if, initialisers, of_functions}
+use Rattle.lp_codegen_unit.specs.Rows.{IsRow, init_if, initialisers, of_functions}
 use Rattle.lp_codegen_unit.specs.Stands.{at}
 use Rattle.lp_sound_laws.specs.Counted.{FunctionsCounted, VariablesCounted}
 use Rattle.lp_sound_laws.specs.Heights.{gains}

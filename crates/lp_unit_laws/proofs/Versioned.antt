@@ -1,21 +1,17 @@
 -- A unit without faults is that of a version.
-use Rattle.std.proofs.Common.{◌≡◌, ℕ, zero, suc, ◌+◌, ◌-◌, refl, sym, ap, ◌∙◌, subst, List, [], ◌∷◌, ◌++◌, length, take, drop, map, Option, Some, None, true, false, arith, length-append}
+use Rattle.std.proofs.Common.{◌≡◌, ℕ, ◌-◌, refl, sym, ap, ◌∙◌, subst, List, [], ◌∷◌, ◌++◌, length, take, drop, false, arith, length-append}
 use Rattle.std.specs.Prelude.{codes, is_some, if◌then◌else◌}
-use Rattle.lp_tree.specs.declared.pragma.Pragmas.{Pragmas}
 use Rattle.lp_tree.specs.Units.{ItemTree}
-use Rattle.lp_values.specs.declared.id.ProgId.{ProgId}
-use Rattle.lp_code.specs.declared.tables.Slot.{Slot}
-use Rattle.lp_code.specs.declared.tables.VarRow.{VarRow}
 use Rattle.lp_code.specs.declared.tables.Tables.{Tables}
 use Rattle.lp_instr.specs.EfunList.{is_name}
 use Rattle.lp_layout.specs.Layout.{laid_slots, laid_variables, parts_before}
 use Rattle.lp_language.specs.World.{Version}
-use Rattle.lp_language.specs.Resolve.{Heir, Heritage, Heritages, NoParent, OneParent, own_variables, without_c}
+use Rattle.lp_language.specs.Resolve.{Heir, Heritages, NoParent, OneParent, without_c}
 use Rattle.lp_inherit.specs.Heirs.{AreNumbered, AreUnambiguous, table, tables}
 use Rattle.lp_plan_laws.specs.Tables.{AreNamedOnce}
 use Rattle.lp_types_expr.specs.Known.{Around}
 use Rattle.lp_types_expr.specs.Signatures.{inherited_kind}
-use Rattle.lp_unit_laws.specs.Versions.{AreOfVersions, AreTablesOf, FaultlessIsVersion, IsFine, IsOfVersion, IsVersion}
+use Rattle.lp_unit_laws.specs.Versions.{AreOfVersions, AreTablesOf, FaultlessIsVersion}
 use Rattle.lp_unit_laws.proofs.Doubles.{distinct, last_unseen, once, own_alone}
 use Rattle.lp_unit_laws.proofs.Sizes.{few}
 

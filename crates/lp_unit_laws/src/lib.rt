@@ -5,6 +5,8 @@ ghost use Rattle.lp_unit_laws.specs.Arguments.{WellTypedIsCounted};
 ghost use Rattle.lp_unit_laws.specs.Units.{FaultlessIsSound, FaultlessTablesAreFine};
 ghost use Rattle.lp_unit_laws.specs.Versions.{FaultlessIsVersion};
 
+use lp_sim::{translated_code_is_sound, translated_initialisers_are_sound};
+
 /// The law of arguments: where the types of a unit have no fault, each call of an efun has a number of arguments that the efun
 /// allows.
 pub fn law_arguments()
@@ -21,3 +23,13 @@ pub fn law_versions()
 pub fn law_tables()
     ensures { FaultlessTablesAreFine }
 {}
+
+/// The law of programs: one that has the code of a unit without faults, with the unit's tables, is sound, so that the verifier
+/// does not refuse it; where its stack may become as high as all its instructions together make it, and an instruction names
+/// each row of its list of switches.
+pub fn law_programs()
+    ensures { FaultlessIsSound }
+{
+    translated_code_is_sound();
+    translated_initialisers_are_sound();
+}
