@@ -20,7 +20,11 @@ use crate::answer::{Did, EfunFault};
 use crate::arguments::{int_at, value_at};
 use crate::caller::{Caller, Turn};
 use crate::carrying::carry;
+use crate::commands::notify_fail;
+use crate::connections::remove_interactive;
 use crate::looks::{is_look, look};
+use crate::places::unshadow;
+use crate::timing::{remove_call_out, set_heart_beat};
 use lp_instr::efun::Efun;
 use lp_values::id::CellId;
 use lp_values::value::Value;
@@ -206,6 +210,11 @@ fn changed(
     ensures names { live.new.names ≡ live.old.names }
 {
     match efun {
+        Efun::Unshadow => Ok(unshadow(live, caller)),
+        Efun::NotifyFail => notify_fail(turn, args, live),
+        Efun::RemoveInteractive => remove_interactive(live, args),
+        Efun::RemoveCallOut => remove_call_out(live, caller, args),
+        Efun::SetHeartBeat => set_heart_beat(live, caller, args),
         Efun::Random => Ok(random(live, args)),
         Efun::Throw => thrown(args, live),
         Efun::MDelete => m_delete(live, args),
@@ -217,5 +226,13 @@ fn changed(
 pub(crate) fn is_change(efun: Efun) -> bool
     ensures { result ≡ is_change efun }
 {
-    matches!(efun, Efun::Random | Efun::Throw | Efun::MDelete)
+    match efun {
+        Efun::Unshadow
+        | Efun::NotifyFail
+        | Efun::RemoveInteractive
+        | Efun::SetHeartBeat
+        | Efun::RemoveCallOut => true,
+        Efun::Random | Efun::Throw | Efun::MDelete => true,
+        _ => false,
+    }
 }

@@ -62,7 +62,8 @@ fn is_computing(efun: Efun) -> bool
     }
 }
 
-/// Whether an efun is carried out by `call_plain`: it calls no LPC, and uses no files.
+/// Whether an efun is carried out by `call_plain`: those that compute, those that look at the world alone which `is_look`
+/// lists, and those that change something or throw which `is_change` lists. None of them calls LPC or uses files.
 pub fn is_plain(efun: Efun) -> bool
     ensures { result ≡ is_plain efun }
 {
@@ -140,7 +141,7 @@ fn did(
     of_world(live, turn, caller, efun, args)
 }
 
-/// Carries out an efun that calls no LPC, with these arguments, which lie on top of the stack, first to last.
+/// Carries out an efun that calls no LPC, with these arguments, first to last.
 ///
 /// The price before is paid first; then the first argument of another kind than the efun takes is an error; then the
 /// efun acts, and at last the price of its result is paid. Where that cannot be paid the budget is spent, and what the
