@@ -4,5 +4,7 @@ pub mod Filing
 pub mod Going
 pub mod Beginning
 pub mod Completeness
+pub mod Counting
+pub mod Making
 pub mod Checking
 pub mod Naming

@@ -1,5 +1,6 @@
 -- Which command words name.
 use Rattle.std.proofs.Common.{◌≡◌, ◌∙◌, ℕ, List, [], ◌∷◌, true, false, Option, Some, None, sym, ap, refl, map, String, string_bytes, slice_get, codes, if◌then◌else◌}
+use Rattle.std.specs.Prelude.{Result, Ok, Err, IfOk}
 use Rattle.std.specs.List.{list_all}
 use Rattle.std.specs.declared.alloc.Global.{Global}
 use Rattle.std.proofs.lemmas.List.Folds.{list_all-map}
@@ -9,9 +10,11 @@ use Rattle.clap.specs.declared.parser.matches.ArgMatches.{ArgMatches}
 use Rattle.clap.proofs.WalkLemmas.{first_value-rows}
 use Rattle.clap.specs.declared.error.kind.ErrorKind.{ErrorKind}
 use Rattle.clap.proofs.OnLiterals.{clap_on_literals}
+use Rattle.lp_top.specs.declared.words.Command.{Command}
 use Rattle.lp_top.specs.declared.words.CommandName.{CommandName}
 use Rattle.lp_top.specs.declared.words.CommandName.TheVariants as name
-use Rattle.lp_top.specs.Words.{command_named, is_free_word, line_of, has_some, fault_in_line, simul_in, with_values, taken_with, command_with, command_in}
+use Rattle.lp_top.specs.declared.words.WordsFault.{WordsFault}
+use Rattle.lp_top.specs.Words.{command_named, is_free_word, line_of, has_some, fault_in_line, value_in, make_with, with_values, taken_with, command_with, command_in}
 
 -- a kind among some is one
 pub some_kind : (k : ErrorKind) (ks : Kinds) → IsAmong k ks → has_some ks ≡ true
@@ -22,16 +25,20 @@ pub is_simple_line : (n : CommandName) → is_simple_and_free (line_of n) ≡ tr
 unfolding clap_on_literals
 is_simple_line name.Replay = refl
 is_simple_line name.Check = refl
+is_simple_line name.Make = refl
 
-is_simple_check : is_simple (line_of name.Check) ≡ true
+-- clap says which matches the words of a command have
+has_matches : (n : CommandName) → is_simple (line_of n) ≡ true
 unfolding clap_on_literals
-is_simple_check = refl
+has_matches name.Replay = refl
+has_matches name.Check = refl
+has_matches name.Make = refl
 
--- the value that clap has for the option is the one of the definition
-pub simul_read : (words : List (List ℕ)) (line : App) (m : ArgMatches) → line ≡ line_of name.Check → HasMatchesOf line words m → first_value (found_of m) (codes "simul") ≡ simul_in words
-simul_read words line m e h =
-    first_value-rows (found_of m) (codes "simul")
-    ∙ ap (first_of (codes "simul")) ((h (ap is_simple e ∙ is_simple_check)).0 ∙ ap (λ a. matches_of a words) e)
+-- the value that clap has under a name is the one of the definition
+pub value_read : (n : CommandName) (id : List ℕ) (words : List (List ℕ)) (line : App) (m : ArgMatches) → line ≡ line_of n → HasMatchesOf line words m → first_value (found_of m) id ≡ value_in n id words
+value_read n id words line m e h =
+    first_value-rows (found_of m) id
+    ∙ ap (first_of id) ((h (ap is_simple e ∙ has_matches n)).0 ∙ ap (λ a. matches_of a words) e)
 
 -- words that clap takes
 pub taken_by : (n : CommandName) (words : List (List ℕ)) → fault_in_line n words ≡ false → taken_with n words ≡ with_values n words
@@ -50,3 +57,29 @@ with_refused ws n e = ap (λ b. if b then taken_with n (map string_bytes ws) els
 
 pub with_free : (ws : List (String Global)) (n : CommandName) → list_all (λ w. is_free_word (string_bytes w)) ws ≡ true → command_with (Some n) (map string_bytes ws) ≡ taken_with n (map string_bytes ws)
 with_free ws n e = ap (λ b. if b then taken_with n (map string_bytes ws) else None) (list_all-map is_free_word string_bytes ws ∙ e)
+
+-- a workload with the values that clap has
+make_read : (n : CommandName) (words : List (List ℕ)) (count seed : Option (List ℕ)) → n ≡ name.Make → fault_in_line name.Make words ≡ false → count ≡ value_in name.Make (codes "count") words → seed ≡ value_in name.Make (codes "seed") words
+    → taken_with n words ≡ make_with count seed
+make_read n words count seed is taken c s =
+    ap (λ m. taken_with m words) is ∙ taken_by name.Make words taken
+    ∙ sym (ap (λ v. make_with v seed) c ∙ ap (λ v. make_with (value_in name.Make (codes "count") words) v) s)
+
+pub make_taken : (n : CommandName) (words : List (List ℕ)) (count seed : Option (List ℕ)) (r : Result Command WordsFault) → n ≡ name.Make → fault_in_line name.Make words ≡ false → count ≡ value_in name.Make (codes "count") words → seed ≡ value_in name.Make (codes "seed") words
+    → IfOk r (λ c. make_with count seed ≡ Some c) → IfOk r (λ c. taken_with n words ≡ Some c)
+make_taken n words count seed (Ok c) is taken e f h = make_read n words count seed is taken e f ∙ h
+make_taken n words count seed (Err e) is taken f g h = tt
+
+pub make_refused : (n : CommandName) (words : List (List ℕ)) (count seed : Option (List ℕ)) → n ≡ name.Make → fault_in_line name.Make words ≡ false → count ≡ value_in name.Make (codes "count") words → seed ≡ value_in name.Make (codes "seed") words
+    → make_with count seed ≡ None → taken_with n words ≡ None
+make_refused n words count seed is taken e f h = make_read n words count seed is taken e f ∙ h
+
+-- the first word names a command, each word may stand, and clap takes them
+pub named_command : (ws : List (String Global)) (w : String Global) (n : CommandName) (r : Result Command WordsFault) → Some w ≡ slice_get ws 0 → Some n ≡ command_named (string_bytes w) → list_all (λ v. is_free_word (string_bytes v)) ws ≡ true
+    → IfOk r (λ c. taken_with n (map string_bytes ws) ≡ Some c) → IfOk r (λ c. command_in (map string_bytes ws) ≡ Some c)
+named_command ws w n (Ok c) first is free h = by_first ws w (Some n) first is ∙ with_free ws n free ∙ h
+named_command ws w n (Err e) first is free h = tt
+
+pub refused_command : (ws : List (String Global)) (w : String Global) (n : CommandName) → Some w ≡ slice_get ws 0 → Some n ≡ command_named (string_bytes w) → list_all (λ v. is_free_word (string_bytes v)) ws ≡ true
+    → taken_with n (map string_bytes ws) ≡ None → command_in (map string_bytes ws) ≡ None
+refused_command ws w n first is free h = by_first ws w (Some n) first is ∙ with_free ws n free ∙ h

@@ -2,4 +2,5 @@ pub mod Ends
 pub mod Words
 pub mod Replay
 pub mod Check
+pub mod Make
 pub mod Causes

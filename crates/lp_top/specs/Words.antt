@@ -5,18 +5,20 @@ use Rattle.std.specs.declared.alloc.Global.{Global}
 use Rattle.clap.specs.Kinds.{Kinds}
 use Rattle.clap.specs.Words.{App, Rule, new_app, new_rule, with_rule, fault_of, matches_of, first_of}
 use Rattle.clap.specs.declared.builder.action.ArgAction.TheVariants.{Set}
+use Rattle.lp_script.specs.Reading.{is_between, number_named}
 use Rattle.lp_top.specs.declared.words.Command.{Command}
-use Rattle.lp_top.specs.declared.words.Command.TheVariants.{Replay, Check}
+use Rattle.lp_top.specs.declared.words.Command.TheVariants.{Replay, Check, Make}
 use Rattle.lp_top.specs.declared.words.CommandName.{CommandName}
 use Rattle.lp_top.specs.declared.words.CommandName.TheVariants as name
 
 -- the command that a word names
 abbrev pub command_named : List ℕ → Option CommandName
-command_named word = if bytes_eq word (codes "replay") then Some name.Replay else (if bytes_eq word (codes "check") then Some name.Check else None)
+command_named word = if bytes_eq word (codes "replay") then Some name.Replay else (if bytes_eq word (codes "check") then Some name.Check else (if bytes_eq word (codes "make") then Some name.Make else None))
 
 abbrev pub text_of : CommandName → List ℕ
 text_of name.Replay = codes "replay"
 text_of name.Check = codes "check"
+text_of name.Make = codes "make"
 
 -- a word that is not one of those that no command takes, whatever clap says of them
 abbrev pub is_free_word : List ℕ → Bool
@@ -29,10 +31,15 @@ are_free words = list_all is_free_word words
 abbrev pub simul_option : Rule
 simul_option = record (new_rule (codes "simul")) { long = Some (codes "simul"); action = Some Set }
 
--- the words of a command as clap has them: its name, and its options
+-- a value that stands behind the name of a command without a name of its own, and is wanted
+abbrev pub wanted_value : List ℕ → Rule
+wanted_value id = record (new_rule id) { action = Some Set; required = true }
+
+-- the words of a command as clap has them: its name, and its options and values
 abbrev pub line_of : CommandName → App
 line_of name.Replay = new_app (codes "replay")
 line_of name.Check = with_rule (new_app (codes "check")) simul_option
+line_of name.Make = with_rule (with_rule (new_app (codes "make")) (wanted_value (codes "count"))) (wanted_value (codes "seed"))
 
 abbrev pub has_some : Kinds → Bool
 has_some [] = false
@@ -42,9 +49,9 @@ has_some (k ∷ ks) = true
 abbrev pub fault_in_line : CommandName → List (List ℕ) → Bool
 fault_in_line name words = has_some (fault_of (line_of name) words)
 
--- the value that clap has for `--simul`, if the words have the option
-abbrev pub simul_in : List (List ℕ) → Option (List ℕ)
-simul_in words = first_of (codes "simul") (matches_of (line_of name.Check) words)
+-- the value that clap has under this name, if the words have it
+abbrev pub value_in : CommandName → List ℕ → List (List ℕ) → Option (List ℕ)
+value_in name id words = first_of id (matches_of (line_of name) words)
 
 -- a value of an option is not empty, and does not begin with `-` (45)
 abbrev pub is_value : List ℕ → Bool
@@ -56,10 +63,25 @@ abbrev pub check_with : Option (List ℕ) → Option Command
 check_with None = Some (Check None)
 check_with (Some value) = if is_value value then Some (Check (Some value)) else None
 
+-- the number that a value is, in decimal digits without sign and without a leading zero, if it is one from `low` up to `high`
+abbrev pub number_in : ℕ → ℕ → Option (List ℕ) → Option ℕ
+number_in low high None = None
+number_in low high (Some value) = number_named (is_between low high) value
+
+abbrev pub make_of : Option ℕ → Option ℕ → Option Command
+make_of (Some count) (Some seed) = Some (Make count seed)
+make_of (Some count) None = None
+make_of None seed = None
+
+-- a workload of 1 to 200000 events, by a seed that is below 2^64
+abbrev pub make_with : Option (List ℕ) → Option (List ℕ) → Option Command
+make_with count seed = make_of (number_in 1 200000 count) (number_in 0 18446744073709551615 seed)
+
 -- the command of this name with its values
 abbrev pub with_values : CommandName → List (List ℕ) → Option Command
 with_values name.Replay words = Some Replay
-with_values name.Check words = check_with (simul_in words)
+with_values name.Check words = check_with (value_in name.Check (codes "simul") words)
+with_values name.Make words = make_with (value_in name.Make (codes "count") words) (value_in name.Make (codes "seed") words)
 
 -- the command of this name, if clap takes the words
 abbrev pub taken_with : CommandName → List (List ℕ) → Option Command
@@ -78,3 +100,7 @@ command_in (word ∷ rest) = command_with (command_named word) (word ∷ rest)
 -- the words name this command
 abbrev pub Name : List (String Global) → Command → Type 0
 Name words command = command_in (map string_bytes words) ≡ Some command
+
+-- they name a command that makes a workload
+abbrev pub NameMake : List (String Global) → Type 0
+NameMake words = (count : ℕ) × (seed : ℕ) × Name words (Make count seed)

@@ -10,10 +10,12 @@ ghost use Rattle.lp_small.specs.Run.{Starts};
 ghost use Rattle.lp_script.specs.Reader.{GoneAtMost};
 ghost use Rattle.lp_top.specs.Causes.{BlamesInput, BlamesOutput};
 ghost use Rattle.lp_top.specs.Check.{Checks};
+ghost use Rattle.lp_top.specs.Make.{Makes};
 ghost use Rattle.lp_top.specs.Replay.{AreRunYet, Replays};
-ghost use Rattle.lp_top.specs.Words.{Name, command_in};
+ghost use Rattle.lp_top.specs.Words.{Name, NameMake, command_in};
 
 use crate::check::check;
+use crate::make::make;
 use crate::replay::replay;
 use crate::status::Status;
 use crate::words::{Command, WordsFault, command_of};
@@ -33,7 +35,8 @@ fn text_of(path: &Option<FilePath>) -> Option<&str>
 }
 
 /// Carries out the command that the words name: `replay` reads a script from `input` and writes its
-/// transcript to `out`; `check` reads a script and tells what is wrong with its files, running nothing.
+/// transcript to `out`; `check` reads a script and tells what is wrong with its files, running nothing;
+/// `make` writes a script and reads nothing.
 ///
 /// A check loads each file that ends in `.c`, by path and its parents first. It writes a line
 /// `FILE line N: TEXT` for each fault, by the paths of the files and each file's faults once, and then
@@ -47,8 +50,13 @@ fn text_of(path: &Option<FilePath>) -> Option<&str>
 /// that file's version that every object may call. There are none where PATH is no file of the script
 /// that ends in `.c`, or where it or a parent of it is missing or faulty.
 ///
+/// `make N SEED` writes the script of a workload: a mudlib of eight boxes that hold numbers and share
+/// some of them, one connection, and N events, from 1 to 200000, which the words of SplitMix64 from
+/// SEED choose, a number below 2^64. Both are decimal digits without sign and without a leading zero.
+/// It holds one item at a time.
+///
 /// - `Done`: the input was read to its end and is a script, and the bytes written are its transcript
-///   or its report.
+///   or its report; or they are the script of the workload.
 /// - `BadWords`: exactly where the words name no command, unless there is no memory to see it; nothing
 ///   was read or written.
 /// - `BadScript`: at this offset stands no item that fits there, or one that a replay does not carry
@@ -59,8 +67,11 @@ fn text_of(path: &Option<FilePath>) -> Option<&str>
 ///   is left, or an item is begun.
 /// - `InputFault`: a read failed, and the source's count of faults rose.
 /// - `OutputFault`: a write or a flush failed, or a write took nothing, and one of the sink's counts
-///   rose. A front of the transcript or of the report was written.
-/// - `NoMemory`: a replay has written the blocks of the events before, a check nothing.
+///   rose. A front of the transcript, of the report or of the workload was written.
+/// - `NoMemory`: a replay has written the blocks of the events before, a check nothing, and `make` a
+///   front of the workload.
+///
+/// `make` ends with `Done`, `OutputFault` or `NoMemory` alone.
 ///
 /// At most 67108865 bytes of the input are taken, at every end. At `Done` all that was written was
 /// passed on by a flush.
@@ -77,7 +88,9 @@ pub fn run<S: Source, K: Sink>(
     ensures untouched { command_in (map string_bytes words.now) ≡ None → (input.new ≡ input.old) × (out.new ≡ out.old) }
     ensures replays { Name words.now Command.Replay → (b : List ℕ) → S.remaining input.old ≡ Some b → Replays b result (K.written out.old) (K.written out.new) }
     ensures checks { (simul : Option (List ℕ)) → Name words.now (Command.Check simul) → (b : List ℕ) → S.remaining input.old ≡ Some b → Checks simul b result (K.written out.old) (K.written out.new) }
-    ensures whole { result ≡ Status.Done → (b : List ℕ) → S.remaining input.old ≡ Some b → S.remaining input.new ≡ Some [] }
+    ensures makes { (count seed : ℕ) → Name words.now (Command.Make count seed) → Makes count seed result (K.written out.old) (K.written out.new) }
+    ensures unread { NameMake words.now → input.new ≡ input.old }
+    ensures whole { result ≡ Status.Done → (NameMake words.now → ⊥) → (b : List ℕ) → S.remaining input.old ≡ Some b → S.remaining input.new ≡ Some [] }
     ensures most { (b : List ℕ) → S.remaining input.old ≡ Some b → GoneAtMost b (S.remaining input.new) }
     ensures passed { result ≡ Status.Done → IsPassedOn (K.passed out.new) }
     ensures input_fault { BlamesInput result (S.faults input.old) (S.faults input.new) }
@@ -90,11 +103,15 @@ pub fn run<S: Source, K: Sink>(
     ensures complete_check { (simul : Option (List ℕ)) (b : List ℕ) (xs : List I) → Name words.now (Command.Check simul) → S.remaining input.old ≡ Some b → length b ≤ longest_input → IsScript b xs
         → (Rose (S.faults input.old) (S.faults input.new) → ⊥) → (Rose (K.faults out.old) (K.faults out.new) → ⊥) → (Rose (K.zeros out.old) (K.zeros out.new) → ⊥)
         → (result ≡ Status.Done) ⊎ (result ≡ Status.NoMemory) }
+    // Each workload is made to its end over a sink that does not fail.
+    ensures complete_make { NameMake words.now → (Rose (K.faults out.old) (K.faults out.new) → ⊥) → (Rose (K.zeros out.old) (K.zeros out.new) → ⊥)
+        → (result ≡ Status.Done) ⊎ (result ≡ Status.NoMemory) }
 {
     one_spelling();
     match command_of(alloc, words) {
         Ok(Command::Replay) => replay(alloc, input, out),
         Ok(Command::Check { simul }) => check(alloc, text_of(&simul), input, out),
+        Ok(Command::Make { count, seed }) => make(alloc, count, seed, out),
         Err(WordsFault::BadWords) => Status::BadWords,
         Err(WordsFault::NoMemory) => Status::NoMemory,
     }

@@ -5,6 +5,8 @@ mod check;
 mod command;
 mod finish;
 mod items;
+mod make;
+mod number;
 pub mod replay;
 pub mod status;
 pub mod words;

@@ -2,10 +2,11 @@
 ghost use Rattle.std.specs.Prelude.{◌≡◌, true, false, Err, IfOk, map, string_bytes};
 ghost use Rattle.std.specs.List.{list_all};
 ghost use Rattle.std.specs.Option.{option_copied};
-ghost use Rattle.clap.specs.Words.{HasMatchesOf, app_of, fault_of, is_simple_and_free};
-ghost use Rattle.lp_top.specs.Words.{check_with, command_in, command_named as named, has_some, is_free_word, is_value as may_be_value, line_of, taken_with, text_of};
+ghost use Rattle.clap.specs.Words.{HasMatchesOf, app_of, fault_of, is_simple_and_free, rule_of};
+ghost use Rattle.lp_top.specs.Words.{check_with, command_in, command_named as named, has_some, is_free_word, is_value as may_be_value, line_of, make_with, wanted_value as wanted, taken_with, text_of};
 ghost use Rattle.lp_top.specs.declared.words.WordsFault.TheVariants as fault;
 
+use crate::number::number_in;
 use clap::error::ErrorKind;
 use clap::{Arg, ArgAction, ArgMatches, Command as Line};
 use lp_tree::path::FilePath;
@@ -20,6 +21,8 @@ pub enum Command {
     /// Reads a script and tells what is wrong with its files. With `simul` they see the functions of
     /// the file with this path as simul efuns.
     Check { simul: Option<FilePath> },
+    /// Writes the script of a workload of so many events, which a generator with this seed chooses.
+    Make { count: u32, seed: u64 },
 }
 
 /// The names of the commands.
@@ -27,7 +30,11 @@ pub enum Command {
 pub enum CommandName {
     Replay,
     Check,
+    Make,
 }
+
+/// The most events that a workload may have.
+const MOST_EVENTS: u64 = 200_000;
 
 /// Why words name no command.
 #[derive(Clone, Copy, Debug, PartialEq, Eq, Error)]
@@ -59,6 +66,9 @@ fn command_named(word: &str) -> Option<CommandName>
     if word == "check" {
         return Some(CommandName::Check);
     }
+    if word == "make" {
+        return Some(CommandName::Make);
+    }
     None
 }
 
@@ -83,7 +93,16 @@ fn name_of<'a>(name: CommandName) -> &'a str
     match name {
         CommandName::Replay => "replay",
         CommandName::Check => "check",
+        CommandName::Make => "make",
     }
+}
+
+// A value that stands behind the name of a command, and is wanted.
+fn wanted_value<'a>(alloc: Global, id: &'a str) -> Arg<'a>
+    ensures rule { rule_of result ≡ wanted id.entry.now }
+    ensures local { result.global ≡ false }
+{
+    Arg::new(alloc, id).required(true).action(ArgAction::Set)
 }
 
 // The words of a command as clap has them.
@@ -99,6 +118,9 @@ fn line<'a>(alloc: Global, name: CommandName) -> Result<Line<'a>, AllocError>
                 .action(ArgAction::Set);
             line.arg(simul)
         }
+        CommandName::Make => line
+            .arg(wanted_value(alloc, "count"))?
+            .arg(wanted_value(alloc, "seed")),
     }
 }
 
@@ -145,6 +167,22 @@ fn check_of(alloc: Global, simul: Option<&str>) -> Result<Command, WordsFault>
     }
 }
 
+// A workload with these values.
+fn make_of(count: Option<&str>, seed: Option<&str>) -> Result<Command, WordsFault>
+    ensures named { IfOk result (λ c. make_with (option_copied count.entry) (option_copied seed.entry) ≡ Some c) }
+    ensures refused { result ≡ Err fault.BadWords → make_with (option_copied count.entry) (option_copied seed.entry) ≡ None }
+{
+    let count = number_in(1, MOST_EVENTS, count);
+    let seed = number_in(0, u64::MAX, seed);
+    match (count, seed) {
+        (Some(count), Some(seed)) => Ok(Command::Make {
+            count: count as u32,
+            seed,
+        }),
+        _ => Err(WordsFault::BadWords),
+    }
+}
+
 // The command of this name, with its values in the words, of which the first is the name.
 fn command_with(alloc: Global, name: CommandName, words: &[String]) -> Result<Command, WordsFault>
     ensures named { IfOk result (λ c. taken_with name (map string_bytes words.now) ≡ Some c) }
@@ -154,6 +192,7 @@ fn command_with(alloc: Global, name: CommandName, words: &[String]) -> Result<Co
     match name {
         CommandName::Replay => Ok(Command::Replay),
         CommandName::Check => check_of(alloc, matches.get_str("simul")),
+        CommandName::Make => make_of(matches.get_str("count"), matches.get_str("seed")),
     }
 }
 

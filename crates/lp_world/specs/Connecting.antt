@@ -1,5 +1,6 @@
 -- Connections and what waits for their lines, as lists.
-use Rattle.std.specs.Prelude.{ℕ, List}
+use Rattle.std.specs.Prelude.{ℕ, List, nat_eq, if◌then◌else◌}
+use Rattle.lp_values.specs.declared.id.ObjId.{ObjId}
 use Rattle.lp_world.specs.declared.connections.Connection.{Connection}
 use Rattle.lp_world.specs.declared.connections.Waiting.{Waiting}
 
@@ -9,3 +10,7 @@ pub record Connecting : Type 0 where
   pub highest : ℕ
   pub present : List ℕ
   pub waiting : List Waiting
+
+-- a connection of a number goes to an object
+abbrev pub given_to : ObjId → ℕ → Connection → Connection
+given_to o k c = if nat_eq c.number k then record c { object = o } else c

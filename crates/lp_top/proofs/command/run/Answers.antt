@@ -1,6 +1,8 @@
-use Rattle.std.proofs.Common.{◌⊎◌, inl, inr}
+use Rattle.std.proofs.Common.{◌≡◌, ◌∙◌, ◌⊎◌, inl, inr, subst, ap, Some, Err}
 use Rattle.lp_top.proofs.Completeness.{completes}
 use Rattle.lp_top.proofs.Checking.{completes_check, checks_unread, replays_unread}
+use Rattle.lp_top.specs.Make.{IsMakeEnd}
+use Rattle.lp_top.proofs.Making.{completes_make, makes_named, makes_nothing, not_check, not_none, not_replay}
 use Rattle.lp_top.proofs.command.run.Goals as goal
 
 either_not : {A B : Type 0} → A ⊎ B → (A → ⊥) → (B → ⊥) → ⊥
@@ -22,3 +24,36 @@ returns-in-Err-NoMemory-clause-replays g c = λ named b told. replays_unread b _
 
 pub returns-in-Err-NoMemory-clause-checks : goal.returns-in-Err-NoMemory-clause-checks
 returns-in-Err-NoMemory-clause-checks g c = λ simul named b told. checks_unread simul b _
+
+pub returns-in-Ok-Replay-clause-unread : goal.returns-in-Ok-Replay-clause-unread
+returns-in-Ok-Replay-clause-unread g c = λ m. absurd (not_replay _ m.0 m.1 (c.in-Ok-Replay.ensures.named ∙ ap (λ x. Some x) c.in-Ok-Replay.field-0-is) m.2)
+
+pub returns-in-Ok-Replay-clause-complete_make : goal.returns-in-Ok-Replay-clause-complete_make
+returns-in-Ok-Replay-clause-complete_make g c = λ m sink zeros. absurd (not_replay _ m.0 m.1 (c.in-Ok-Replay.ensures.named ∙ ap (λ x. Some x) c.in-Ok-Replay.field-0-is) m.2)
+
+pub returns-in-Ok-Check-clause-unread : goal.returns-in-Ok-Check-clause-unread
+returns-in-Ok-Check-clause-unread g c = λ m. absurd (not_check _ _ m.0 m.1 (c.in-Ok-Check.ensures.named ∙ ap (λ x. Some x) c.in-Ok-Check.field-0-is) m.2)
+
+pub returns-in-Ok-Check-clause-complete_make : goal.returns-in-Ok-Check-clause-complete_make
+returns-in-Ok-Check-clause-complete_make g c = λ m sink zeros. absurd (not_check _ _ m.0 m.1 (c.in-Ok-Check.ensures.named ∙ ap (λ x. Some x) c.in-Ok-Check.field-0-is) m.2)
+
+pub returns-in-Ok-Make-clause-words : goal.returns-in-Ok-Make-clause-words
+returns-in-Ok-Make-clause-words g c = λ e. absurd (subst IsMakeEnd e c.make.ensures.kind)
+
+pub returns-in-Ok-Make-clause-makes : goal.returns-in-Ok-Make-clause-makes
+returns-in-Ok-Make-clause-makes g c = λ count seed e. makes_named _ _ _ count seed c.make.result _ _ (c.in-Ok-Make.ensures.named ∙ ap (λ x. Some x) c.in-Ok-Make.field-0-is) e c.make.ensures.makes
+
+pub returns-in-Ok-Make-clause-whole : goal.returns-in-Ok-Make-clause-whole
+returns-in-Ok-Make-clause-whole g c = λ done other b told. absurd (other (c.in-Ok-Make.count, c.in-Ok-Make.seed, (c.in-Ok-Make.ensures.named ∙ ap (λ x. Some x) c.in-Ok-Make.field-0-is)))
+
+pub returns-in-Ok-Make-clause-input_fault : goal.returns-in-Ok-Make-clause-input_fault
+returns-in-Ok-Make-clause-input_fault g c = λ e. absurd (subst IsMakeEnd e c.make.ensures.kind)
+
+pub returns-in-Ok-Make-clause-complete_make : goal.returns-in-Ok-Make-clause-complete_make
+returns-in-Ok-Make-clause-complete_make g c = λ m sink zeros. completes_make c.make.result c.make.ensures.kind (λ e. either_not (c.make.ensures.output_cause e) sink zeros)
+
+pub returns-in-Err-BadWords-clause-complete_make : goal.returns-in-Err-BadWords-clause-complete_make
+returns-in-Err-BadWords-clause-complete_make g c = λ m sink zeros. absurd (not_none _ m.0 m.1 (c.command_of.ensures.refused (subst (λ f. c.command_of.result ≡ Err f) c.in-Err-BadWords.field-0-is c.in-Err-BadWords.is)) m.2)
+
+pub returns-in-Err-NoMemory-clause-makes : goal.returns-in-Err-NoMemory-clause-makes
+returns-in-Err-NoMemory-clause-makes g c = λ count seed named. makes_nothing count seed _

@@ -1,0 +1,10 @@
+//! The programs of all versions fit them.
+#![tactic(auto)]
+
+ghost use Rattle.lp_fits.specs.Fits.{NewVersionFits};
+
+/// The law of new versions: the programs of all versions still fit them where a file that was compiled for the next number
+/// becomes the version with that number.
+pub fn law_fits()
+    ensures { NewVersionFits }
+{}

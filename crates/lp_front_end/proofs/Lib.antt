@@ -1,0 +1,9 @@
+pub mod OneFault
+pub mod OneReading
+pub mod Grammar
+pub mod Existence
+pub mod Same
+pub mod Telling
+pub mod Names
+pub mod Missing
+pub mod Small

@@ -1,0 +1,5 @@
+use Rattle.lp_front_end.proofs.Missing.{missing_are_the_same}
+use Rattle.lp_front_end.proofs.law_missing_are_the_same.Goals as goal
+
+pub returns : goal.returns
+returns c = missing_are_the_same c.law_files_are_of_names.ensures

@@ -1,0 +1,6 @@
+pub mod Readings
+pub mod FrontEnds
+pub mod Stores
+pub mod Told
+pub mod Parents
+pub mod Examples

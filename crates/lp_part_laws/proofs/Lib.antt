@@ -1,0 +1,7 @@
+pub mod Bases
+pub mod Latest
+pub mod Lists
+pub mod Places
+pub mod Rows
+pub mod Texts
+pub mod Trees

@@ -1,0 +1,4 @@
+pub mod Counted
+pub mod Heights
+pub mod Parts
+pub mod Placed

@@ -1,0 +1,75 @@
+-- Making the script of a workload.
+use Rattle.std.proofs.Common.{subst, ◌≡◌, ◌∙◌, ℕ, List, [], ◌++◌, take, drop, Bool, true, false, Option, Some, None, refl, sym, ap, inl, inr, ◌⊎◌}
+use Rattle.std.proofs.lemmas.List.{append-nil, take-append-drop}
+use Rattle.lp_io.specs.Told.{after_adding, IsCut}
+use Rattle.lp_events.specs.Script.{spellings}
+use Rattle.lp_workload.specs.Workload.{workload}
+use Rattle.lp_top.specs.declared.words.Command.{Command}
+use Rattle.lp_top.specs.declared.words.Command.TheVariants.{Check, Make, Replay}
+use Rattle.lp_top.specs.declared.status.Status.{Status}
+use Rattle.lp_top.specs.declared.status.Status.TheVariants as ends
+use Rattle.lp_top.specs.Make.{IsMakeEnd, Makes}
+use Rattle.lp_top.specs.Replay.{IsFrontOf}
+
+-- the script was written
+pub makes_whole : (count seed : ℕ) (before after : Option (List ℕ)) → after ≡ after_adding before (spellings (workload count seed)) → Makes count seed ends.Done before after
+makes_whole count seed before after e = record { ends = tt; wrote = λ old f. (spellings (workload count seed), e ∙ ap (λ o. after_adding o (spellings (workload count seed))) f, refl) }
+
+-- the script was written, and not handed on
+pub makes_held : (count seed : ℕ) (before after : Option (List ℕ)) → after ≡ after_adding before (spellings (workload count seed)) → Makes count seed ends.OutputFault before after
+makes_held count seed before after e = record { ends = tt; wrote = λ old f. (spellings (workload count seed), e ∙ ap (λ o. after_adding o (spellings (workload count seed))) f, ([], sym (append-nil (spellings (workload count seed))))) }
+
+cut_front : (before after : Option (List ℕ)) (script : List ℕ) → IsCut before after script → (old : List ℕ) → before ≡ Some old → (piece : List ℕ) × (after ≡ Some (old ++ piece)) × IsFrontOf piece script
+cut_front before after script (n, within, e) old f = (take n script, e ∙ ap (λ o. after_adding o (take n script)) f, (drop n script, sym (take-append-drop n script)))
+
+-- a front of it was written
+pub makes_cut : (count seed : ℕ) (before after : Option (List ℕ)) → IsCut before after (spellings (workload count seed)) → Makes count seed ends.OutputFault before after
+makes_cut count seed before after h = record { ends = tt; wrote = cut_front before after (spellings (workload count seed)) h }
+
+pub makes_no_memory : (count seed : ℕ) (before after : Option (List ℕ)) → IsCut before after (spellings (workload count seed)) → Makes count seed ends.NoMemory before after
+makes_no_memory count seed before after h = record { ends = tt; wrote = cut_front before after (spellings (workload count seed)) h }
+
+-- nothing was written
+pub makes_nothing : (count seed : ℕ) (told : Option (List ℕ)) → Makes count seed ends.NoMemory told told
+makes_nothing count seed told = record { ends = tt; wrote = λ old f. ([], f ∙ ap (λ xs. Some xs) (sym (append-nil old)), (spellings (workload count seed), refl)) }
+
+-- a workload over a sink that does not fail is made to its end, or memory runs out
+pub completes_make : (s : Status) → IsMakeEnd s → (s ≡ ends.OutputFault → ⊥) → (s ≡ ends.Done) ⊎ (s ≡ ends.NoMemory)
+completes_make ends.Done i q = inl refl
+completes_make ends.OutputFault i q = absurd (q refl)
+completes_make ends.NoMemory i q = inr refl
+completes_make ends.BadWords i q = absurd i
+completes_make (ends.BadScript at) i q = absurd i
+completes_make (ends.NoMaster faults) i q = absurd i
+completes_make ends.TooLarge i q = absurd i
+completes_make ends.InputFault i q = absurd i
+
+some_same : {x y : Command} → Some x ≡ Some y → x ≡ y
+some_same e = cc
+
+same_count : {a b c d : ℕ} → Make a b ≡ Make c d → a ≡ c
+same_count e = cc
+
+same_seed : {a b c d : ℕ} → Make a b ≡ Make c d → b ≡ d
+same_seed e = cc
+
+-- words name one workload at most
+pub makes_named : (o : Option Command) (a b count seed : ℕ) (s : Status) (before after : Option (List ℕ)) → o ≡ Some (Make a b) → o ≡ Some (Make count seed) → Makes a b s before after → Makes count seed s before after
+makes_named o a b count seed s before after e f h =
+    let same = some_same (sym e ∙ f) in
+    subst (λ n. Makes count n s before after) (same_seed same) (subst (λ n. Makes n b s before after) (same_count same) h)
+
+abbrev is_make : Command → Bool
+is_make (Make count seed) = true
+is_make Replay = false
+is_make (Check simul) = false
+
+-- words that name another command, or none, name no workload
+pub not_replay : (o : Option Command) (count seed : ℕ) → o ≡ Some Replay → o ≡ Some (Make count seed) → ⊥
+not_replay o count seed e f = let h = ap is_make (some_same (sym e ∙ f)) in absurd cc
+
+pub not_check : (o : Option Command) (simul : Option (List ℕ)) (count seed : ℕ) → o ≡ Some (Check simul) → o ≡ Some (Make count seed) → ⊥
+not_check o simul count seed e f = let h = ap is_make (some_same (sym e ∙ f)) in absurd cc
+
+pub not_none : (o : Option Command) (count seed : ℕ) → o ≡ None → o ≡ Some (Make count seed) → ⊥
+not_none o count seed e f = let h = sym e ∙ f in absurd cc

@@ -1,0 +1,5 @@
+pub mod WritingLemmas
+pub mod EventLemmas
+pub mod LengthLemmas
+pub mod WholeLemmas
+pub mod ScriptLemmas

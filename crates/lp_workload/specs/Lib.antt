@@ -1,0 +1,3 @@
+pub mod Workload
+pub mod Writes
+pub mod Laws
