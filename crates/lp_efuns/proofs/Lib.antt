@@ -9,3 +9,4 @@ pub mod Looking
 pub mod Timed
 pub mod Commanded
 pub mod Connected
+pub mod Enabled

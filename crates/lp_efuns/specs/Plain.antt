@@ -50,9 +50,14 @@ is_change efuns.Throw = true
 is_change efuns.MDelete = true
 is_change _ = false
 
--- both
+-- and the one that changes an object
+abbrev pub is_enable : Efun → Bool
+is_enable efuns.EnableCommands = true
+is_enable _ = false
+
+-- all of them
 abbrev pub is_deed : Efun → Bool
-is_deed e = is_look e || is_change e
+is_deed e = is_enable e || (is_look e || is_change e)
 
 -- by their groups: all that compute, and those
 abbrev pub is_plain_in : Group → Efun → Bool

@@ -10,6 +10,7 @@ mod changes;
 mod commands;
 mod computed;
 mod connections;
+mod enabling;
 mod known;
 mod looks;
 mod objects;
