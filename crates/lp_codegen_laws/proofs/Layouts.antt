@@ -131,13 +131,13 @@ last_is b (t ∷ ts) first w =
 either_is : {A B : Type 0} (o p : Option A) (q r : Option B) → is_some o ≡ is_some q → is_some p ≡ is_some r → is_some (tables.or_else o p) ≡ is_some (tables.or_else q r)
 either_is o p q r e f = one_or o p ∙ ap (λ y. y || is_some p) e ∙ ap (λ y. is_some q || y) f ∙ sym (one_or q r)
 
-known_is : (is : List ItemTree) (ts : List Tables) (w : List ℕ) → is_some (known_function is ts w) ≡ is_some (laid_slot is ts w)
+pub known_is : (is : List ItemTree) (ts : List Tables) (w : List ℕ) → is_some (known_function is ts w) ≡ is_some (laid_slot is ts w)
 known_is is ts w =
     either_is (own_function is w) _ (own_slot 0 (parts_of ts) is w) _ (own_function_is 0 (parts_of ts) is w)
     (either_is (last_shown true ts w) _ (last_slot true ts 0 w) _ (last_is true ts 0 w)
     (either_is (own_prototype is w) (last_shown false ts w) (prototype_slot (parts_of ts) is w) (last_slot false ts 0 w) (own_prototype_is (parts_of ts) is w) (last_is false ts 0 w)))
 
-row_there : (ss : List Slot) (k : ℕ) (w : List ℕ) → is_some (slot_from k (row_names ss) w) ≡ is_some (slot_named ss w)
+pub row_there : (ss : List Slot) (k : ℕ) (w : List ℕ) → is_some (slot_from k (row_names ss) w) ≡ is_some (slot_named ss w)
 row_there [] k w = refl
 row_there (s ∷ ss) k w =
     later_place (slot_from (suc k) (row_names ss) w) (is_name s.name w) (is_name s.name w) k refl

@@ -1,5 +1,5 @@
 -- A whole call, from its parts.
-use Rattle.std.proofs.Common.{◌≡◌, ◌∙◌, ◌-◌, ℕ, Bool, true, false, List, Option, Some, None, refl, ap, sym, subst, length, All, nat_lt, ◌||◌, [], unwrap_or, map, if◌then◌else◌}
+use Rattle.std.proofs.Common.{◌≡◌, ◌∙◌, ◌-◌, ℕ, Bool, true, false, List, Option, Some, None, refl, ap, sym, subst, length, All, nat_lt, [], unwrap_or, map, if◌then◌else◌}
 use Rattle.lp_values.specs.declared.id.ObjId.{ObjId}
 use Rattle.lp_values.specs.declared.value.Value.{Value}
 use Rattle.lp_values.specs.Errors.{bad_arg}
@@ -12,7 +12,6 @@ use Rattle.lp_ops.specs.declared.effect.Effect.TheVariants as effects
 use Rattle.lp_ops.specs.Effects.{reference}
 use Rattle.lp_ops.specs.Operands.{operand, size_of}
 use Rattle.lp_instr.specs.declared.efun.Efun.{Efun}
-use Rattle.lp_instr.specs.declared.efun.Efun.TheVariants as efuns
 use Rattle.lp_instr.specs.EfunKinds.{kinds}
 use Rattle.lp_instr.specs.EfunList.{efun_name}
 use Rattle.lp_language.specs.Course.{Scene, State, Thrown, Failed, Spent, End, Gives, Stops, Over, here, pay}
@@ -34,7 +33,7 @@ use Rattle.lp_efuns.specs.declared.answer.Did.TheVariants as did
 use Rattle.lp_efuns.specs.declared.caller.Caller.{Caller}
 use Rattle.lp_efuns.specs.declared.caller.Turn.{Turn}
 use Rattle.lp_efuns.specs.Deeds.{Does, Done, Gave, IsDone, Refused, Threw, deed_done, effect_done, group_done}
-use Rattle.lp_efuns.specs.Plain.{CallsEfun, Finishes, IsDidThere, IsEnd, PaysFor, is_change, is_computing, is_deed, is_look, is_plain, is_plain_in, price_of_value}
+use Rattle.lp_efuns.specs.Plain.{CallsEfun, Finishes, IsDidThere, IsEnd, PaysFor, is_computing, is_deed, is_plain, is_plain_in, price_of_value}
 use Rattle.lp_efuns.specs.Turns.{At, Setting}
 use Rattle.lp_efuns.proofs.Parted.{price_same}
 
@@ -115,92 +114,6 @@ finishes g live turn old new e (did.Error x) a (Gave w t) h i f = absurd h
 finishes g live turn old new e (did.Error x) a (Threw w t) h i f = absurd h
 finishes g live turn old new e (did.Thrown v) a (Gave w t) h i f = absurd h
 finishes g live turn old new e (did.Thrown v) a (Refused y t) h i f = absurd h
-
--- which efuns are plain
-pub plain_is : (e : Efun) → (is_computing (group e) || (is_look e || is_change e)) ≡ is_plain e
-plain_is efuns.ThisObject = refl
-plain_is efuns.ThisPlayer = refl
-plain_is efuns.ThisInteractive = refl
-plain_is efuns.PreviousObject = refl
-plain_is efuns.CallOther = refl
-plain_is efuns.CloneObject = refl
-plain_is efuns.LoadObject = refl
-plain_is efuns.FindObject = refl
-plain_is efuns.Destruct = refl
-plain_is efuns.ObjectName = refl
-plain_is efuns.LoadName = refl
-plain_is efuns.ProgramName = refl
-plain_is efuns.Clonep = refl
-plain_is efuns.Objectp = refl
-plain_is efuns.Intp = refl
-plain_is efuns.Stringp = refl
-plain_is efuns.Pointerp = refl
-plain_is efuns.Mappingp = refl
-plain_is efuns.Living = refl
-plain_is efuns.Interactive = refl
-plain_is efuns.FunctionExists = refl
-plain_is efuns.EnableCommands = refl
-plain_is efuns.Shadow = refl
-plain_is efuns.QueryShadowing = refl
-plain_is efuns.Unshadow = refl
-plain_is efuns.Environment = refl
-plain_is efuns.AllInventory = refl
-plain_is efuns.FirstInventory = refl
-plain_is efuns.NextInventory = refl
-plain_is efuns.Present = refl
-plain_is efuns.MoveObject = refl
-plain_is efuns.AddAction = refl
-plain_is efuns.Command = refl
-plain_is efuns.QueryVerb = refl
-plain_is efuns.NotifyFail = refl
-plain_is efuns.InputTo = refl
-plain_is efuns.Write = refl
-plain_is efuns.TellObject = refl
-plain_is efuns.TellRoom = refl
-plain_is efuns.Say = refl
-plain_is efuns.Printf = refl
-plain_is efuns.Users = refl
-plain_is efuns.Exec = refl
-plain_is efuns.RemoveInteractive = refl
-plain_is efuns.Time = refl
-plain_is efuns.SetHeartBeat = refl
-plain_is efuns.CallOut = refl
-plain_is efuns.RemoveCallOut = refl
-plain_is efuns.FindCallOut = refl
-plain_is efuns.Random = refl
-plain_is efuns.Throw = refl
-plain_is efuns.RaiseError = refl
-plain_is efuns.Strlen = refl
-plain_is efuns.Explode = refl
-plain_is efuns.Implode = refl
-plain_is efuns.LowerCase = refl
-plain_is efuns.UpperCase = refl
-plain_is efuns.Capitalize = refl
-plain_is efuns.Strstr = refl
-plain_is efuns.Trim = refl
-plain_is efuns.Sprintf = refl
-plain_is efuns.Sscanf = refl
-plain_is efuns.ToInt = refl
-plain_is efuns.ToString = refl
-plain_is efuns.Sizeof = refl
-plain_is efuns.Allocate = refl
-plain_is efuns.Member = refl
-plain_is efuns.Copy = refl
-plain_is efuns.Filter = refl
-plain_is efuns.Map = refl
-plain_is efuns.MIndices = refl
-plain_is efuns.MValues = refl
-plain_is efuns.MDelete = refl
-plain_is efuns.Mkmapping = refl
-plain_is efuns.Min = refl
-plain_is efuns.Max = refl
-plain_is efuns.Abs = refl
-plain_is efuns.ReadFile = refl
-plain_is efuns.WriteFile = refl
-plain_is efuns.FileSize = refl
-plain_is efuns.Rm = refl
-plain_is efuns.SaveObject = refl
-plain_is efuns.RestoreObject = refl
 
 -- an efun that is plain and does not compute is one of the world
 pub deed_of : (k : Group) (e : Efun) → is_plain_in k e ≡ true → is_computing k ≡ false → is_deed e ≡ true

@@ -13,6 +13,9 @@ use Rattle.lp_cells.specs.declared.content.Content.TheVariants as content
 use Rattle.lp_ops.specs.Integers.{int}
 use Rattle.lp_ops.specs.Operands.{Mapping, Number, opened, operand}
 use Rattle.lp_instr.specs.declared.efun.Efun.TheVariants as efuns
+use Rattle.lp_places.specs.Places.{Lying, Shadowing, unshadowed}
+use Rattle.lp_places.specs.Stands.{Stands as Place}
+use Rattle.lp_places.specs.declared.places.Places.{Places}
 use Rattle.lp_language.specs.Course.{State}
 use Rattle.lp_language.specs.Operations.{cells_of, living, seen, with_world}
 use Rattle.lp_language.specs.World.{World, with_cells}
@@ -30,7 +33,7 @@ use Rattle.lp_efuns.specs.Deeds.{Does, HasDropped, IsDone, deed_done}
 use Rattle.lp_efuns.specs.Turns.{At}
 use Rattle.lp_efuns.specs.Subjects.{mapping_arg, mapping_in_option}
 use Rattle.lp_efuns.proofs.Acted.{at_cells}
-use Rattle.lp_efuns.proofs.Rested.{at_generator}
+use Rattle.lp_efuns.proofs.Rested.{at_generator, at_places}
 
 -- `random`
 
@@ -127,3 +130,11 @@ key_dropped caller vs live live1 turn c k e there q drops g b d s sc h =
       subst (λ l. At g l turn b (with_world s w)) (sym same)
           (at_cells g live (content_set live.cells c new) turn b s w h (stands_with_content g.told g.programs live s.world c (content.Mapping t.0) new h.stands t.1)),
     )
+
+-- `unshadow`
+
+pub unshadow_does : (caller : Caller) (vs : List Value) (live : Live) (turn : Turn) (p : Places) → ((places : List Lying) (shadows : List Shadowing) → Place live.places places shadows → Place p places (unshadowed shadows caller.this))
+    → Does efuns.Unshadow caller vs live turn (did.Value (values.Int (pos 0))) (record live { places = p }) turn
+unfolding deed
+unshadow_does caller vs live turn p f g b c s sc h =
+    (refl, at_places g live turn b s p (unshadowed s.world.shadows c.this) (subst (λ o. Place p s.world.places (unshadowed s.world.shadows o)) (sym sc.this) (f s.world.places s.world.shadows h.stands.rest.places)) h)

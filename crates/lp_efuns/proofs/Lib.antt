@@ -5,3 +5,8 @@ pub mod Acted
 pub mod Rested
 pub mod Changed
 pub mod Called
+pub mod Looking
+pub mod Timed
+pub mod Commanded
+pub mod Connected
+pub mod Enabled

@@ -21,20 +21,44 @@ use Rattle.lp_efuns.specs.Turns.{At, IsScene, Setting}
 
 -- the efuns of the world that are carried out here: those that change nothing
 abbrev pub is_look : Efun → Bool
+is_look efuns.ThisObject = true
+is_look efuns.ThisPlayer = true
+is_look efuns.ThisInteractive = true
+is_look efuns.PreviousObject = true
+is_look efuns.FindObject = true
+is_look efuns.ObjectName = true
+is_look efuns.Living = true
+is_look efuns.Interactive = true
+is_look efuns.Environment = true
+is_look efuns.AllInventory = true
+is_look efuns.FirstInventory = true
+is_look efuns.QueryShadowing = true
+is_look efuns.QueryVerb = true
+is_look efuns.FindCallOut = true
 is_look efuns.Time = true
 is_look efuns.RaiseError = true
 is_look _ = false
 
 -- and those that change something, or throw
 abbrev pub is_change : Efun → Bool
+is_change efuns.Unshadow = true
+is_change efuns.NotifyFail = true
+is_change efuns.RemoveInteractive = true
+is_change efuns.RemoveCallOut = true
+is_change efuns.SetHeartBeat = true
 is_change efuns.Random = true
 is_change efuns.Throw = true
 is_change efuns.MDelete = true
 is_change _ = false
 
--- both
+-- and the one that changes an object
+abbrev pub is_enable : Efun → Bool
+is_enable efuns.EnableCommands = true
+is_enable _ = false
+
+-- all of them
 abbrev pub is_deed : Efun → Bool
-is_deed e = is_look e || is_change e
+is_deed e = is_enable e || (is_look e || is_change e)
 
 -- by their groups: all that compute, and those
 abbrev pub is_plain_in : Group → Efun → Bool

@@ -1,5 +1,5 @@
 -- Objects that arguments name, and objects as values, by which objects are live.
-use Rattle.std.specs.Prelude.{ℕ, pos, List, Bool, false, Option, Some, None, slice_get, if◌then◌else◌}
+use Rattle.std.specs.Prelude.{◌≡◌, ℕ, ◌-◌, negsuc, pos, List, [], ◌∷◌, ◌++◌, Bool, false, not, Option, Some, None, filter, find, nat_eq, option_map, slice_get, if◌then◌else◌}
 use Rattle.lp_values.specs.declared.id.CellId.{CellId}
 use Rattle.lp_values.specs.declared.id.ObjId.{ObjId}
 use Rattle.lp_values.specs.declared.value.Value.{Value}
@@ -7,6 +7,8 @@ use Rattle.lp_values.specs.declared.value.Value.TheVariants.{Int, Str, Arr, Map,
 use Rattle.lp_values.specs.Read.{as_read}
 use Rattle.lp_ops.specs.Operands.{Opened}
 use Rattle.lp_meaning.specs.EfunArguments.{object_in}
+use Rattle.lp_events.specs.declared.out.Out.TheVariants as outs
+use Rattle.lp_world.specs.declared.live.Live.{Live}
 use Rattle.lp_world.specs.declared.objects.Object.{Object}
 
 -- an object, or none, as a value: one that is not live reads as 0
@@ -35,6 +37,7 @@ mapping_in (Arr c) = None
 mapping_in (Map c) = Some c
 mapping_in (Obj o) = None
 
+-- the same, where there is a value
 abbrev pub mapping_in_option : Option Value → Option CellId
 mapping_in_option None = None
 mapping_in_option (Some v) = mapping_in v
@@ -42,3 +45,24 @@ mapping_in_option (Some v) = mapping_in v
 -- and an argument
 abbrev pub mapping_arg : List Value → ℕ → Option CellId
 mapping_arg vs n = mapping_in_option (slice_get vs n)
+
+-- the seconds from a clock to a moment, or -1 where there is none
+abbrev pub seconds_from : ℕ → Option ℕ → Value
+seconds_from clock None = Int (negsuc 0)
+seconds_from clock (Some due) = Int (pos (due - clock))
+
+-- the connection of an object, if it has one
+abbrev pub number_of : Live → ObjId → Option ℕ
+number_of live o = option_map (λ c. c.number) (find (λ c. nat_eq c.object.0 o.0) live.connections.opened)
+
+-- it is closed, and told so
+abbrev pub hung_up : Live → Option ℕ → Live
+hung_up live None = live
+hung_up live (Some k) = record live {
+  outputs = live.outputs ++ outs.Close k ∷ [];
+  connections = record { opened = filter (λ c. not (nat_eq c.number k)) live.connections.opened; highest = live.connections.highest; present = live.connections.present; waiting = filter (λ x. not (nat_eq x.connection k)) live.connections.waiting };
+}
+
+-- the state after that
+abbrev pub IsHungUp : Live → ObjId → Live → Type 0
+IsHungUp live0 o live1 = live1 ≡ hung_up live0 (number_of live0 o)

@@ -1,5 +1,5 @@
 //! Efuns that change the world or the turn, and those that throw.
-ghost use Rattle.std.specs.Prelude.{◌≡◌, ◌<◌, ◌^◌, Bool, pos, All, IfOk, IfSome, map, true};
+ghost use Rattle.std.specs.Prelude.{◌≡◌, ◌<◌, ◌^◌, ◌||◌, Bool, pos, All, IfOk, IfSome, map, true};
 ghost use Rattle.rand_xoshiro.specs.SplitMix64.{mix_u64};
 ghost use Rattle.lp_values.specs.declared.id.ObjId.{ObjId};
 ghost use Rattle.lp_values.specs.declared.value.Value.{Value as V};
@@ -9,6 +9,7 @@ ghost use Rattle.lp_meaning.specs.EfunArguments.{int_arg};
 ghost use Rattle.lp_efuns.specs.declared.answer.Did.{Did as D};
 ghost use Rattle.lp_cells.specs.Cells.{IsThere, KeepsThere, Store};
 ghost use Rattle.lp_meaning.specs.Questions.{group, OfWorld};
+ghost use Rattle.lp_step.specs.Steps.{KeepsVariables};
 ghost use Rattle.lp_world.specs.Closed.{IsClosed};
 ghost use Rattle.lp_efuns.specs.Deeds.{Does, HasDropped};
 ghost use Rattle.lp_efuns.specs.Plain.{IsDidThere, is_change, is_deed, is_look};
@@ -20,7 +21,12 @@ use crate::answer::{Did, EfunFault};
 use crate::arguments::{int_at, value_at};
 use crate::caller::{Caller, Turn};
 use crate::carrying::carry;
+use crate::commands::notify_fail;
+use crate::connections::remove_interactive;
+use crate::enabling::enable_commands;
 use crate::looks::{is_look, look};
+use crate::places::unshadow;
+use crate::timing::{remove_call_out, set_heart_beat};
 use lp_instr::efun::Efun;
 use lp_values::id::CellId;
 use lp_values::value::Value;
@@ -162,6 +168,31 @@ fn m_delete(live: &mut Live, args: &[Value]) -> Result<Did, EfunFault>
     }
 }
 
+/// What an efun comes to that looks at the world or changes it, but no object.
+fn of_tables(
+    live: &mut Live,
+    turn: &mut Turn,
+    caller: &Caller<'_>,
+    efun: Efun,
+    args: &[Value],
+) -> Result<Did, EfunFault>
+    requires deed { (is_look efun || is_change efun) ≡ true }
+    requires world { group efun ≡ OfWorld }
+    requires closed { IsClosed live.old }
+    requires there { All (IsThere live.old.cells) args.now }
+    ensures does { IfOk result (λ d. Does efun caller.now args.now live.old turn.old d live.new turn.new) }
+    ensures closed { IsClosed live.new }
+    ensures stay { KeepsThere live.old.cells live.new.cells }
+    ensures there { IfOk result (IsDidThere live.new.cells) }
+    ensures objects { live.new.objects ≡ live.old.objects }
+    ensures names { live.new.names ≡ live.old.names }
+{
+    if is_look(efun) {
+        return looked(live, turn, caller, efun, args);
+    }
+    changed(live, turn, caller, efun, args)
+}
+
 /// What an efun comes to that looks at the world or changes it.
 pub(crate) fn of_world(
     live: &mut Live,
@@ -178,13 +209,13 @@ pub(crate) fn of_world(
     ensures closed { IsClosed live.new }
     ensures stay { KeepsThere live.old.cells live.new.cells }
     ensures there { IfOk result (IsDidThere live.new.cells) }
-    ensures objects { live.new.objects ≡ live.old.objects }
+    ensures variables { KeepsVariables live.old.objects live.new.objects }
     ensures names { live.new.names ≡ live.old.names }
 {
-    if is_look(efun) {
-        return looked(live, turn, caller, efun, args);
+    match efun {
+        Efun::EnableCommands => Ok(enable_commands(live, turn, caller)),
+        _ => of_tables(live, turn, caller, efun, args),
     }
-    changed(live, turn, caller, efun, args)
 }
 
 /// What an efun comes to that changes the world or the turn, or throws.
@@ -206,6 +237,11 @@ fn changed(
     ensures names { live.new.names ≡ live.old.names }
 {
     match efun {
+        Efun::Unshadow => Ok(unshadow(live, caller)),
+        Efun::NotifyFail => notify_fail(turn, args, live),
+        Efun::RemoveInteractive => remove_interactive(live, args),
+        Efun::RemoveCallOut => remove_call_out(live, caller, args),
+        Efun::SetHeartBeat => set_heart_beat(live, caller, args),
         Efun::Random => Ok(random(live, args)),
         Efun::Throw => thrown(args, live),
         Efun::MDelete => m_delete(live, args),
@@ -217,5 +253,13 @@ fn changed(
 pub(crate) fn is_change(efun: Efun) -> bool
     ensures { result ≡ is_change efun }
 {
-    matches!(efun, Efun::Random | Efun::Throw | Efun::MDelete)
+    match efun {
+        Efun::Unshadow
+        | Efun::NotifyFail
+        | Efun::RemoveInteractive
+        | Efun::SetHeartBeat
+        | Efun::RemoveCallOut => true,
+        Efun::Random | Efun::Throw | Efun::MDelete => true,
+        _ => false,
+    }
 }

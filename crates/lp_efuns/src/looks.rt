@@ -11,6 +11,13 @@ ghost use Rattle.lp_efuns.specs.declared.caller.Turn.{Turn as T};
 
 use crate::arguments::text_at;
 use crate::caller::{Caller, Turn};
+use crate::commands::query_verb;
+use crate::names::find_object;
+use crate::objects::{
+    interactive, living, object_name, previous_object, this_interactive, this_object, this_player,
+};
+use crate::places::{all_inventory, environment, first_inventory, query_shadowing};
+use crate::timing::find_call_out;
 use lp_instr::efun::Efun;
 use lp_ops::effect::Effect;
 use lp_ops::int::int;
@@ -23,7 +30,20 @@ use std::alloc::{AllocError, Global};
 pub(crate) fn is_look(efun: Efun) -> bool
     ensures { result ≡ is_look efun }
 {
-    matches!(efun, Efun::Time | Efun::RaiseError)
+    match efun {
+        Efun::ThisObject
+        | Efun::ThisPlayer
+        | Efun::ThisInteractive
+        | Efun::PreviousObject
+        | Efun::FindObject
+        | Efun::ObjectName
+        | Efun::Living
+        | Efun::Interactive => true,
+        Efun::Environment | Efun::AllInventory | Efun::FirstInventory | Efun::QueryShadowing =>
+            true,
+        Efun::QueryVerb | Efun::FindCallOut | Efun::Time | Efun::RaiseError => true,
+        _ => false,
+    }
 }
 
 /// A number from 0 up as an effect.
@@ -66,6 +86,20 @@ pub(crate) fn look(
     ensures there { IfOk result (λ e. (cells : Store) → IsEffectThere cells e) }
 {
     match efun {
+        Efun::ThisObject => Ok(this_object(caller, live)),
+        Efun::ThisPlayer => Ok(this_player(turn, live)),
+        Efun::ThisInteractive => Ok(this_interactive(caller, live)),
+        Efun::PreviousObject => Ok(previous_object(caller, args, live)),
+        Efun::FindObject => find_object(args, live),
+        Efun::ObjectName => object_name(caller, args, live),
+        Efun::Living => Ok(living(args, live)),
+        Efun::Interactive => interactive(caller, args, live),
+        Efun::Environment => environment(caller, args, live),
+        Efun::AllInventory => all_inventory(caller, args, live),
+        Efun::FirstInventory => first_inventory(caller, args, live),
+        Efun::QueryShadowing => Ok(query_shadowing(args, live)),
+        Efun::QueryVerb => query_verb(turn, live),
+        Efun::FindCallOut => find_call_out(caller, args, live),
         Efun::Time => Ok(time(live)),
         Efun::RaiseError => raised(live.alloc, args, live),
         _ => unreachable!(),

@@ -10,7 +10,7 @@ ghost use Rattle.lp_world.specs.Rows.{live_in};
 ghost use Rattle.lp_step.specs.Steps.{KeepsVariables, Pays};
 ghost use Rattle.lp_efuns.specs.Deeds.{Does};
 ghost use Rattle.lp_efuns.specs.Names.{AreNamed};
-ghost use Rattle.lp_efuns.specs.Plain.{CallsEfun, Finishes, IsAnswerThere, IsDidThere, is_change, is_computing, is_look, is_plain};
+ghost use Rattle.lp_efuns.specs.Plain.{CallsEfun, Finishes, IsAnswerThere, IsDidThere, is_change, is_computing, is_enable, is_look, is_plain};
 ghost use Rattle.lp_efuns.specs.declared.answer.Answer.{Answer as A};
 
 use crate::answer::{Answer, Did, EfunFault};
@@ -62,11 +62,19 @@ fn is_computing(efun: Efun) -> bool
     }
 }
 
-/// Whether an efun is carried out by `call_plain`: it calls no LPC, and uses no files.
+/// Whether an efun makes an object living.
+fn is_enable(efun: Efun) -> bool
+    ensures { result ≡ is_enable efun }
+{
+    matches!(efun, Efun::EnableCommands)
+}
+
+/// Whether an efun is carried out by `call_plain`: those that compute, those that look at the world alone which `is_look`
+/// lists, those that change something or throw which `is_change` lists, and `enable_commands`. None of them calls LPC or uses files.
 pub fn is_plain(efun: Efun) -> bool
     ensures { result ≡ is_plain efun }
 {
-    is_computing(efun) || is_look(efun) || is_change(efun)
+    is_computing(efun) || is_enable(efun) || is_look(efun) || is_change(efun)
 }
 
 /// Pays a price that may be above 64 bits, or tells that the budget is spent: then nothing is left of it.
@@ -131,7 +139,7 @@ fn did(
     ensures closed { IsClosed live.new }
     ensures stay { KeepsThere live.old.cells live.new.cells }
     ensures there { IfOk result (IsDidThere live.new.cells) }
-    ensures objects { live.new.objects ≡ live.old.objects }
+    ensures variables { KeepsVariables live.old.objects live.new.objects }
     ensures names { live.new.names ≡ live.old.names }
 {
     if is_computing(efun) {
@@ -140,7 +148,7 @@ fn did(
     of_world(live, turn, caller, efun, args)
 }
 
-/// Carries out an efun that calls no LPC, with these arguments, which lie on top of the stack, first to last.
+/// Carries out an efun that calls no LPC, with these arguments, first to last.
 ///
 /// The price before is paid first; then the first argument of another kind than the efun takes is an error; then the
 /// efun acts, and at last the price of its result is paid. Where that cannot be paid the budget is spent, and what the

@@ -13,7 +13,8 @@ use Rattle.lp_types_expr.specs.declared.fault.FaultAt.{FaultAt}
 use Rattle.lp_types.specs.TypeFaults.{type_faults}
 use Rattle.lp_layout.specs.Layout.{inherits}
 use Rattle.lp_layout.specs.LayoutFaults.{layout_fault}
-use Rattle.lp_language.specs.World.{Version}
+use Rattle.lp_language.specs.World.{IsSameVersion, Version, World, no_version, object_at, with_object}
+use Rattle.lp_meaning.specs.WorldSteps.{entered, version_entered}
 use Rattle.lp_language.specs.Resolve.{Heir, Heritage, Heritages, each_heritage, without_c}
 use Rattle.lp_isa.specs.Programs.{StandsForVersion}
 use Rattle.lp_inherit.specs.Heirs.{AreNumbered, AreUnambiguous, laid, table, tables}
@@ -22,10 +23,13 @@ use Rattle.lp_front.specs.declared.parents.Parent.{Parent}
 use Rattle.lp_front.specs.Names.{parents_in}
 use Rattle.lp_front.specs.Settling.{faults_of, in_file, path_of, tables_of, types_or_layout, versions_of}
 use Rattle.lp_compile.specs.Known.{AreGiven, Known}
-use Rattle.lp_compile.specs.Translated.{program_of, rows_of}
 use Rattle.lp_faultless.specs.Trees.{IsFine}
 use Rattle.lp_faultless.proofs.Faultless.{faultless_is_fine}
-use Rattle.lp_fits.specs.Fits.{AreCompiled, FitsVersion, HaveTables, IsTreeFor, IsVersionOf, NewVersionFits, heritage_in}
+use Rattle.lp_part_laws.specs.Versions.{AreCompiled, AreSameVersions, FitsVersion, IsTreeFor, heritage_in, program_of, rows_of}
+use Rattle.std.specs.Prelude.{slice_set}
+use Rattle.std.proofs.Math.ListN.{length-set}
+use Rattle.lp_part_laws.proofs.Latest.{stay_compiled}
+use Rattle.lp_fits.specs.Fits.{EntryStillFits, HaveTables, IsVersionOf, NewVersionFits}
 use Rattle.lp_fits.proofs.Trees.{inside, kept, tree_of_new}
 
 -- The path of a version
@@ -216,3 +220,32 @@ module _ (programs : List RawProgram) (versions : List Version) (c : AreCompiled
 
 pub new_version_fits : NewVersionFits
 new_version_fits files path own known simuls programs versions p v c number is = compiled_more programs versions c files path own known simuls p v number is
+
+-- Clocks
+
+abbrev grown : List Version → ℕ → ℕ → List Version
+grown vs i time = slice_set vs i (record (unwrap_or (slice_get vs i) no_version) { latest = time })
+
+timed : (v : Version) (time : ℕ) → IsSameVersion v (record v { latest = time })
+timed v time = record { path = refl; items = refl; parents = refl; pragmas = refl; simuls = refl }
+
+unchanged : (v u : Version) → Some v ≡ Some u → IsSameVersion v u
+unchanged v u e = subst (IsSameVersion v) (ap (λ o. unwrap_or o v) e) (record { path = refl; items = refl; parents = refl; pragmas = refl; simuls = refl })
+
+grown_each : (vs : List Version) (i time n : ℕ) (v u : Version) → slice_get vs n ≡ Some v → slice_get (grown vs i time) n ≡ Some u → IsSameVersion v u
+grown_each [] i time n v u e f = absurd cc
+grown_each (x ∷ vs) zero time zero v u e f =
+    let there : x ≡ v = ap (λ o. unwrap_or o x) e in
+    let now : record x { latest = time } ≡ u = ap (λ o. unwrap_or o x) f in
+    subst (IsSameVersion v) now (subst (λ y. IsSameVersion y (record x { latest = time })) there (timed x time))
+grown_each (x ∷ vs) zero time (suc n) v u e f = unchanged v u (sym e ∙ f)
+grown_each (x ∷ vs) (suc i) time zero v u e f = unchanged v u (sym e ∙ f)
+grown_each (x ∷ vs) (suc i) time (suc n) v u e f = grown_each vs i time n v u e f
+
+same_grown : (vs : List Version) (i time : ℕ) → AreSameVersions vs (grown vs i time)
+same_grown vs i time = record { count = length-set vs i (record (unwrap_or (slice_get vs i) no_version) { latest = time }); each = grown_each vs i time }
+
+pub entry_still_fits : EntryStillFits
+entry_still_fits programs w o p c =
+    let u : World = version_entered (with_object w o (record (object_at w o) { latest = w.clock })) (object_at w o).version in
+    stay_compiled programs u.versions (entered w o p).versions (stay_compiled programs w.versions u.versions c (same_grown w.versions (object_at w o).version.0 w.clock)) (same_grown u.versions p.0 w.clock)

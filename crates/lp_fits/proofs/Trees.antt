@@ -4,7 +4,7 @@ use Rattle.std.proofs.lemmas.List.Elements.{All-head, All-tail}
 use Rattle.lp_values.specs.declared.id.ProgId.{ProgId}
 use Rattle.lp_language.specs.World.{Version, World, new_world, no_version, version_at}
 use Rattle.lp_language.specs.Resolve.{Heir, Heritage, NoParent, OneParent, each_heritage, heritage_within}
-use Rattle.lp_fits.specs.Fits.{AreRising, heritage_in}
+use Rattle.lp_part_laws.specs.Versions.{AreRising, heritage_in}
 
 each_agrees : (P : ProgId → Type 0) (f g : ProgId → Heritage) → ((v : ProgId) → P v → f v ≡ g v) → (vs : List ProgId) → All P vs → each_heritage f vs ≡ each_heritage g vs
 each_agrees P f g e [] a = refl

@@ -1,10 +1,15 @@
 //! The programs of all versions fit them.
 #![tactic(auto)]
 
-ghost use Rattle.lp_fits.specs.Fits.{NewVersionFits};
+ghost use Rattle.lp_fits.specs.Fits.{EntryStillFits, NewVersionFits};
 
 /// The law of new versions: the programs of all versions still fit them where a file that was compiled for the next number
 /// becomes the version with that number.
 pub fn law_fits()
     ensures { NewVersionFits }
+{}
+
+/// The law of entries: so they do where an entry of a function counts.
+pub fn law_entered()
+    ensures { EntryStillFits }
 {}

@@ -1,5 +1,5 @@
 -- What an entry leaves: the state stands for the world after it, and is closed.
-use Rattle.std.proofs.Common.{◌≡◌, ◌∙◌, ◌⊎◌, ◌++◌, ℕ, zero, suc, List, [], ◌∷◌, Option, Some, None, IsSome, refl, ap, sym, subst, inl, inr, map, slice_get, unwrap_or, option_map, arith}
+use Rattle.std.proofs.Common.{length, ◌≡◌, ◌∙◌, ◌⊎◌, ◌++◌, ℕ, zero, suc, List, [], ◌∷◌, Option, Some, None, IsSome, refl, ap, sym, subst, inl, inr, map, slice_get, unwrap_or, option_map, arith}
 use Rattle.std.specs.Prelude.{Contains, slice_set}
 use Rattle.std.specs.List.{flat_map}
 use Rattle.std.proofs.Math.ListN.{length-set}
@@ -9,7 +9,7 @@ use Rattle.lp_code.specs.declared.program.RawProgram.{RawProgram}
 use Rattle.lp_swapfile.specs.Device.{Bytes}
 use Rattle.lp_swapfile.specs.Room.{AreTaken}
 use Rattle.lp_language.specs.World as world
-use Rattle.lp_language.specs.World.{World, new_world, no_object, no_version, object_at, version_at, with_object}
+use Rattle.lp_language.specs.World.{IsSameVersion, World, new_world, no_object, no_version, object_at, version_at, with_object}
 use Rattle.lp_meaning.specs.IdleAndKept.{IsKept, by_child, by_object}
 use Rattle.lp_meaning.specs.WorldSteps.{entered, version_entered}
 use Rattle.lp_world.specs.Closed.{IsClosed, IsObjectClosed, IsProgramClosed, IsVersionClosed, object_extents, version_extents}
@@ -24,10 +24,11 @@ use Rattle.lp_world.specs.declared.versions.Version.{Version}
 use Rattle.lp_world.proofs.Keeping.{get_set, get_set_here, same_or_not}
 use Rattle.lp_residence.proofs.RowChanges.{apart_alone, object_behind}
 use Rattle.lp_residence.proofs.VersionChanges.{HaveSameOutlines, object_closed, version_closed}
-use Rattle.lp_making.specs.Entries.{EntryKeepsVersions, EntryStands, EntryStaysClosed, StandsEntered, TablesStay, entry_counted, object_counted, program_in, version_counted}
-use Rattle.lp_making.specs.Trees.{AreSameVersions, timeless}
+use Rattle.lp_making.specs.Entries.{EntryKeepsVersions, EntryStands, EntryStaysClosed, StandsEntered, entry_counted, object_counted, program_in, version_counted}
+use Rattle.lp_part_laws.specs.Versions.{AreSameVersions}
+use Rattle.lp_making.specs.Trees.{AreAlike, timeless}
 use Rattle.lp_making.proofs.NewVersion.{some_row}
-use Rattle.lp_making.proofs.Timeless.{heritage_same, tables_are_same, targets_same}
+use Rattle.lp_making.proofs.Timeless.{heritage_same, targets_same}
 
 -- Objects of the world
 
@@ -106,7 +107,7 @@ module _ (told : Option Bytes) (programs : List RawProgram) (live : Live) (w : W
 abbrev grown : List world.Version → ℕ → ℕ → List world.Version
 grown vs i time = slice_set vs i (record (unwrap_or (slice_get vs i) no_version) { latest = time })
 
-pub grown_same : (vs : List world.Version) (i time : ℕ) → AreSameVersions vs (grown vs i time)
+pub grown_same : (vs : List world.Version) (i time : ℕ) → AreAlike vs (grown vs i time)
 grown_same [] i time n = refl
 grown_same (v ∷ vs) zero time zero = refl
 grown_same (v ∷ vs) zero time (suc n) = refl
@@ -117,10 +118,10 @@ parents_or : (o : Option world.Version) → (unwrap_or o no_version).parents ≡
 parents_or None = refl
 parents_or (Some v) = refl
 
-same_parents : (old new : List world.Version) (n : ℕ) → AreSameVersions old new → (unwrap_or (slice_get new n) no_version).parents ≡ (unwrap_or (slice_get old n) no_version).parents
+same_parents : (old new : List world.Version) (n : ℕ) → AreAlike old new → (unwrap_or (slice_get new n) no_version).parents ≡ (unwrap_or (slice_get old n) no_version).parents
 same_parents old new n s = parents_or (slice_get new n) ∙ ap (λ o. (unwrap_or o no_version).parents) (s n) ∙ sym (parents_or (slice_get old n))
 
-kept_by_same : (xs : List world.Object) (old new : List world.Version) → AreSameVersions old new → (q : ProgId)
+kept_by_same : (xs : List world.Object) (old new : List world.Version) → AreAlike old new → (q : ProgId)
     → IsKept (record (new_world [] 0 0) { objects = xs; versions = new }) q → IsKept (record (new_world [] 0 0) { objects = xs; versions = old }) q
 kept_by_same xs old new s _ (by_object n x e l) = by_object n x e l
 kept_by_same xs old new s _ (by_child u p k c) = by_child u p (kept_by_same xs old new s u k) (subst (λ ps. Contains ps p) (same_parents old new u.0 s) c)
@@ -242,16 +243,46 @@ entry_stands told programs live w o p h i =
 
 -- Versions after an entry
 
-pub same_after : (a b c : List world.Version) → AreSameVersions a b → AreSameVersions b c → AreSameVersions a c
-same_after a b c s t n = t n ∙ s n
+timed : (v : world.Version) (time : ℕ) → IsSameVersion v (record v { latest = time })
+timed v time = record { path = refl; items = refl; parents = refl; pragmas = refl; simuls = refl }
+
+unchanged : (v u : world.Version) → Some v ≡ Some u → IsSameVersion v u
+unchanged v u e = subst (IsSameVersion v) (ap (λ o. unwrap_or o v) e) (record { path = refl; items = refl; parents = refl; pragmas = refl; simuls = refl })
+
+grown_each : (vs : List world.Version) (i time n : ℕ) (v u : world.Version) → slice_get vs n ≡ Some v → slice_get (grown vs i time) n ≡ Some u → IsSameVersion v u
+grown_each [] i time n v u e f = cc
+grown_each (x ∷ vs) zero time zero v u e f =
+    let there : x ≡ v = ap (λ o. unwrap_or o x) e in
+    let now : record x { latest = time } ≡ u = ap (λ o. unwrap_or o x) f in
+    subst (IsSameVersion v) now (subst (λ y. IsSameVersion y (record x { latest = time })) there (timed x time))
+grown_each (x ∷ vs) zero time (suc n) v u e f = unchanged v u (sym e ∙ f)
+grown_each (x ∷ vs) (suc i) time zero v u e f = unchanged v u (sym e ∙ f)
+grown_each (x ∷ vs) (suc i) time (suc n) v u e f = grown_each vs i time n v u e f
+
+same_grown : (vs : List world.Version) (i time : ℕ) → AreSameVersions vs (grown vs i time)
+same_grown vs i time = record { count = length-set vs i (record (unwrap_or (slice_get vs i) no_version) { latest = time }); each = grown_each vs i time }
+
+-- what is at a place of one list is at that of a list as long
+got_too : (xs ys : List world.Version) (n : ℕ) (x : world.Version) → length ys ≡ length xs → slice_get xs n ≡ Some x → (y : world.Version) × (slice_get ys n ≡ Some y)
+got_too [] ys n x l e = cc
+got_too (z ∷ xs) [] n x l e = absurd (omega (arith, l))
+got_too (z ∷ xs) (y ∷ ys) zero x l e = (y, refl)
+got_too (z ∷ xs) (y ∷ ys) (suc n) x l e = got_too xs ys n x (omega (arith, l)) e
+
+same_after : (a b c : List world.Version) → AreSameVersions a b → AreSameVersions b c → AreSameVersions a c
+same_after a b c s t = record {
+  count = t.count ∙ s.count;
+  each = λ n v u e f.
+      let m = got_too a b n v s.count e in
+      let x = s.each n v m.0 e m.1 in
+      let y = t.each n m.0 u m.1 f in
+      record { path = y.path ∙ x.path; items = y.items ∙ x.items; parents = y.parents ∙ x.parents; pragmas = y.pragmas ∙ x.pragmas; simuls = y.simuls ∙ x.simuls };
+}
 
 pub entry_versions : EntryKeepsVersions
 entry_versions w o p =
     let u : World = version_entered (with_object w o (record (object_at w o) { latest = w.clock })) (object_at w o).version in
-    same_after w.versions u.versions (entered w o p).versions (grown_same w.versions (object_at w o).version.0 w.clock) (grown_same u.versions p.0 w.clock)
-
-pub tables_stay : TablesStay
-tables_stay programs old new s t n p e = tables_are_same (heritage_in old (record { 0 = n })) (heritage_in new (record { 0 = n })) p (heritage_same old new (record { 0 = n }) s) (t n p e)
+    same_after w.versions u.versions (entered w o p).versions (same_grown w.versions (object_at w o).version.0 w.clock) (same_grown u.versions p.0 w.clock)
 
 -- Closed states
 

@@ -38,7 +38,7 @@ use Rattle.lp_inherit.specs.Heirs.{MeansTheSame, table, with_function}
 use Rattle.lp_inherit.proofs.Meanings.{count_variables, row_agrees}
 use Rattle.lp_world.specs.Additions.{new_object}
 use Rattle.lp_world.specs.Closed.{IsClosed, variables_in}
-use Rattle.lp_world.specs.Rows.{row_at}
+use Rattle.lp_world.specs.Rows.{row_at, version_state}
 use Rattle.lp_world.specs.Stands.{AreObjects, IsObject, IsVersion, ObjectIs, ProgramIs, Stands, heritage_in, named_of}
 use Rattle.lp_world.specs.declared.live.Live.{Live}
 use Rattle.lp_world.specs.declared.objects.Object.{Object}
@@ -48,8 +48,9 @@ use Rattle.lp_world.specs.declared.versions.Version.{Version}
 use Rattle.lp_world.proofs.BareWorlds.{heritage_same}
 use Rattle.lp_world.proofs.Grown.{closed_with_new_object}
 use Rattle.lp_world.proofs.Keeping.{get_new}
+use Rattle.lp_residence.specs.Owners.{program_of}
 use Rattle.lp_residence.proofs.RowChanges.{row_there}
-use Rattle.lp_making.specs.Objects.{IsNotMade, IsRefused, IsUnwatched, IsWanted, IsWantedOf, StandsStill, StandsWithObject, has_function, program_at, program_in, program_of, with_object, with_watches, without_watches, zeros}
+use Rattle.lp_making.specs.Objects.{IsNotMade, IsRefused, IsUnwatched, IsWanted, IsWantedOf, StandsStill, StandsWithObject, has_function, program_at, with_object, with_watches, without_watches, zeros}
 use Rattle.lp_making.specs.Trees.{HasTables}
 use Rattle.lp_making.proofs.NewVersion.{parents_there}
 use Rattle.lp_making.proofs.Watched.{both_back}
@@ -338,12 +339,12 @@ pub inside_row : (live : Live) (p : ProgId) → IsSome (program_at live.versions
     → (row : Version) × (raw : RawProgram) × (slice_get live.versions p.0 ≡ Some (Some row)) × (row.state ≡ programs_of.Resident raw) × (program_at live.versions p ≡ Some raw)
 inside_row live p i = by (row_at live.versions p.0) refl i
   where
-    state_by : (row : Version) (s : ProgramState) → row.state ≡ s → row_at live.versions p.0 ≡ Some row → IsSome (program_of s)
+    state_by : (row : Version) (s : ProgramState) → row.state ≡ s → row_at live.versions p.0 ≡ Some row → IsSome (program_of (Some s))
         → (r : Version) × (raw : RawProgram) × (slice_get live.versions p.0 ≡ Some (Some r)) × (r.state ≡ programs_of.Resident raw) × (program_at live.versions p ≡ Some raw)
-    state_by row (programs_of.Resident raw) e r j = (row, raw, row_there live.versions p.0 row r, e, ap program_in r ∙ ap program_of e)
+    state_by row (programs_of.Resident raw) e r j = (row, raw, row_there live.versions p.0 row r, e, ap (λ o. program_of (version_state o)) r ∙ ap (λ s. program_of (Some s)) e)
     state_by row (programs_of.Swapped t) e r j = cc
 
-    by : (o : Option Version) → row_at live.versions p.0 ≡ o → IsSome (program_in o)
+    by : (o : Option Version) → row_at live.versions p.0 ≡ o → IsSome (program_of (version_state o))
         → (r : Version) × (raw : RawProgram) × (slice_get live.versions p.0 ≡ Some (Some r)) × (r.state ≡ programs_of.Resident raw) × (program_at live.versions p ≡ Some raw)
     by None e j = cc
     by (Some row) e j = state_by row row.state refl e j

@@ -7,10 +7,10 @@ use Rattle.lp_code.specs.declared.tables.Slot.{Slot}
 use Rattle.lp_language.specs.World.{Version, World, new_world, no_version, version_at}
 use Rattle.lp_language.specs.Resolve.{Found, Heritage, Heir, Heritages, NoParent, OneParent, Part, each_heritage, found_in, heritage_within, internal_from, is_hidden, moved, number_of, or_else, own_function, own_variables, parents_parts, part_at, part_count, parts, parts_before, parts_from, resolve, resolve_last, shown, variable_count, variables_before, version_of}
 use Rattle.lp_isa.specs.Programs.{IsReached, Reached, fun_from, fun_in, own_functions}
-use Rattle.lp_inherit.specs.Heirs.{AreNumbered, IsNumbered, laid, table, tables}
+use Rattle.lp_inherit.specs.Heirs.{laid, table, tables}
 use Rattle.lp_world.specs.Stands.{AreTargets, IsTarget, heritage_in, reached_of, slot_in, slot_of_part}
 use Rattle.lp_world.specs.declared.targets.FunAt.{FunAt}
-use Rattle.lp_making.specs.Trees.{AreSameTrees, AreSameVersions, HasTables, timeless, timeless_part, timeless_tree, timeless_trees}
+use Rattle.lp_making.specs.Trees.{AreSameTrees, AreAlike, timeless, timeless_part, timeless_tree, timeless_trees}
 
 -- Counts
 
@@ -146,31 +146,6 @@ mutual
   tables_same NoParent = refl
   tables_same (OneParent h hs) = ap (λ t. t ∷ tables (timeless_trees hs)) (table_same h) ∙ ap (λ ts. table h ∷ ts) (tables_same hs)
 
-mutual
-  numbered_there : (h : Heritage) → IsNumbered h → IsNumbered (timeless_tree h)
-  numbered_there (Heir n v ps) i = (i.0, are_numbered_there ps i.1)
-
-  are_numbered_there : (hs : Heritages) → AreNumbered hs → AreNumbered (timeless_trees hs)
-  are_numbered_there NoParent i = tt
-  are_numbered_there (OneParent h hs) i = (numbered_there h i.0, are_numbered_there hs i.1)
-
-mutual
-  numbered_back : (h : Heritage) → IsNumbered (timeless_tree h) → IsNumbered h
-  numbered_back (Heir n v ps) i = (i.0, are_numbered_back ps i.1)
-
-  are_numbered_back : (hs : Heritages) → AreNumbered (timeless_trees hs) → AreNumbered hs
-  are_numbered_back NoParent i = tt
-  are_numbered_back (OneParent h hs) i = (numbered_back h i.0, are_numbered_back hs i.1)
-
-pub numbered_same : (h k : Heritage) → AreSameTrees h k → IsNumbered h → IsNumbered k
-numbered_same h k e i = numbered_back k (subst IsNumbered e (numbered_there h i))
-
-pub tables_are_same : (h k : Heritage) (p : RawProgram) → AreSameTrees h k → HasTables h p → HasTables k p
-tables_are_same h k p e i = record {
-  tables = i.tables ∙ sym (table_same h) ∙ ap table e ∙ table_same k;
-  numbered = numbered_same h k e i.numbered;
-}
-
 -- Trees among versions that differ in clocks alone
 
 each_same : (f g : ProgId → Heritage) → ((v : ProgId) → timeless_tree (f v) ≡ timeless_tree (g v)) → (vs : List ProgId) → timeless_trees (each_heritage f vs) ≡ timeless_trees (each_heritage g vs)
@@ -187,7 +162,7 @@ timeless_or : (o : Option Version) → timeless (unwrap_or o no_version) ≡ unw
 timeless_or None = refl
 timeless_or (Some v) = refl
 
-pub heritage_same : (old new : List Version) (v : ProgId) → AreSameVersions old new → AreSameTrees (heritage_in old v) (heritage_in new v)
+pub heritage_same : (old new : List Version) (v : ProgId) → AreAlike old new → AreSameTrees (heritage_in old v) (heritage_in new v)
 heritage_same old new v e =
     within_same v.0 (record (new_world [] 0 0) { versions = old }) (record (new_world [] 0 0) { versions = new })
     (λ u. timeless_or (slice_get old u.0) ∙ ap (λ o. unwrap_or o no_version) (sym (e u.0)) ∙ sym (timeless_or (slice_get new u.0))) v

@@ -1,10 +1,9 @@
 -- A function entry counts: the latest clocks of an object, of its version, and of the version in whose text the function stands.
-use Rattle.std.specs.Prelude.{ℕ, List, Option, Some, None, IsSome, slice_set}
+use Rattle.std.specs.Prelude.{List, Option, Some, None, IsSome, slice_set}
 use Rattle.lp_values.specs.declared.id.ObjId.{ObjId}
 use Rattle.lp_values.specs.declared.id.ProgId.{ProgId}
 use Rattle.lp_code.specs.declared.program.RawProgram.{RawProgram}
 use Rattle.lp_swapfile.specs.Device.{Bytes}
-use Rattle.lp_language.specs.World as world
 use Rattle.lp_language.specs.World.{World}
 use Rattle.lp_meaning.specs.WorldSteps.{entered}
 use Rattle.lp_world.specs.Closed.{IsClosed}
@@ -12,12 +11,13 @@ use Rattle.lp_world.specs.Rows.{object_aged, row_at, version_aged}
 use Rattle.lp_world.specs.Stands.{Stands}
 use Rattle.lp_world.specs.declared.live.Live.{Live}
 use Rattle.lp_world.specs.declared.objects.Object.{Object}
-use Rattle.lp_making.specs.Trees.{AreSameVersions, HaveTables}
+use Rattle.lp_part_laws.specs.Versions.{AreSameVersions}
 
--- an entry counts for an object, and for a version
+-- an entry counts for an object
 abbrev pub object_counted : Live → ObjId → Live
 object_counted l o = record l { objects = slice_set l.objects o.0 (object_aged l.clock (row_at l.objects o.0)) }
 
+-- and for a version
 abbrev pub version_counted : Live → ProgId → Live
 version_counted l p = record l { versions = slice_set l.versions p.0 (version_aged l.clock (row_at l.versions p.0)) }
 
@@ -44,10 +44,6 @@ EntryStands =
 abbrev pub EntryStaysClosed : Type 0
 EntryStaysClosed = (live : Live) (o : ObjId) (p : ProgId) → IsClosed live → IsClosed (entry_counted live o p)
 
--- In the world nothing but clocks changes in the versions, ..
+-- In the world nothing but clocks changes in the versions.
 abbrev pub EntryKeepsVersions : Type 0
 EntryKeepsVersions = (w : World) (o : ObjId) (p : ProgId) → AreSameVersions w.versions (entered w o p).versions
-
--- .. and programs that have the tables of their versions have them still.
-abbrev pub TablesStay : Type 0
-TablesStay = (programs : List RawProgram) (old new : List world.Version) → AreSameVersions old new → HaveTables programs old → HaveTables programs new

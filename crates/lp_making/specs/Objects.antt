@@ -20,25 +20,16 @@ use Rattle.lp_language.specs.World.{World, object_named}
 use Rattle.lp_meaning.specs.WorldSteps as steps
 use Rattle.lp_meaning.specs.WorldSteps.{has_room, watch_if}
 use Rattle.lp_world.specs.Additions.{new_object, with_new_object}
-use Rattle.lp_world.specs.Rows.{row_at}
+use Rattle.lp_world.specs.Rows.{row_at, version_state}
 use Rattle.lp_world.specs.Stands.{Stands, heritage_in}
 use Rattle.lp_world.specs.declared.live.Live.{Live}
-use Rattle.lp_world.specs.declared.versions.ProgramState.{ProgramState}
-use Rattle.lp_world.specs.declared.versions.ProgramState.TheVariants as programs_of
 use Rattle.lp_world.specs.declared.versions.Version.{Version}
+use Rattle.lp_residence.specs.Owners.{program_of}
 use Rattle.lp_making.specs.Trees.{HasTables}
 
 -- the program of a version that is in memory
-abbrev pub program_of : ProgramState → Option RawProgram
-program_of (programs_of.Resident p) = Some p
-program_of (programs_of.Swapped t) = None
-
-abbrev pub program_in : Option Version → Option RawProgram
-program_in None = None
-program_in (Some v) = program_of v.state
-
 abbrev pub program_at : List (Option Version) → ProgId → Option RawProgram
-program_at rows p = program_in (row_at rows p.0)
+program_at rows p = program_of (version_state (row_at rows p.0))
 
 -- a program has a function of a name
 abbrev pub has_function : RawProgram → List ℕ → Bool
@@ -71,6 +62,7 @@ pub record IsWanted (p : RawProgram) (reset clean_up : Bool) : Type 0 where
   pub resets : reset ≡ has_function p (codes "reset")
   pub cleans_up : clean_up ≡ has_function p (codes "clean_up")
 
+-- and an object of a version whose program this is, if it is in memory
 abbrev pub IsWantedOf : Option RawProgram → Bool → Bool → Type 0
 IsWantedOf None reset clean_up = ⊥
 IsWantedOf (Some p) reset clean_up = IsWanted p reset clean_up

@@ -20,6 +20,7 @@ abbrev mutual
   timeless_trees NoParent = NoParent
   timeless_trees (OneParent h hs) = OneParent (timeless_tree h) (timeless_trees hs)
 
+-- and a part of it
 abbrev pub timeless_part : Part → Part
 timeless_part p = record { tree = timeless_tree p.tree; first = p.first; base = p.base }
 
@@ -27,9 +28,9 @@ timeless_part p = record { tree = timeless_tree p.tree; first = p.first; base = 
 abbrev pub AreSameTrees : Heritage → Heritage → Type 0
 AreSameTrees h k = timeless_tree h ≡ timeless_tree k
 
--- two lists of versions do
-abbrev pub AreSameVersions : List Version → List Version → Type 0
-AreSameVersions old new = (n : ℕ) → option_map timeless (slice_get new n) ≡ option_map timeless (slice_get old n)
+-- two lists of versions are alike but for clocks
+abbrev pub AreAlike : List Version → List Version → Type 0
+AreAlike old new = (n : ℕ) → option_map timeless (slice_get new n) ≡ option_map timeless (slice_get old n)
 
 -- A program has the tables of a version's inheritance tree, in which no file has more functions than rows can number.
 pub record HasTables (h : Heritage) (p : RawProgram) : Type 0 where

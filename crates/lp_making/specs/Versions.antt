@@ -1,8 +1,7 @@
 -- A version more: a state, its programs and a world before and after.
-use Rattle.std.specs.Prelude.{◌≡◌, ◌<◌, ℕ, List, [], ◌∷◌, ◌++◌, All, Some, slice_get}
+use Rattle.std.specs.Prelude.{◌≡◌, ℕ, List, [], ◌∷◌, ◌++◌, Option}
 use Rattle.lp_tree.specs.declared.pragma.Pragmas.{Pragmas}
 use Rattle.lp_tree.specs.Units.{ItemTree}
-use Rattle.lp_values.specs.declared.id.ProgId.{ProgId}
 use Rattle.lp_code.specs.declared.program.RawProgram.{RawProgram}
 use Rattle.lp_swapfile.specs.Device.{Bytes}
 use Rattle.lp_language.specs.World.{Version, World}
@@ -10,7 +9,6 @@ use Rattle.lp_meaning.specs.FileLoads.{version_now}
 use Rattle.lp_meaning.specs.WorldSteps as steps
 use Rattle.lp_world.specs.Stands.{Stands}
 use Rattle.lp_world.specs.declared.live.Live.{Live}
-use Rattle.std.specs.Prelude.{Option}
 
 -- A version is made now of a program: its parents are those of the program's tables, and its latest clock is the world's.
 pub record IsMadeNow (w : World) (p : RawProgram) (v : Version) : Type 0 where
@@ -28,7 +26,3 @@ abbrev pub StandsWithVersionOf : Live → Live → RawProgram → Type 0
 StandsWithVersionOf old new p =
     (told : Option Bytes) (programs : List RawProgram) (w : World) (name : List ℕ) (items : List ItemTree) (pragmas : Pragmas) (simuls : List (List ℕ)) → Stands told programs old w
     → Stands told (programs ++ p ∷ []) new (steps.with_new_version w (version_now w name items pragmas p.tables.parents simuls))
-
--- each parent of a version has a lower number
-abbrev pub AreOrdered : List Version → Type 0
-AreOrdered versions = (n : ℕ) (v : Version) → slice_get versions n ≡ Some v → All (λ (p : ProgId). p.0 < n) v.parents

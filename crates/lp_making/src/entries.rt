@@ -2,7 +2,7 @@
 ghost use Rattle.std.specs.Prelude.{◌≡◌, IsSome};
 ghost use Rattle.lp_world.specs.Closed.{IsClosed};
 ghost use Rattle.lp_world.specs.Rows.{row_at};
-ghost use Rattle.lp_making.specs.Entries.{EntryKeepsVersions, EntryStands, EntryStaysClosed, StandsEntered, TablesStay, entry_counted, program_in};
+ghost use Rattle.lp_making.specs.Entries.{EntryKeepsVersions, EntryStands, EntryStaysClosed, StandsEntered, entry_counted, program_in};
 
 use lp_values::id::{ObjId, ProgId};
 use lp_world::live::Live;
@@ -48,9 +48,4 @@ pub fn entry_stays_closed()
 /// In the world nothing but clocks changes in the versions.
 pub fn entry_keeps_versions()
     ensures { EntryKeepsVersions }
-{}
-
-/// Programs that have the tables of their versions have them still where clocks alone change.
-pub fn tables_stay()
-    ensures { TablesStay }
 {}

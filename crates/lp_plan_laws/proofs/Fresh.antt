@@ -78,8 +78,12 @@ fresh_rows : (is : List ItemTree) (ts : List Tables) (ws : List (List ℕ)) → 
 fresh_rows is ts [] h = tt
 fresh_rows is ts (v ∷ ws) h = fresh_with (laid_slots is ts) v (laid_slot is ts v) (laid_for is ts ws) (row_laid is ts v) (no_name is ts ws v h.0) (fresh_rows is ts ws h.1)
 
+-- no two rows that are laid out have one name
+pub laid_fresh : (is : List ItemTree) (ts : List Tables) → Fresh (row_names (laid_slots is ts))
+laid_fresh is ts = fresh_rows is ts _ (fresh_met [] _)
+
 pub table_fresh : (h : Heritage) → Fresh (row_names (table h).slots)
-table_fresh (Heir n v ps) = fresh_rows v.items (tables ps) _ (fresh_met [] _)
+table_fresh (Heir n v ps) = laid_fresh v.items (tables ps)
 
 -- a name that is there
 there : (ss : List Slot) (k : ℕ) (q : Slot) → slice_get ss k ≡ Some q → has (row_names ss) q.name ≡ true

@@ -3,7 +3,7 @@ use Rattle.std.proofs.lemmas.Result.{IfOk-weaker}
 use Rattle.lp_values.specs.Errors.{bad_arg}
 use Rattle.lp_instr.specs.EfunList.{efun_name}
 use Rattle.lp_efuns.specs.declared.answer.Answer.TheVariants as answers
-use Rattle.lp_efuns.proofs.Called.{acted_call, bad_call, paid_is, same_variables, spent_call, unpaid_is}
+use Rattle.lp_efuns.proofs.Called.{acted_call, bad_call, paid_is, spent_call, unpaid_is}
 use Rattle.lp_efuns.proofs.plain.call_plain.Goals as goal
 
 pub returns-then-not-is_paid-clause-calls : goal.returns-then-not-is_paid-clause-calls
@@ -14,7 +14,7 @@ returns-then-not-is_paid-clause-calls c =
     spent_call a.efun a.caller.now a.args.now a.live.now a.turn.now a.budget.now c.requires.plain c.requires.there before c.pay_wide-is_paid.new.budget q.0 q.1 c.price_before-before.ensures
 
 pub returns-in_err-did-in-None-clause-variables : goal.returns-in_err-did-in-None-clause-variables
-returns-in_err-did-in-None-clause-variables c = same_variables c.args.live.now.objects c.did.new.live.objects c.did.ensures.objects
+returns-in_err-did-in-None-clause-variables c = c.did.ensures.variables
 
 pub returns-in-Some-clause-calls : goal.returns-in-Some-clause-calls
 returns-in-Some-clause-calls c =
@@ -33,4 +33,4 @@ returns-in_ok-did-in-None-clause-calls c =
     c.did.new.live c.did.new.turn q.0 q.1 c.price_before-before.ensures c.in-None.ensures c.in_ok-did-in-None.ensures.does c.in_ok-did-in-None.ensures.there c.finish.ensures.finishes
 
 pub returns-in_ok-did-in-None-clause-variables : goal.returns-in_ok-did-in-None-clause-variables
-returns-in_ok-did-in-None-clause-variables c = same_variables c.args.live.now.objects c.did.new.live.objects c.did.ensures.objects
+returns-in_ok-did-in-None-clause-variables c = c.did.ensures.variables

@@ -1,0 +1,6 @@
+pub mod Asking
+pub mod Endings
+pub mod Courses
+pub mod Stopping
+pub mod Resuming
+pub mod Beginning

@@ -1,0 +1,4 @@
+use Rattle.lp_efuns.proofs.changes.changed.Goals as goal
+
+pub returns-in-Unshadow-clause-there : goal.returns-in-Unshadow-clause-there
+returns-in-Unshadow-clause-there c = c.unshadow.ensures.there c.unshadow.new.live.cells

@@ -1,0 +1,23 @@
+use Rattle.std.proofs.Common.{◌≡◌, None, Some}
+use Rattle.std.proofs.lemmas.Result.{IfOk-weaker}
+use Rattle.lp_instr.specs.declared.efun.Efun.TheVariants as efuns
+use Rattle.lp_meaning.specs.EfunArguments.{bad, opened_args}
+use Rattle.lp_meaning.specs.WorldEfuns.{deed, object_or_this}
+use Rattle.lp_places.specs.Places.{environment}
+use Rattle.lp_meaning.specs.WorldEfuns.{answers_object}
+use Rattle.lp_efuns.proofs.Looking.{about_nothing, about_object, answered, subject_same}
+use Rattle.lp_efuns.proofs.places.environment.Goals as goal
+
+pub returns-in-Some-clause-looks : goal.returns-in-Some-clause-looks
+unfolding deed
+returns-in-Some-clause-looks c = λ turn g b d s sc h.
+    about_object efuns.Environment 1 (object_or_this d s (opened_args s c.args.args.now) 0) s (λ o. answers_object (environment s.world.places o) s) c.in-Some.o c.object_effect.result
+    (subject_same g c.args.live.now turn b s c.args.caller.now d c.args.args.now 0 (Some c.in-Some.o) h sc c.in-Some.ensures.value)
+    (answered g c.args.live.now turn b s c.environment.result (environment s.world.places c.in-Some.o) c.object_effect.result h (c.environment.ensures s.world.places s.world.shadows h.stands.rest.places) c.object_effect.ensures.value)
+
+pub returns-in-None-clause-looks : goal.returns-in-None-clause-looks
+unfolding deed
+returns-in-None-clause-looks c =
+    IfOk-weaker c.bad.result (λ e. e ≡ bad efuns.Environment 1) _
+    (λ e q. λ turn g b d s sc h. about_nothing efuns.Environment 1 (object_or_this d s (opened_args s c.args.args.now) 0) s (λ o. answers_object (environment s.world.places o) s) e
+    (subject_same g c.args.live.now turn b s c.args.caller.now d c.args.args.now 0 None h sc c.in-None.ensures.value) q) c.bad.ensures
