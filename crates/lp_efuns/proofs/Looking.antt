@@ -1,5 +1,5 @@
 -- Efuns that look at objects, places and shadows.
-use Rattle.std.proofs.Common.{◌≡◌, ◌∙◌, ℕ, Bool, true, false, List, [], ◌∷◌, Option, Some, None, All, refl, ap, sym, slice_get, unwrap_or, map, find, nat_eq, option_map, if◌then◌else◌}
+use Rattle.std.proofs.Common.{◌≡◌, ◌∙◌, ℕ, Bool, true, false, List, [], ◌∷◌, Option, Some, None, All, refl, ap, sym, slice_get, unwrap_or, map, find, nat_eq, option_map, if◌then◌else◌, suc, ◌&&◌}
 use Rattle.std.proofs.lemmas.List.Elements.{All-cons, All-nil}
 use Rattle.lp_values.specs.declared.id.ObjId.{ObjId}
 use Rattle.lp_values.specs.declared.value.Value.{Value}
@@ -15,6 +15,7 @@ use Rattle.lp_instr.specs.declared.efun.Efun.{Efun}
 use Rattle.lp_places.specs.Places.{is_object}
 use Rattle.lp_language.specs.Course.{Scene, State}
 use Rattle.lp_language.specs.Operations.{cells_of, living}
+use Rattle.lp_instr.specs.EfunList.{is_name}
 use Rattle.lp_language.specs.World as world
 use Rattle.lp_language.specs.World.{World, is_live, no_object, object_at, object_named, object_value}
 use Rattle.lp_meaning.specs.EfunArguments.{bad, object_arg, opened_args}
@@ -117,3 +118,13 @@ name_same g live turn b s o r h l f =
 pub objects_there : (cells : Store) (os : List ObjId) → All (IsThere cells) (object_values os)
 objects_there cells [] = All-nil (IsThere cells)
 objects_there cells (o ∷ os) = All-cons (IsThere cells) (Obj o) (object_values os) tt (objects_there cells os)
+
+-- the live object with a name
+found_named : (name : List ℕ) (n : ℕ) (xs : List world.Object) → names.named_from name n (map named_of xs) ≡ world.named_from name n xs
+found_named name n [] = refl
+found_named name n (x ∷ xs) = ap (λ o. if x.is_live && is_name x.name name then Some (record { 0 = n }) else o) (found_named name (suc n) xs)
+
+pub found_same : (g : Setting) (live : Live) (turn : Turn) (b : ℕ) (s : State) (name given : List ℕ) (r : Option ObjId) → At g live turn b s
+    → ((objects : List names.Named) → named.Stands live.names objects → r ≡ names.object_named objects given) → given ≡ name → r ≡ object_named s.world name
+found_same g live turn b s name given r h f e =
+    f (map named_of s.world.objects) h.stands.names ∙ found_named given 0 s.world.objects ∙ ap (object_named s.world) e

@@ -25,6 +25,7 @@ is_look efuns.ThisObject = true
 is_look efuns.ThisPlayer = true
 is_look efuns.ThisInteractive = true
 is_look efuns.PreviousObject = true
+is_look efuns.FindObject = true
 is_look efuns.ObjectName = true
 is_look efuns.Living = true
 is_look efuns.Interactive = true

@@ -13,6 +13,7 @@ mod connections;
 mod enabling;
 mod known;
 mod looks;
+mod names;
 mod objects;
 mod places;
 pub mod plain;

@@ -12,6 +12,7 @@ ghost use Rattle.lp_efuns.specs.declared.caller.Turn.{Turn as T};
 use crate::arguments::text_at;
 use crate::caller::{Caller, Turn};
 use crate::commands::query_verb;
+use crate::names::find_object;
 use crate::objects::{
     interactive, living, object_name, previous_object, this_interactive, this_object, this_player,
 };
@@ -34,6 +35,7 @@ pub(crate) fn is_look(efun: Efun) -> bool
         | Efun::ThisPlayer
         | Efun::ThisInteractive
         | Efun::PreviousObject
+        | Efun::FindObject
         | Efun::ObjectName
         | Efun::Living
         | Efun::Interactive => true,
@@ -88,6 +90,7 @@ pub(crate) fn look(
         Efun::ThisPlayer => Ok(this_player(turn, live)),
         Efun::ThisInteractive => Ok(this_interactive(caller, live)),
         Efun::PreviousObject => Ok(previous_object(caller, args, live)),
+        Efun::FindObject => find_object(args, live),
         Efun::ObjectName => object_name(caller, args, live),
         Efun::Living => Ok(living(args, live)),
         Efun::Interactive => interactive(caller, args, live),
