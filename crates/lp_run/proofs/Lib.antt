@@ -1,2 +1,4 @@
+pub mod Stilled
+pub mod Keeping
 pub mod Together
 pub mod Caught

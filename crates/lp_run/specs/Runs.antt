@@ -1,5 +1,5 @@
 -- A function of a sound program runs: instructions one after another.
-use Rattle.std.specs.Prelude.{ℕ, ⊤, List, map}
+use Rattle.std.specs.Prelude.{ℕ, suc, ⊤, List, map}
 use Rattle.lp_values.specs.declared.value.Value.{Value}
 use Rattle.lp_code.specs.declared.program.FunRow.{FunRow}
 use Rattle.lp_code.specs.declared.program.RawProgram.{RawProgram}
@@ -9,7 +9,7 @@ use Rattle.lp_instr.specs.Sound.{Shapes}
 use Rattle.lp_isa.specs.Machine.{Moment, Goes}
 use Rattle.lp_isa.specs.Runs.{Comes}
 use Rattle.lp_isa.specs.SoundCode.{NextMatches}
-use Rattle.lp_isa.specs.Work.{work}
+use Rattle.lp_isa.specs.Work.{NextLess, work, work_of}
 use Rattle.lp_world.specs.declared.frame.Catch.{Catch}
 use Rattle.lp_world.specs.declared.frame.Frame.{Frame}
 use Rattle.lp_world.specs.declared.live.Live.{Live}
@@ -18,6 +18,7 @@ use Rattle.lp_step.specs.declared.next.Next.{Next as Led}
 use Rattle.lp_step.specs.declared.next.Next.TheVariants as nexts
 use Rattle.lp_step.specs.Steps.{IsFit, told as told_by}
 use Rattle.lp_step_laws.specs.Running.{IsHome, IsOf, Leaves, Runs}
+use Rattle.lp_run.specs.Kept.{Later}
 
 -- In some world a function of a sound program runs so.
 pub record CanRun (live : Live) (stack : List Value) (frame : Frame) (budget : ℕ) : Type 0 where
@@ -36,13 +37,25 @@ Went live0 stack0 frame0 budget0 n live1 stack1 frame1 budget1 =
     (p : RawProgram) (k : ℕ) (row : FunRow) (f : IsFunction p k row) (a : Around) (m : Moment) → IsOf a p row → Runs f.shapes a live0 stack0 frame0 budget0 m
     → Leaves f.shapes a m n live1 stack1 frame1 budget1
 
+-- how much may be left to do: before the first instruction as much as there is, after a last one less
+abbrev pub within : Led → ℕ → ℕ
+within nexts.Again w = suc w
+within (nexts.Call c) w = w
+within (nexts.Back c) w = w
+within (nexts.Done v) w = w
+within (nexts.Error e) w = w
+within nexts.Spent w = w
+
 -- The machine came by some instructions, and by no question, to what the code told at the moment which the frame matches. That
--- is as the shapes say; the state is closed, and the object is in memory.
+-- is as the shapes say, with less to do; nothing of the world is lost and no budget won; the state is closed, and the object
+-- is in memory.
 pub record Came (shapes : Shapes) (a : Around) (m : Moment) (n : Led) (live : Live) (stack : List Value) (frame : Frame) (budget : ℕ) : Type 0 where
   pub moment : Moment
   pub matches : Matches a live stack frame budget moment
   pub comes : Comes a.code a.scene (Goes m) (told_by n a moment)
   pub shaped : NextMatches shapes (told_by n a moment)
+  pub less : NextLess a.code (within n (work_of a.code m)) (told_by n a moment)
+  pub later : Later m.state moment.state
   pub fit : IsFit live stack
   pub home : IsHome a live
 

@@ -4,7 +4,9 @@
 //! there each time, so that nothing is looked at twice.
 #![tactic(auto)]
 
-ghost use Rattle.std.specs.Prelude.{IfOk};
+ghost use Rattle.std.specs.Prelude.{◌≤◌, IfOk, OnOk};
+ghost use Rattle.lp_step.specs.Steps.{IsEndThere, IsFit, KeepsVariables};
+ghost use Rattle.lp_run.specs.Kept.{MachineKeeps};
 ghost use Rattle.lp_run.specs.Runs.{CanRun, IsLast, RunsTo, Went};
 
 pub mod catches;
@@ -24,7 +26,9 @@ fn go(
     budget: &mut u64,
 ) -> Result<Next, StepFault>
     requires { CanRun live.old stack.old.items frame.old budget.old }
-    ensures { IfOk result (λ n. Went live.old stack.old.items frame.old budget.old n live.new stack.new.items frame.new budget.new) }
+    ensures went { IfOk result (λ n. Went live.old stack.old.items frame.old budget.old n live.new stack.new.items frame.new budget.new) }
+    ensures home { OnOk result (KeepsVariables live.old.objects live.new.objects) }
+    ensures there { IfOk result (λ n. IsEndThere live.new n) }
 {
     step(live, stack, frame, budget)
 }
@@ -40,6 +44,10 @@ pub fn run(
     requires { CanRun live.old stack.old.items frame.old budget.old }
     ensures came { IfOk result (λ n. RunsTo live.old stack.old.items frame.old budget.old n live.new stack.new.items frame.new budget.new) }
     ensures last { IfOk result IsLast }
+    ensures home { OnOk result (KeepsVariables live.old.objects live.new.objects) }
+    ensures there { IfOk result (λ n. IsEndThere live.new n) }
+    ensures spends { OnOk result (budget.new ≤ budget.old) }
+    ensures fit { OnOk result (IsFit live.new stack.new.items) }
 {
     'steps: loop {
         match go(live, stack, frame, budget)? {
@@ -48,3 +56,8 @@ pub fn run(
         }
     }
 }
+
+/// Law: no instruction loses anything of the world, or wins budget.
+pub fn law_machine_keeps()
+    ensures { MachineKeeps }
+{}
