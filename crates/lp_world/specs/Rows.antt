@@ -104,3 +104,12 @@ row_after_death (Some o) = if is_out_state o.state then None else Some (record o
 abbrev pub version_with_state : Option Version → ProgramState → Option Version
 version_with_state None s = None
 version_with_state (Some v) s = Some (record v { state = s })
+
+-- the row of an object, and of a version, with another moment of its latest entry
+abbrev pub object_aged : ℕ → Option Object → Option Object
+object_aged time None = None
+object_aged time (Some o) = Some (record o { latest = time })
+
+abbrev pub version_aged : ℕ → Option Version → Option Version
+version_aged time None = None
+version_aged time (Some v) = Some (record v { latest = time })

@@ -4,7 +4,7 @@ ghost use Rattle.std.specs.Option.{option_copied};
 ghost use Rattle.lp_values.specs.declared.value.Value.{Value as V};
 ghost use Rattle.lp_world.specs.declared.objects.Object.{Object as O};
 ghost use Rattle.lp_world.specs.Additions.{new_object};
-ghost use Rattle.lp_world.specs.Rows.{HasPlace, IsWritten, is_live_row, is_out_row, live_in, row_after_death, row_at, row_with_state, state_in, variables_at, variables_in, variables_of, with_value};
+ghost use Rattle.lp_world.specs.Rows.{HasPlace, IsWritten, is_live_row, is_out_row, live_in, object_aged, row_after_death, row_at, row_with_state, state_in, variables_at, variables_in, variables_of, with_value};
 
 use crate::serials::Serials;
 use lp_cells::content::Items;
@@ -119,6 +119,15 @@ fn replace_state_of(row: &mut Option<Object>, state: ObjectState) -> ObjectState
     }
 }
 
+/// Notes the moment of the latest entry, in a row that is there.
+fn age_row(row: &mut Option<Object>, latest: u64)
+    ensures { row.new ≡ object_aged latest row.old }
+{
+    if let Some(o) = row {
+        o.latest = latest;
+    }
+}
+
 /// Whether an object is out.
 fn is_out(row: &Option<Object>) -> bool
     ensures { result ≡ is_out_row row.now }
@@ -173,6 +182,14 @@ impl ObjectTable {
         ensures { IsWritten self.old self.new id i v }
     {
         write_row(&mut self.rows[id.0 as usize], i, v);
+    }
+
+    /// Notes that a function of an object was entered at a moment, in seconds. Nothing else changes. Takes no memory.
+    pub fn note_entry(&mut self, id: ObjId, latest: u64)
+        requires { IsSome (row_at self.old id.0) }
+        ensures { self.new ≡ slice_set self.old id.0 (object_aged latest (row_at self.old id.0)) }
+    {
+        age_row(&mut self.rows[id.0 as usize], latest);
     }
 
     /// How many serials were given out. Takes no memory.

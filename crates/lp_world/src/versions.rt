@@ -2,7 +2,7 @@
 ghost use Rattle.std.specs.Prelude.{◌≡◌, ◌∷◌, ◌++◌, [], IfOk, IsSome, List, OnErr, OnOk, Option, Some, length, slice_set, ℕ};
 ghost use Rattle.std.specs.Option.{option_copied};
 ghost use Rattle.lp_world.specs.Additions.{IsVersionAdded, IsVersionOf};
-ghost use Rattle.lp_world.specs.Rows.{row_at, version_state, version_with_state};
+ghost use Rattle.lp_world.specs.Rows.{row_at, version_aged, version_state, version_with_state};
 ghost use Rattle.lp_world.specs.Stands.{IsOutline};
 ghost use Rattle.lp_world.specs.declared.versions.Version.{Version as V};
 ghost use Rattle.lp_world.specs.Targets.{HasAnswer, HasAnswerIn, HasSameAnswers, HasSameAnswersIn};
@@ -78,6 +78,15 @@ fn replace_state_of(row: &mut Option<Version>, state: ProgramState) -> ProgramSt
     match row {
         Some(v) => mem::replace(&mut v.state, state),
         None => unreachable!(),
+    }
+}
+
+/// Notes the moment of the latest entry, in a row that is there.
+fn age_row(row: &mut Option<Version>, latest: u64)
+    ensures { row.new ≡ version_aged latest row.old }
+{
+    if let Some(v) = row {
+        v.latest = latest;
     }
 }
 
@@ -172,6 +181,15 @@ impl VersionTable {
         ensures after { self.new ≡ slice_set self.old p.0 (version_with_state (row_at self.old p.0) state) }
     {
         replace_state_of(&mut self.rows[p.0 as usize], state)
+    }
+
+    /// Notes that a function in the text of a version, or of one of its objects, was entered at a moment, in seconds.
+    /// Nothing else changes. Takes no memory.
+    pub fn note_entry(&mut self, p: ProgId, latest: u64)
+        requires { IsSome (row_at self.old p.0) }
+        ensures { self.new ≡ slice_set self.old p.0 (version_aged latest (row_at self.old p.0)) }
+    {
+        age_row(&mut self.rows[p.0 as usize], latest);
     }
 
     /// Keeps where an internal call of a slot of a part of a version leads. After want of memory the same is
