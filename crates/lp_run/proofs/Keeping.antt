@@ -1,6 +1,6 @@
 -- No instruction loses anything of the world, or wins budget.
-use Rattle.std.proofs.Common.{◌≡◌, ◌∷◌, [], ℕ, zero, suc, ◌+◌, ◌*◌, Bool, true, false, cond, List, Option, Some, None, arith, length}
-use Rattle.std.specs.Prelude.{pos, slice_get, nat_eq}
+use Rattle.std.proofs.Common.{◌∷◌, [], ℕ, zero, suc, ◌+◌, ◌*◌, Bool, true, false, cond, List, Option, Some, None}
+use Rattle.std.specs.Prelude.{slice_get, nat_eq}
 use Rattle.lp_values.specs.declared.value.Value.{Value}
 use Rattle.lp_values.specs.declared.value.Value.TheVariants as values
 use Rattle.lp_instr.specs.declared.efun.Efun.TheVariants as efun
@@ -9,12 +9,12 @@ use Rattle.lp_instr.specs.declared.instr.EndKind.TheVariants as kinds
 use Rattle.lp_instr.specs.declared.instr.Instr.{Instr}
 use Rattle.lp_instr.specs.declared.instr.Instr.TheVariants.{PushInt, PushText, PushLocal, SetLocal, PushGlobal, SetGlobal, Pop, Dup, Dup2, Unary, Binary, Step, Rotate, Index, SetIndex, Range, MakeArray, MakeMap, Jump, JumpIfZero, JumpIfNotZero, KeepIfZero, KeepIfNotZero, LoopTurn, CallSlot, CallFixed, CallOther, CallEfun, CallSimul, Scan, CatchBegin, CatchEnd, Switch, EachBegin, EachNext, Return, ReturnZero}
 use Rattle.lp_instr.specs.Code.{Catching, Code, parent_row}
-use Rattle.lp_language.specs.Course.{Scene, State, Stop, End, Gives, Stops, Asked, Failed, Internal, OfEfun, Parent, Outcome, CanAnswer, after, asking, caught, end_of_outcome, here, pay, zero_value}
+use Rattle.lp_language.specs.Course.{Scene, State, Stop, End, Gives, Stops, Asked, Failed, Internal, OfEfun, Parent, caught, here, pay, zero_value}
 use Rattle.lp_language.specs.Afterwards.{EndsAfter}
 use Rattle.lp_language.specs.Eval.{simul_object}
 use Rattle.lp_language.specs.Operations.{binary, copied, is_false, item, new_array, new_mapping, put_item, range, row_at, scan, stepped, unary}
 use Rattle.lp_language.proofs.Prices.{after_same, after_trans, binary_after_all, copied_after, global_after, item_after, local_after, new_array_after, new_mapping_after, pay_after, put_item_after, range_after_all, scan_after, stepped_after, unary_after}
-use Rattle.lp_isa.specs.Machine.{Moment, Next, Goes, Ended, Awaits, Wrong, act, act_at, awaits, bring, end_catch, end_then, marked, on_end, on_one, on_some, on_three, on_top, on_two, place_in, push_end, rotate, row_next, step, stop_at, stopped, take_arguments}
+use Rattle.lp_isa.specs.Machine.{Moment, Next, Goes, Ended, Awaits, Wrong, act, act_at, awaits, bring, end_catch, end_then, on_end, on_one, on_some, on_three, on_two, place_in, push_end, rotate, row_next, stop_at, take_arguments}
 use Rattle.lp_instr.specs.Sound.{Shapes}
 use Rattle.lp_isa.specs.SoundCode.{NextMatches}
 use Rattle.lp_world.specs.Matches.{Around}

@@ -1,13 +1,12 @@
 -- Operators change neither versions nor shadows, nor which objects live.
-use Rattle.std.proofs.Common.{◌≡◌, ℕ, zero, suc, ◌+◌, ◌-◌, Bool, true, false, cond, List, [], ◌∷◌, length, Option, Some, None, refl, ap, ◌∙◌, sym, unwrap_or, slice_get, slice_set, arith}
-use Rattle.std.specs.Prelude.{ℤ, pos, ◌&&◌, int_le, map, nat_lt}
+use Rattle.std.proofs.Common.{◌≡◌, ℕ, zero, suc, ◌+◌, ◌-◌, Bool, true, false, cond, List, [], ◌∷◌, length, Option, Some, None, refl, ◌∙◌, unwrap_or, slice_get, slice_set}
+use Rattle.std.specs.Prelude.{ℤ, map, nat_lt}
 use Rattle.lp_tree.specs.declared.operator.BinOp.{BinOp}
 use Rattle.lp_tree.specs.declared.operator.UnOp.{UnOp}
 use Rattle.lp_tree.specs.declared.operator.Step.{Step}
 use Rattle.lp_tree.specs.declared.expr.Edge.{Edge}
 use Rattle.lp_tree.specs.declared.expr.Edge.TheVariants.{Front}
 use Rattle.lp_values.specs.declared.id.CellId.{CellId}
-use Rattle.lp_values.specs.declared.id.ObjId.{ObjId}
 use Rattle.lp_values.specs.declared.value.Value.{Value}
 use Rattle.lp_ops.specs.declared.effect.Effect.{Effect}
 use Rattle.lp_ops.specs.declared.effect.Effect.TheVariants as effects
@@ -24,9 +23,9 @@ use Rattle.lp_values.specs.declared.error.ErrorKind.TheVariants.{BadIndex, TooLo
 use Rattle.lp_text.specs.Scans.{scanned}
 use Rattle.lp_text.specs.Forms.{parts, fault_of, count_of}
 use Rattle.lp_instr.specs.declared.instr.EndKind.{EndKind}
-use Rattle.lp_language.specs.World.{Object, World, is_live, no_object, object_at, with_object}
+use Rattle.lp_language.specs.World.{Object, World, no_object, object_at}
 use Rattle.lp_language.specs.Course.{State, Scene, Spent, End, Gives, Stops, here, pay}
-use Rattle.lp_language.specs.Operations.{unary, binary, item, range, stepped, new_array, new_mapping, put_item, scan, copied, finished, is_back, is_in, is_full_for, living, cells_of, seen, put, put_item_at, put_pair, part_between, bound_of, step_effect, literal, total_size, paired, copy_effect, scan_faults, scan_texts, scanned_value, fails, with_store, with_variable, with_global, with_local}
+use Rattle.lp_language.specs.Operations.{unary, binary, item, range, stepped, new_array, new_mapping, put_item, scan, copied, finished, is_back, is_in, is_full_for, living, cells_of, seen, put, put_item_at, put_pair, part_between, bound_of, step_effect, total_size, paired, copy_effect, scan_faults, scan_texts, scanned_value, fails, with_store, with_variable, with_global, with_local}
 use Rattle.lp_run.specs.Kept.{IsStill}
 
 abbrev pub EndsStill : {A : Type 0} → World → End A → Type 0

@@ -2,7 +2,7 @@
 use Rattle.std.specs.Prelude.{◌≡◌, ⊤}
 use Rattle.lp_values.specs.declared.id.ObjId.{ObjId}
 use Rattle.lp_language.specs.World.{World, is_live}
-use Rattle.lp_language.specs.Course.{Scene, State, End, Gives, Stops}
+use Rattle.lp_language.specs.Course.{Scene, State, Gives, Stops}
 use Rattle.lp_language.specs.Afterwards.{After, AsksAfter}
 use Rattle.lp_instr.specs.Code.{Code}
 use Rattle.lp_isa.specs.Machine.{Moment, Next, Goes, Ended, Awaits, Wrong, step}

@@ -1,5 +1,5 @@
 //! Catches.
-ghost use Rattle.std.specs.Prelude.{IfOk};
+ghost use Rattle.std.specs.Prelude.{◌≡◌, IfOk, false};
 ghost use Rattle.lp_cells.specs.Cells.{IsThere};
 ghost use Rattle.lp_step.specs.Steps.{IsFit};
 ghost use Rattle.lp_run.specs.Catches.{Catches, CaughtRunsOn};
@@ -14,6 +14,7 @@ use lp_world::frame::Frame;
 pub fn catch_value(stack: &mut Vec<Value>, frame: &mut Frame, v: Value) -> Result<bool, StepFault>
     ensures table { IfOk result (λ is_caught. Catches is_caught v stack.old.items frame.old stack.new.items frame.new) }
     ensures keeps { IfOk result (λ is_caught. (live : _) → IsThere live.cells v → IsFit live stack.old.items → IsFit live stack.new.items) }
+    ensures same { IfOk result (λ is_caught. is_caught ≡ false → stack.new.items ≡ stack.old.items) }
 {
     match frame.catches.pop() {
         None => Ok(false),

@@ -1,5 +1,5 @@
 -- How calls end on the state.
-use Rattle.std.specs.Prelude.{◌≡◌, ◌++◌, ℕ, ⊤, List, Option, Some, None, map, slice_get}
+use Rattle.std.specs.Prelude.{◌≡◌, ◌++◌, ℕ, ⊤, List, Option, Some, None, map, reverse, slice_get}
 use Rattle.std.specs.Option.{option_map}
 use Rattle.lp_values.specs.declared.value.Value.{Value}
 use Rattle.lp_cells.specs.Cells.{IsThere, Store}
@@ -11,7 +11,6 @@ use Rattle.lp_language.specs.Course as course
 use Rattle.lp_language.specs.Course.{Answer, End, Gives, Stops, Outcome, Plain, Reply, Returned, WasRead, IsSound, IsFaulty}
 use Rattle.lp_language.specs.Resolve.{without_c}
 use Rattle.lp_world.specs.declared.live.Live.{Live}
-use Rattle.lp_world.specs.Stands.{Stands}
 use Rattle.lp_vm.specs.declared.asker.Asker.{Asker}
 use Rattle.lp_vm.specs.declared.ending.Cause.{Cause}
 use Rattle.lp_vm.specs.declared.ending.Cause.TheVariants as causes
@@ -19,8 +18,8 @@ use Rattle.lp_vm.specs.declared.ending.Ending.{Ending}
 use Rattle.lp_vm.specs.declared.ending.Ending.TheVariants as endings
 use Rattle.lp_vm.specs.declared.ending.Place.{Place}
 use Rattle.lp_vm.specs.declared.ending.Stop.{Stop}
-use Rattle.lp_vm.specs.Asking.{turned, typed_of}
-use Rattle.lp_vm.specs.Compiled.{AreCompiled, Extends}
+use Rattle.lp_vm.specs.Asking.{typed_of}
+use Rattle.lp_vm.specs.Compiled.{IsWorldOf}
 
 -- why something stops
 abbrev pub cause_of : Cause → course.Cause
@@ -70,18 +69,15 @@ abbrev pub IsEndingThere : Store → Ending → Type 0
 IsEndingThere cells (endings.Value v) = IsThere cells v
 IsEndingThere cells (endings.Stopped s) = IsCauseThere cells s.cause
 
--- AN OUTCOME: the state stands for its world, with the programs that there are then, its budget, player and commands; what
--- it put out follows what was there; and so the call ended.
+-- AN OUTCOME: the state stands for its world, budget, player and commands; what it put out follows what was there; and so the
+-- call ended.
 pub record IsOutcome (told : Option Bytes) (programs : List RawProgram) (before : List Out) (live : Live) (asker : Asker) (budget : ℕ) (e : Ending) (o : Outcome) : Type 0 where
-  pub later : List RawProgram
-  pub extends : Extends programs later
-  pub stands : Stands told later live o.world
-  pub compiled : AreCompiled later o.world.versions
+  pub world : IsWorldOf told programs live o.world
   pub left : budget ≡ o.budget
   pub player : o.player ≡ asker.player
-  pub commands : map typed_of asker.commands.items ≡ turned o.commands
+  pub commands : o.commands ≡ map typed_of (reverse asker.commands.items)
   pub outputs : live.outputs ≡ before ++ o.outputs
-  pub answer : IsAnswer later o.world e o.answer
+  pub answer : IsAnswer programs o.world e o.answer
 
 -- the end of a function as that of its call
 abbrev pub plain_end : End Value → End Reply

@@ -1,10 +1,11 @@
 -- A function runs for a course of the meaning.
-use Rattle.std.specs.Prelude.{◌≡◌, ◌<◌, ◌≤◌, ◌++◌, ℕ, List, Option, None, Some, map}
+use Rattle.std.specs.Prelude.{◌≡◌, ◌++◌, ℕ, List, Option, None, Some, All, map, reverse, true}
 use Rattle.lp_values.specs.declared.value.Value.{Value}
 use Rattle.lp_code.specs.declared.program.FunRow.{FunRow}
 use Rattle.lp_code.specs.declared.program.RawProgram.{RawProgram}
-use Rattle.lp_code.specs.Programs.{IsFunction, code_of}
+use Rattle.lp_code.specs.Programs.{IsFunction}
 use Rattle.lp_swapfile.specs.Device.{Bytes}
+use Rattle.lp_language.specs.World.{is_live}
 use Rattle.lp_language.specs.Course.{Course, End, Scene, outcome_of}
 use Rattle.lp_isa.specs.Machine.{Moment, Goes}
 use Rattle.lp_isa.specs.Runs.{Does}
@@ -15,18 +16,17 @@ use Rattle.lp_world.specs.declared.live.Live.{Live}
 use Rattle.lp_world.specs.Matches.{Around}
 use Rattle.lp_step_laws.specs.Running.{IsOf, Runs}
 use Rattle.lp_frames.specs.Returns.{back_in}
-use Rattle.lp_run.specs.Runs.{left_of}
 use Rattle.lp_vm.specs.declared.asker.Asker.{Asker}
 use Rattle.lp_vm.specs.declared.ending.Ending.{Ending}
-use Rattle.lp_vm.specs.Asking.{loading_of, turned, typed_of}
-use Rattle.lp_vm.specs.Compiled.{AreCompiled, Extends, rows_in}
+use Rattle.lp_vm.specs.Asking.{code_in, loading_of, typed_of}
+use Rattle.lp_vm.specs.Compiled.{AreCompiled, IsCaller}
 use Rattle.lp_vm.specs.Endings.{IsOutcome, plain_end}
 
 -- what was handed down to a function that runs
 pub record IsRunner (asker : Asker) (c : Scene) : Type 0 where
   pub interactive : c.interactive ≡ asker.interactive
-  pub loads : map loading_of asker.loads.items ≡ turned c.loads
-  pub callers : asker.callers.items ≡ turned c.callers
+  pub loads : c.loads ≡ map loading_of (reverse asker.loads.items)
+  pub callers : c.callers ≡ reverse asker.callers.items
   pub depth : c.depth ≡ asker.depth
 
 -- A function of a sound program runs at a moment, from which its code does the course; what the driver's call handed down is
@@ -37,9 +37,11 @@ pub record IsGoing (p : RawProgram) (k : ℕ) (row : FunRow) (f : IsFunction p k
   pub by : IsRunner asker a.scene
   pub told_is : a.told ≡ told
   pub player : a.player ≡ asker.player
-  pub commands : map typed_of asker.commands.items ≡ turned a.commands
+  pub commands : a.commands ≡ map typed_of (reverse asker.commands.items)
   pub compiled : AreCompiled a.programs m.state.world.versions
-  pub code : a.code ≡ code_of p (rows_in a.programs p)
+  pub shadows : All (λ s. is_live m.state.world s.shadow ≡ true) m.state.world.shadows
+  pub caller : IsCaller a.programs m.state.world a.scene.this a.scene.part p
+  pub code : a.code ≡ code_in a.programs p
   pub does : Does a.code a.scene (Goes m) course
 
 -- in some world
@@ -53,10 +55,10 @@ pub record CanGo (told : Option Bytes) (live : Live) (stack : List Value) (frame
   pub course : Course Value
   pub going : IsGoing p k row function around moment course told live stack frame asker budget
 
--- what stays while the function runs, though calls may change what the swap file tells, programs, player and commands
+-- what stays while the function runs, though calls may change what the swap file tells, player and commands
 pub record IsLater (a b : Around) : Type 0 where
   pub same : b ≡ back_in a b
-  pub extends : Extends a.programs b.programs
+  pub programs : b.programs ≡ a.programs
 
 -- THE RUN GOES ON with what is left of the course: what that ends with, the whole ends with.
 pub record GoesOn (front : FrontEnd) (p : RawProgram) (k : ℕ) (row : FunRow) (f : IsFunction p k row) (a : Around) (course : Course Value) (told : Option Bytes) (live : Live) (stack : List Value) (frame : Frame) (asker : Asker) (budget : ℕ) : Type 0 where
@@ -86,9 +88,7 @@ Continues told0 live0 stack0 frame0 asker0 budget0 told1 live1 stack1 frame1 ask
     (front : FrontEnd) (p : RawProgram) (k : ℕ) (row : FunRow) (f : IsFunction p k row) (a : Around) (m : Moment) (course : Course Value)
     → IsGoing p k row f a m course told0 live0 stack0 frame0 asker0 budget0 → GoesOn front p k row f a course told1 live1 stack1 frame1 asker1 budget1
 
--- what a turn leads to: on, with less to do; or to the end
+-- what a turn leads to: on, or to the end
 abbrev pub Turned : Option Ending → Option Bytes → Live → List Value → Frame → Asker → ℕ → Option Bytes → Live → List Value → Frame → Asker → ℕ → Type 0
-Turned None told0 live0 stack0 frame0 asker0 budget0 told1 live1 stack1 frame1 asker1 budget1 =
-    Continues told0 live0 stack0 frame0 asker0 budget0 told1 live1 stack1 frame1 asker1 budget1 × (left_of frame1 budget1 < left_of frame0 budget0)
-Turned (Some e) told0 live0 stack0 frame0 asker0 budget0 told1 live1 stack1 frame1 asker1 budget1 =
-    Went told0 live0 stack0 frame0 asker0 budget0 told1 live1 stack1 asker1 budget1 e
+Turned None told0 live0 stack0 frame0 asker0 budget0 told1 live1 stack1 frame1 asker1 budget1 = Continues told0 live0 stack0 frame0 asker0 budget0 told1 live1 stack1 frame1 asker1 budget1
+Turned (Some e) told0 live0 stack0 frame0 asker0 budget0 told1 live1 stack1 frame1 asker1 budget1 = Went told0 live0 stack0 frame0 asker0 budget0 told1 live1 stack1 asker1 budget1 e

@@ -5,3 +5,5 @@ pub mod Going
 pub mod Stopping
 pub mod Resuming
 pub mod Answering
+pub mod Beginning
+pub mod Probe

@@ -8,7 +8,6 @@ use Rattle.lp_code.specs.Programs.{IsFunction}
 use Rattle.lp_instr.specs.Sound.{Shapes}
 use Rattle.lp_language.specs.Course as course
 use Rattle.lp_language.specs.Course.{End, Gives, Stops, State}
-use Rattle.lp_language.specs.Afterwards.{After}
 use Rattle.lp_isa.specs.Machine.{Moment, Goes, Ended, stopped}
 use Rattle.lp_isa.specs.Runs.{Comes}
 use Rattle.lp_world.specs.declared.frame.Frame.{Frame}
@@ -19,6 +18,7 @@ use Rattle.lp_step.specs.Steps.{IsFit}
 use Rattle.lp_step.specs.declared.next.Next.{Next as Led}
 use Rattle.lp_step.specs.declared.next.Next.TheVariants as nexts
 use Rattle.lp_step_laws.specs.Running.{IsHome, IsOf, Runs}
+use Rattle.lp_run.specs.Kept.{Later}
 use Rattle.lp_run.specs.Runs.{Came}
 use Rattle.lp_vm.specs.declared.advance.Halt.{Halt}
 use Rattle.lp_vm.specs.declared.advance.Halt.TheVariants as halts
@@ -43,20 +43,21 @@ IsEndIn (endings.Value v) end s = end ≡ Gives v s
 IsEndIn (endings.Stopped stop) end s = (x : course.Stop) × (end ≡ Stops x s) × (cause_of stop.cause ≡ x.cause) × (x.place ≡ None) × (stop.place ≡ None)
 
 -- The machine came by some instructions, and by no question, to the function's end. The state stands for what was at it.
-pub record CameToEnd (a : Around) (m : Moment) (e : Ending) (live : Live) (stack : List Value) (frame : Frame) (budget : ℕ) : Type 0 where
+pub record CameToEnd (a : Around) (m : Moment) (e : Ending) (live : Live) (stack : List Value) (budget : ℕ) : Type 0 where
+  pub frame : Frame
   pub moment : Moment
   pub matches : Matches a live stack frame budget moment
   pub end : End Value
   pub comes : Comes a.code a.scene (Goes m) (Ended end)
   pub is : IsEndIn e end moment.state
-  pub after : After m.state moment.state
+  pub later : Later m.state moment.state
   pub fit : IsFit live stack
 
 -- Instructions were carried out, errors of them caught, until there is something to ask, or the end.
 abbrev pub AdvancesTo : Halt → Shapes → Around → Moment → Live → List Value → Frame → ℕ → Type 0
 AdvancesTo (halts.Call c) shapes a m live stack frame budget = Came shapes a m (nexts.Call c) live stack frame budget
 AdvancesTo (halts.Back c) shapes a m live stack frame budget = Came shapes a m (nexts.Back c) live stack frame budget
-AdvancesTo (halts.Ended e) shapes a m live stack frame budget = CameToEnd a m e live stack frame budget
+AdvancesTo (halts.Ended e) shapes a m live stack frame budget = CameToEnd a m e live stack budget
 
 abbrev pub Advances : Halt → Live → List Value → Frame → ℕ → Live → List Value → Frame → ℕ → Type 0
 Advances h live0 stack0 frame0 budget0 live1 stack1 frame1 budget1 =

@@ -45,6 +45,8 @@ pub fn advance(
     ensures advances { IfOk result (λ h. Advances h live.old stack.old.items frame.old budget.old live.new stack.new.items frame.new budget.new) }
     ensures there { IfOk result (λ h. IsHaltThere live.new.cells h) }
     ensures home { OnOk result (KeepsVariables live.old.objects live.new.objects) }
+    ensures spends { OnOk result (budget.new ≤ budget.old) }
+    ensures fit { OnOk result (IsFit live.new stack.new.items) }
 {
     'turns: loop {
         match run(live, stack, frame, budget)? {

@@ -3,7 +3,7 @@ use lp_values::id::ObjId;
 use lp_values::text::Text;
 
 /// A running command.
-#[derive(Debug, Drop)]
+#[derive(Drop)]
 pub struct Typed {
     /// Its verb.
     pub verb: Text,
@@ -12,7 +12,7 @@ pub struct Typed {
 }
 
 /// A load under way.
-#[derive(Debug, Drop)]
+#[derive(Drop)]
 pub struct Loading {
     /// The name that is loaded.
     pub name: Text,
@@ -21,7 +21,7 @@ pub struct Loading {
 }
 
 /// Who asks, beside the function that does: what the driver's calls hand down, and give back.
-#[derive(Debug, Drop)]
+#[derive(Drop)]
 pub struct Asker {
     /// `this_player()`.
     pub player: Option<ObjId>,

@@ -1,5 +1,5 @@
 //! Stops that come to a function.
-ghost use Rattle.std.specs.Prelude.{◌≡◌, IfOk, IfSome, OnOk};
+ghost use Rattle.std.specs.Prelude.{◌≡◌, ◌∷◌, IfOk, IfSome, OnOk, Some};
 ghost use Rattle.lp_language.specs.Course.{caught};
 ghost use Rattle.lp_step.specs.Steps.{IsFit};
 ghost use Rattle.lp_vm.specs.Endings.{IsCauseThere, cause_of};

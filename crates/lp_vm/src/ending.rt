@@ -4,7 +4,7 @@ use lp_values::id::{ObjId, ProgId};
 use lp_values::value::Value;
 
 /// Why something stops early.
-#[derive(Debug, PartialEq, Eq, Drop)]
+#[derive(Drop)]
 pub enum Cause {
     /// A thrown value.
     Thrown(Value),
@@ -15,7 +15,7 @@ pub enum Cause {
 }
 
 /// A function of an object, by numbers.
-#[derive(Clone, Copy, Debug, PartialEq, Eq)]
+#[derive(Clone, Copy)]
 pub struct Place {
     /// The object.
     pub this: ObjId,
@@ -26,7 +26,7 @@ pub struct Place {
 }
 
 /// A stop: why, and in which function; in the one that runs where none is given.
-#[derive(Debug, PartialEq, Eq, Drop)]
+#[derive(Drop)]
 pub struct Stop {
     /// Why.
     pub cause: Cause,
@@ -35,7 +35,7 @@ pub struct Stop {
 }
 
 /// How a call ends.
-#[derive(Debug, PartialEq, Eq, Drop)]
+#[derive(Drop)]
 pub enum Ending {
     /// With a value.
     Value(Value),

@@ -9,6 +9,7 @@ pub mod asker;
 pub mod begin;
 pub mod catching;
 pub mod cycle;
+pub mod probe;
 pub mod ending;
 pub mod fault;
 pub mod question;

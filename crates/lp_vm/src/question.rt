@@ -1,31 +1,19 @@
-//! What is asked, and what a question reaches.
+//! What a running function asks, and what a question reaches.
+ghost use Rattle.std.specs.Prelude.{◌≡◌};
+ghost use Rattle.lp_vm.specs.Asking.{question_of};
+
 use lp_frames::entry::Callee;
-use lp_values::id::{ObjId, ProgId};
-use lp_values::text::Text;
+use lp_step::next::Target;
+use lp_values::id::ObjId;
 use lp_world::shared::SharedProgram;
 
-/// Where a function runs that asks.
-#[derive(Clone, Copy, Debug, PartialEq, Eq)]
-pub struct Spot {
-    /// Its object.
-    pub this: ObjId,
-    /// The version in whose text it stands.
-    pub program: ProgId,
-    /// The part of the object's version that it is.
-    pub part: u16,
-}
-
-/// What is asked. The arguments lie on the stack.
-#[derive(Debug, Drop)]
+/// A call of a function in the object that runs.
+#[derive(Clone, Copy)]
 pub enum Question {
-    /// A function of the object that asks, by a row of the program that asks.
+    /// Of the object, by a row of the program that runs.
     Internal(u32),
-    /// A function of a parent of the program that asks, by a row of that parent.
+    /// Of a parent of the program that runs, by a row of that parent.
     Parent(u32, u32),
-    /// A function of an object, by its name, as another object calls it.
-    Other(ObjId, Text),
-    /// A function of an object, by its name, as the driver or an efun applies it.
-    Apply(ObjId, Text),
 }
 
 /// The function that a question reaches.
@@ -37,4 +25,16 @@ pub struct Reached {
     pub code: SharedProgram,
     /// Who is the latest caller then, where a new one comes.
     pub caller: Option<ObjId>,
+}
+
+/// What a call asks in the object that runs, if it stays there.
+pub fn question_of(target: Target) -> Option<Question>
+    ensures { result ≡ question_of target }
+{
+    match target {
+        Target::Slot(k) => Some(Question::Internal(k)),
+        Target::Fixed(parent, k) => Some(Question::Parent(parent, k)),
+        Target::Other => None,
+        Target::Simul(_) => None,
+    }
 }

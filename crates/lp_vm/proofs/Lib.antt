@@ -1,0 +1,9 @@
+pub mod Courses
+pub mod Doing
+pub mod Carried
+pub mod Stopped
+pub mod Resumed
+pub mod Turning
+pub mod Advanced
+pub mod Beginnings
+pub mod Enterings
