@@ -38,12 +38,12 @@ pub struct State {
 }
 
 impl Model for State {
-    ghost use Rattle.lp_world.specs.declared.live.Live.{Live as L};
+    ghost use Rattle.lp_cells.specs.Cells.{Store};
     ghost use Rattle.lp_world.specs.Closed.{IsClosed};
 
-    ghost Value = { L };
+    ghost Value = { Store };
 
-    ghost view = { λ s. s.live };
+    ghost view = { λ s. s.live.cells };
 
     ghost invariant = { λ s. IsClosed s.live };
 }
