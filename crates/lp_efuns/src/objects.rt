@@ -133,3 +133,42 @@ pub(crate) fn interactive(
         None => bad(live.alloc, Efun::Interactive, 1),
     }
 }
+
+/// Cuts a name before its `#`, if there is one.
+fn cut_at_hash(name: &mut Vec<char>)
+    ensures { name.new.items ≡ load_name name.old.items }
+{
+    let at = name.iter().position(
+        |c: &char| -> bool
+            ensures { result ≡ is_hash c.now }
+        { *c == '#' },
+    );
+    if let Some(at) = at {
+        name.truncate(at);
+    }
+}
+
+/// The name of a blueprint, by that of an object, as a value.
+fn load_name_effect(alloc: Global, name: Option<&str>) -> Result<Effect, AllocError>
+    ensures { IfOk result (λ e. e ≡ E.Gives (V.Str (load_name (unwrap_or (option_map (λ s. chars s.now) name) [])))) }
+{
+    let mut all = code_points(alloc, name.unwrap_or(""))?;
+    cut_at_hash(&mut all);
+    Ok(Effect::Gives(Value::Str(Text::from_vec(alloc, all)?)))
+}
+
+/// `load_name`: the name of the blueprint of an object.
+pub(crate) fn load_name(
+    caller: &Caller<'_>,
+    args: &[Value],
+    live: &Live,
+) -> Result<Effect, AllocError>
+    ensures looks { IfOk result (λ e. (turn : T) → Looks Efun.LoadName caller.now args.now live.now turn e) }
+    ensures there { IfOk result (λ e. (cells : Store) → IsEffectThere cells e) }
+{
+    match subject(args, 0, caller.this, &live.objects) {
+        Some(o) => load_name_effect(live.alloc, live.names.name(o)),
+        None => bad(live.alloc, Efun::LoadName, 1),
+    }
+}
+
