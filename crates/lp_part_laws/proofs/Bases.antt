@@ -1,5 +1,5 @@
 -- The variables of a part stand behind those of the parts before its tree.
-use Rattle.std.proofs.Common.{◌≡◌, ◌⊎◌, ◌≤◌, ◌<◌, ℕ, zero, suc, arith, refl, sym, ◌∙◌, ap, subst, inl, inr, List, [], ◌∷◌, ◌++◌, map, length, length-append, Option, Some, None}
+use Rattle.std.proofs.Common.{◌≡◌, ◌⊎◌, ◌≤◌, ◌<◌, ℕ, zero, suc, arith, refl, sym, ◌∙◌, ap, inl, inr, List, [], ◌∷◌, ◌++◌, map, length, length-append, Some}
 use Rattle.std.proofs.lemmas.List.{map-append, append_assoc, length-map}
 use Rattle.std.specs.Prelude.{◌+◌, slice_get, replicate}
 use Rattle.lp_tree.specs.declared.keyword.Base.{Base}
@@ -12,7 +12,7 @@ use Rattle.lp_layout.specs.Layout.{laid_variables, own_rows, row_moved, var_row}
 use Rattle.lp_inherit.specs.Heirs.{table, tables}
 use Rattle.lp_inherit.proofs.Meanings.{count_parts, count_variables}
 use Rattle.lp_part_laws.specs.Parts.{IsSplit}
-use Rattle.lp_part_laws.proofs.Lists.{Behind, get_map, is_below, parted, there_below}
+use Rattle.lp_part_laws.proofs.Lists.{get_map, is_below, parted, there_below}
 use Rattle.lp_part_laws.proofs.Places.{count_counts, counts, counts_before, lies_at, sum_of, total, total-append}
 
 -- the part of each variable

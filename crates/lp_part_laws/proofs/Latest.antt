@@ -1,5 +1,5 @@
 -- Programs still fit where the latest clocks of versions changed.
-use Rattle.std.proofs.Common.{◌≡◌, ◌⊎◌, ◌≤◌, ◌<◌, ℕ, zero, suc, arith, refl, sym, ◌∙◌, ap, subst, inl, inr, true, List, [], ◌∷◌, length, All, Option, Some, None, is_some, unwrap_or}
+use Rattle.std.proofs.Common.{◌≡◌, ◌≤◌, ◌<◌, ℕ, zero, suc, arith, refl, sym, ◌∙◌, ap, subst, List, [], ◌∷◌, length, All, Option, Some, None, is_some, unwrap_or}
 use Rattle.std.specs.Prelude.{◌+◌, ◌++◌, ⊤, slice_get}
 use Rattle.lp_tree.specs.declared.pragma.Pragmas.{Pragmas}
 use Rattle.lp_tree.specs.Units.{ItemTree}
@@ -7,13 +7,13 @@ use Rattle.lp_values.specs.declared.id.ProgId.{ProgId}
 use Rattle.lp_code.specs.declared.program.RawProgram.{RawProgram}
 use Rattle.lp_code.specs.declared.tables.Tables.{Tables}
 use Rattle.lp_code.specs.Programs.{FindsRows}
-use Rattle.lp_language.specs.World.{IsSameVersion, Version, new_world, no_version, version_at}
-use Rattle.lp_language.specs.Resolve.{Heritage, Heir, Heritages, NoParent, OneParent, Sighted, each_heritage, heritage_within, or_else, own_names, own_place, own_variables, parents_of, place_moved, place_shown, sighted_from, variable_count, variable_last, variable_outside, variables_before, version_of, without_c}
+use Rattle.lp_language.specs.World.{IsSameVersion, Version, no_version, version_at}
+use Rattle.lp_language.specs.Resolve.{Heritage, Heir, Heritages, NoParent, OneParent, each_heritage, heritage_within, or_else, own_names, own_variables, parents_of, place_moved, place_shown, sighted_from, variable_count, variable_last, variable_outside, variables_before, version_of, without_c}
 use Rattle.lp_isa.specs.Programs.{StandsForVersion, own_functions}
 use Rattle.lp_layout.specs.Layout.{laid_tables, parts_before}
 use Rattle.lp_inherit.specs.Heirs.{AreDistinct, AreNumbered, AreUnambiguous, IsNumbered, IsUnambiguous, table, tables}
 use Rattle.lp_plan_laws.specs.Tables.{AreNamedOnce, AreOnce, IsNamedOnce}
-use Rattle.lp_part_laws.specs.Versions.{AreCompiled, AreRising, AreSameVersions, FitsVersion, IsTreeFor, StayCompiled, heritage_in, program_of, rows_of}
+use Rattle.lp_part_laws.specs.Versions.{AreSameVersions, FitsVersion, StayCompiled, heritage_in, program_of, rows_of}
 use Rattle.lp_part_laws.proofs.Lists.{is_below, there_below}
 use Rattle.lp_part_laws.proofs.Trees.{bare}
 

@@ -1,12 +1,12 @@
 -- Where the parts of a tree stand, and the variables before them.
-use Rattle.std.proofs.Common.{◌≡◌, ◌⊎◌, ◌≤◌, ℕ, zero, suc, arith, refl, sym, ◌∙◌, ap, subst, inl, inr, List, [], ◌∷◌, ◌++◌, map, length, length-append, Option, Some, None}
+use Rattle.std.proofs.Common.{◌≡◌, ℕ, zero, suc, arith, refl, sym, ◌∙◌, ap, subst, inl, inr, List, [], ◌∷◌, ◌++◌, map, length, length-append, Some}
 use Rattle.std.proofs.lemmas.List.{map-append, append_assoc}
 use Rattle.std.specs.Prelude.{◌+◌, slice_get}
 use Rattle.lp_values.specs.declared.id.ProgId.{ProgId}
-use Rattle.lp_language.specs.Resolve.{Heritage, Heir, Heritages, NoParent, OneParent, Part, number_of, parents_of, version_of, part_at, parts, parts_from, parents_parts, part_count, parts_before, variable_count, variables_before, own_variables, parent_from}
+use Rattle.lp_language.specs.Resolve.{Heritage, Heir, Heritages, NoParent, OneParent, Part, number_of, parents_of, part_at, parts, parts_from, parents_parts, part_count, parts_before, variable_count, variables_before, own_variables, parent_from}
 use Rattle.lp_layout.specs.Layout as layout
 use Rattle.lp_inherit.specs.Heirs.{table, tables}
-use Rattle.lp_part_laws.proofs.Lists.{past, within, Behind, parted, get_map, one_at, Holds, holds_all, holds_within, holds_past}
+use Rattle.lp_part_laws.proofs.Lists.{within, parted, get_map, one_at, Holds, holds_all, holds_within, holds_past}
 
 -- as many parts as are counted
 

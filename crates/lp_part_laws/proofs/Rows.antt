@@ -1,8 +1,7 @@
 -- Rows of programs and tables that are functions.
-use Rattle.std.proofs.Common.{◌≡◌, ◌≤◌, ◌<◌, ℕ, zero, suc, arith, refl, sym, ◌∙◌, ap, subst, Bool, true, false, ◌&&◌, not, cond, List, [], ◌∷◌, map, length, Option, Some, None, is_some}
-use Rattle.std.specs.Prelude.{◌+◌, ◌-◌, ⊤, slice_get, option_map, bytes_eq, if◌then◌else◌}
+use Rattle.std.proofs.Common.{◌≡◌, ◌≤◌, ℕ, zero, suc, arith, refl, sym, ◌∙◌, ap, subst, Bool, true, false, ◌&&◌, cond, List, [], ◌∷◌, map, length, Option, Some, None}
+use Rattle.std.specs.Prelude.{◌+◌, slice_get, option_map, bytes_eq, if◌then◌else◌}
 use Rattle.std.proofs.lemmas.Slice.Eq.{bytes_eq-Decides}
-use Rattle.lp_tree.specs.declared.keyword.Modifier.{Modifier}
 use Rattle.lp_instr.specs.Code.{Code}
 use Rattle.lp_instr.specs.EfunList.{is_name}
 use Rattle.lp_code.specs.declared.program.FunRow.{FunRow as CodeRow}
@@ -11,10 +10,10 @@ use Rattle.lp_code.specs.declared.tables.Slot.{Slot}
 use Rattle.lp_code.specs.Owners.{AreRows, RowsRise}
 use Rattle.lp_code.specs.Programs.{code_of}
 use Rattle.lp_code.specs.Slots.{first_place}
-use Rattle.lp_language.specs.Resolve.{Found, Function, Heritage, Part, is_hidden, is_private, moved, parent_from, parents_of, part_at, resolve, version_of}
+use Rattle.lp_language.specs.Resolve.{Found, Function, Heritage, Part, is_hidden, moved, parent_from, parents_of, part_at, resolve, version_of}
 use Rattle.lp_isa.specs.Programs.{AreFuns, FunRow, IsFun, IsReached, Reached, fun_from, fun_in, own_functions}
 use Rattle.lp_types_expr.specs.Signatures.{has_function, is_private_number}
-use Rattle.lp_layout.specs.Layout.{bits, slot_named}
+use Rattle.lp_layout.specs.Layout.{slot_named}
 use Rattle.lp_inherit.specs.Heirs.{IsNumbered, MeansTheSame, table, tables, with_function}
 use Rattle.lp_inherit.proofs.Meanings.{private_bit, row_agrees}
 use Rattle.lp_plan_laws.specs.Tables.{IsNamedOnce, reached_by, table_row}

@@ -1,5 +1,5 @@
 -- Functions that are found stand in the text of their part.
-use Rattle.std.proofs.Common.{◌≡◌, ◌⊎◌, ◌≤◌, ℕ, zero, suc, arith, refl, sym, ◌∙◌, ap, subst, Bool, true, false, List, [], ◌∷◌, ◌++◌, length, length-append, Option, Some, None}
+use Rattle.std.proofs.Common.{◌≡◌, ℕ, suc, arith, refl, sym, ◌∙◌, ap, subst, Bool, true, false, List, [], ◌∷◌, length, length-append, Option, Some, None}
 use Rattle.std.specs.Prelude.{◌+◌, slice_get, if◌then◌else◌, map}
 use Rattle.lp_tree.specs.Units.{ItemTree, Inherit, Proto, Fun, Var}
 use Rattle.lp_values.specs.declared.id.ProgId.{ProgId}
@@ -11,7 +11,7 @@ use Rattle.lp_layout.proofs.RowLaid.{same_name}
 use Rattle.lp_inherit.specs.Heirs.{tree_of_part}
 use Rattle.lp_inherit.proofs.Numbers.{trees, trees_before, part_read}
 use Rattle.lp_part_laws.specs.Parts.{IsInText}
-use Rattle.lp_part_laws.proofs.Lists.{past, within, Holds, holds_all, holds_within, holds_front, holds_back}
+use Rattle.lp_part_laws.proofs.Lists.{past, Holds, holds_all, holds_within, holds_front, holds_back}
 use Rattle.lp_part_laws.proofs.Places.{part_inside, parent_inside, shifted}
 
 plus_one : (n : ℕ) → n + 1 ≡ suc n

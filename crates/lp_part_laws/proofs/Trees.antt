@@ -1,12 +1,12 @@
 -- The trees of parts are those of their versions.
-use Rattle.std.proofs.Common.{◌≡◌, ◌⊎◌, ◌≤◌, ◌<◌, ℕ, zero, suc, arith, refl, sym, ◌∙◌, ap, subst, inl, inr, List, [], ◌∷◌, ◌++◌, length, All, Option, Some, None, unwrap_or}
+use Rattle.std.proofs.Common.{◌≡◌, ◌≤◌, ◌<◌, ℕ, zero, suc, arith, refl, sym, ◌∙◌, ap, subst, inl, inr, List, [], ◌∷◌, All, Option, Some, None, unwrap_or}
 use Rattle.std.proofs.lemmas.List.Elements.{All-head, All-tail, All-nil}
 use Rattle.std.specs.Prelude.{◌+◌, slice_get, option_map}
 use Rattle.lp_values.specs.declared.id.ProgId.{ProgId}
 use Rattle.lp_language.specs.World.{World, Version, new_world, no_version, version_at}
 use Rattle.lp_language.specs.Resolve.{Heritage, Heir, Heritages, NoParent, OneParent, Part, each_heritage, heritage_within, number_of, parents_of, version_of, part_at, parts_from, parents_parts, part_count, variable_count, parent_from}
 use Rattle.lp_part_laws.specs.Versions.{AreRising, heritage_in}
-use Rattle.lp_part_laws.proofs.Lists.{Behind, parted, one_at}
+use Rattle.lp_part_laws.proofs.Lists.{parted, one_at}
 
 -- the world with these versions alone
 abbrev pub bare : List Version → World
