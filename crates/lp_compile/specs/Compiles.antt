@@ -12,13 +12,14 @@ use Rattle.lp_layout.specs.Layout.{AreInside}
 use Rattle.lp_front.specs.Names.{parents_in}
 use Rattle.lp_front.specs.Reading.{Declares, HasFault}
 use Rattle.lp_front.specs.Settling.{faults_of, own_version, tables_of}
+use Rattle.lp_unit_laws.specs.Versions.{IsOfVersion}
 use Rattle.lp_compile.specs.Known.{AreGiven, IsFirstMissing, Known}
 use Rattle.lp_compile.specs.Translated.{Stands, Translates}
 use Rattle.lp_compile.specs.declared.fault.CompileFault.{CompileFault}
 use Rattle.lp_compile.specs.declared.fault.CompileFault.TheVariants.{Need, Faults, NoMemory}
 
 -- A file was compiled to a program, with this number for its version: it declares a unit, each parent is loaded, the unit has
--- no fault with its parents; the tables are the version's and fine for its children, and the program is sound and the
+-- no fault with its parents; the tables are those of a version and fine for its children, and the program is sound and the
 -- translation of the unit: it stands for each version that the unit has with such parents.
 pub record Compiles (files : Store) (path : List ℕ) (own : ProgId) (known : Known) (simuls : List (List ℕ)) (p : RawProgram) : Type 0 where
   pub items : List ItemTree
@@ -30,6 +31,7 @@ pub record Compiles (files : Store) (path : List ℕ) (own : ProgId) (known : Kn
   pub tables : p.tables ≡ tables_of path items pragmas parents own
   pub version : own_version p.tables ≡ Some own
   pub inside : AreInside (p.tables ∷ [])
+  pub of : IsOfVersion p.tables
   pub translates : Translates items parents simuls p
   pub stands : Stands items parents simuls p
   pub sound : IsProgram p

@@ -3,6 +3,7 @@ use Rattle.std.specs.Prelude.{◌≡◌, ℕ, ⊤, List, [], ◌∷◌, ◌++◌
 use Rattle.lp_code.specs.declared.tables.Tables.{Tables}
 use Rattle.lp_layout.specs.Layout.{AreInside}
 use Rattle.lp_front.specs.declared.parents.Parent.{Parent}
+use Rattle.lp_unit_laws.specs.Versions.{AreOfVersions}
 use Rattle.lp_compile.specs.declared.fault.CompileFault.{CompileFault}
 use Rattle.lp_compile.specs.declared.fault.CompileFault.TheVariants.{Need, Faults, NoMemory}
 
@@ -41,6 +42,7 @@ AreNotGiven k ps NoMemory = ⊤
 -- the first parents have these tables; so what is said of those that are left is said of all
 pub record IsOnTheWay (k : Known) (left all : List Parent) (n : ℕ) (ts : List Tables) : Type 0 where
   pub inside : AreInside ts
+  pub versions : AreOfVersions ts
   pub count : length ts ≡ n
   pub given : (us : List Tables) → AreGiven k left us → AreGiven k all (ts ++ us)
   pub missing : (file : List ℕ) → IsFirstMissing k left file → IsFirstMissing k all file

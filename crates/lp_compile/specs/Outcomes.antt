@@ -11,6 +11,7 @@ use Rattle.lp_front.specs.declared.read.Declared.{Declared}
 use Rattle.lp_front.specs.Names.{parents_in}
 use Rattle.lp_front.specs.Reading.{items_of}
 use Rattle.lp_front.specs.Settling.{faults_of, tables_of}
+use Rattle.lp_unit_laws.specs.Versions.{IsOfVersion}
 use Rattle.lp_compile.specs.Known.{AreGiven, IsFirstMissing, Known}
 use Rattle.lp_compile.specs.Translated.{IsGenerated, Translates}
 use Rattle.lp_compile.specs.declared.fault.CompileFault.{CompileFault}
@@ -32,6 +33,7 @@ pub record IsMadeOver (path : List ℕ) (d : Declared) (own : ProgId) (ts : List
   pub faultless : faults_of path (items_of d) d.pragmas ts simuls ≡ []
   pub tables : p.tables ≡ tables_of path (items_of d) d.pragmas ts own
   pub inside : AreInside (p.tables ∷ [])
+  pub of : IsOfVersion p.tables
   pub translates : Translates (items_of d) ts simuls p
   pub sound : IsProgram p
 
