@@ -3,12 +3,14 @@ use Rattle.std.proofs.Common.{◌≡◌, ℕ, zero, suc, ◌+◌, ◌<◌, ◌�
 use Rattle.std.specs.Prelude.{slice_get, slice_set}
 use Rattle.std.proofs.lemmas.List.{length-set, append-nil}
 use Rattle.std.proofs.lemmas.Bool.{cases_lt}
+use Rattle.std.proofs.lemmas.Option.{slice_get_within}
 use Rattle.lp_instr.specs.declared.instr.Instr.{Instr}
+use Rattle.lp_instr.specs.declared.instr.Instr.TheVariants.{Switch}
 use Rattle.lp_isa.specs.Translates.{Line, Then}
 use Rattle.lp_codegen_expr.specs.declared.code.Draft.{Draft}
 use Rattle.lp_codegen_expr.specs.declared.code.Draft.TheVariants.{Done}
 use Rattle.lp_codegen_expr.specs.Names.{Plan, Lays}
-use Rattle.lp_codegen_expr.specs.Drafts.{Sketch, grown, filled, HasText, Around, resolved, Form, Adds, line, after}
+use Rattle.lp_codegen_expr.specs.Drafts.{Sketch, grown, filled, HasText, Around, resolved, Form, Adds, NamesSwitch, line, after}
 
 pub slice_get-front : {A : Type 0} (a b : List A) (p : ℕ) → p < length a → slice_get (a ++ b) p ≡ slice_get a p
 slice_get-front [] b p h = absurd (omega arith)
@@ -40,6 +42,15 @@ pub set-seam : {A : Type 0} (a : List A) (x d : A) → slice_set (a ++ x ∷ [])
 set-seam [] x d = refl
 set-seam (y ∷ a) x d = ap (λ l. y ∷ l) (set-seam a x d)
 
+-- what was there stays, and so does what it names
+pub names_still : {c d : List Draft} {from k n : ℕ} → ((p : ℕ) → p < length c → slice_get d p ≡ slice_get c p) → n ≤ from → NamesSwitch c from k → NamesSwitch d n k
+names_still {c} {d} {from} {k} {n} same l s =
+    let a = s.behind in
+    record { place = s.place; behind = omega (arith, a, l); there = same s.place (slice_get_within c s.place (Done (Switch k)) s.there) ∙ s.there }
+
+pub names_from : {c : List Draft} {from k n : ℕ} → n ≤ from → NamesSwitch c from k → NamesSwitch c n k
+names_from {c} {from} {k} {n} l s = let a = s.behind in record { place = s.place; behind = omega (arith, a, l); there = s.there }
+
 -- one piece after another
 pub adds_then : (l : Plan) (P Q R : Form) (old mid new : Sketch) → Adds l P old mid → Adds l Q mid new → ((a : Around) → P a (length old.code) (length mid.code) → Q a (length mid.code) (length new.code) → R a (length old.code) (length new.code)) → Adds l R old new
 adds_then l P Q R old mid new v w f = record {
@@ -49,6 +60,10 @@ adds_then l P Q R old mid new v w f = record {
   texts = λ k h. w.texts k (let c = v.more_texts in omega arith) ∙ v.texts k h;
   more_switches = let a = v.more_switches in let b = w.more_switches in omega arith;
   switches = λ k h. w.switches k (let c = v.more_switches in omega arith) ∙ v.switches k h;
+  named = λ k x y. ⊎_elim
+      (λ (q : k < length mid.switches). names_still w.same (omega arith) (v.named k x q))
+      (λ (q : length mid.switches ≤ k). names_from v.longer (w.named k q y))
+      (cases_lt k (length mid.switches));
   makes = λ a r.
       f a
       (v.makes a (record {
@@ -77,6 +92,7 @@ reform {l} {old} {new} F G f w = record {
   texts = w.texts;
   more_switches = w.more_switches;
   switches = w.switches;
+  named = w.named;
   makes = λ a r. f a (length old.code) (length new.code) (w.makes a r);
 }
 
@@ -89,6 +105,7 @@ by_layout {l} {old} {new} F G f w = record {
   texts = w.texts;
   more_switches = w.more_switches;
   switches = w.switches;
+  named = w.named;
   makes = λ a r. f a r.lays (length old.code) (length new.code) (w.makes a r);
 }
 
@@ -101,6 +118,7 @@ line_none l old = record {
   texts = λ k h. refl;
   more_switches = omega arith;
   switches = λ k h. refl;
+  named = λ k x y. absurd (omega (arith, x, y));
   makes = λ a r. refl;
 }
 
@@ -117,6 +135,7 @@ one_adds {l} {old} {new} i e =
       texts = λ k h. ap (λ d. slice_get d.texts k) e;
       more_switches = omega arith;
       switches = λ k h. ap (λ d. slice_get d.switches k) e;
+      named = λ k x y. absurd (omega (arith, x, y, o));
       makes = λ a r. (r.instrs (length old.code) (omega arith) (omega arith) ∙ ap (λ d. resolved a.out a.again (slice_get d.code (length old.code))) e ∙ ap (resolved a.out a.again) (slice_get-seam old.code [] (Done i)), n);
     }
 
@@ -142,6 +161,11 @@ adds_below {l} P old new h d lt w =
       texts = w.texts;
       more_switches = w.more_switches;
       switches = w.switches;
+      named = λ k x y.
+          let s = w.named k x y in
+          let q = s.behind in
+          let ne : s.place ≢ h = omega (arith, q, lt) in
+          record { place = s.place; behind = omega (arith, q, a); there = slice_get-set new.code h s.place d ne ∙ s.there };
       makes = λ c r.
           subst (λ n. P c n (length (slice_set new.code h d))) (sym a) (subst (λ n. P c (length old.code) n) (sym b)
           (w.makes c (record {
@@ -232,6 +256,7 @@ with_text {l} {old} {mid} {new} i t k h e =
       texts = h.texts.kept;
       more_switches = let q = ap length h.switches in omega arith;
       switches = λ p x. ap (λ c. slice_get c p) h.switches;
+      named = λ j x y. absurd (let q = ap length h.switches in omega (arith, x, y, q));
       makes = λ a r. (r.texts k h.texts.within ∙ h.texts.there, n);
     } in
     adds_then l K (line (i k ∷ [])) (λ a from to. (k : ℕ) × (slice_get a.code.texts k ≡ Some t) × Line a.code (i k ∷ []) from to) old mid new kept (one_adds (i k) e)

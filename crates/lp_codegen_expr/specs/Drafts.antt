@@ -10,7 +10,7 @@ use Rattle.lp_tree.specs.Trees.{Tree, trees, pairs, Name, Index as IndexTree}
 use Rattle.lp_tree.specs.TreeView.{tree_of}
 use Rattle.lp_tree.specs.Pieces.{end_tree, pair_of}
 use Rattle.lp_instr.specs.declared.instr.Instr.{Instr}
-use Rattle.lp_instr.specs.declared.instr.Instr.TheVariants.{Dup2, Index, SetIndex, Jump, JumpIfZero, KeepIfZero, KeepIfNotZero, Pop}
+use Rattle.lp_instr.specs.declared.instr.Instr.TheVariants.{Dup2, Index, SetIndex, Jump, JumpIfZero, KeepIfZero, KeepIfNotZero, Pop, Switch}
 use Rattle.lp_language.specs.Resolve.{Heritage}
 use Rattle.lp_instr.specs.EfunList.{efun_named}
 use Rattle.lp_language.specs.Scope.{Names, slot, callee, as_efun}
@@ -77,7 +77,14 @@ pub record Has (l : Plan) (d : Sketch) (a : Around) (from to : ℕ) : Type 0 whe
 abbrev pub Form : Type 1
 Form = Around → Piece
 
--- code of a form was added: it stands in every code that has what was added there
+-- from one place on, an instruction names a switch
+pub record NamesSwitch (code : List Draft) (from k : ℕ) : Type 0 where
+  pub place : ℕ
+  pub behind : from ≤ place
+  pub there : slice_get code place ≡ Some (Done (Switch k))
+
+-- Code of a form was added: it stands in every code that has what was added there. Each row of the list of switches that was
+-- added is named by an instruction that was.
 pub record Adds (l : Plan) (F : Form) (old new : Sketch) : Type 0 where
   pub longer : length old.code ≤ length new.code
   pub same : (p : ℕ) → p < length old.code → slice_get new.code p ≡ slice_get old.code p
@@ -85,6 +92,7 @@ pub record Adds (l : Plan) (F : Form) (old new : Sketch) : Type 0 where
   pub texts : (k : ℕ) → k < length old.texts → slice_get new.texts k ≡ slice_get old.texts k
   pub more_switches : length old.switches ≤ length new.switches
   pub switches : (k : ℕ) → k < length old.switches → slice_get new.switches k ≡ slice_get old.switches k
+  pub named : (k : ℕ) → length old.switches ≤ k → k < length new.switches → NamesSwitch new.code (length old.code) k
   pub makes : (a : Around) → Has l new a (length old.code) (length new.code) → F a (length old.code) (length new.code)
 
 -- just these instructions

@@ -41,6 +41,9 @@ led_adds {l} {old} {cur} F from out again new e led w =
       texts = w.texts;
       more_switches = w.more_switches;
       switches = w.switches;
+      named = λ k x y.
+          let s = w.named k x y in
+          record { place = s.place; behind = s.behind; there = led.led s.place (let q = s.behind in omega (arith, e, q)) ∙ ap (leads_to out again) s.there };
       makes = λ a r.
           subst (λ t. F (within a out again) (length old.code) t) (sym long)
           (w.makes (within a out again) (record {
@@ -117,6 +120,7 @@ do_adds {l} {old} {c1} {c2} {c3} B T turn again out new et e1 w2 ea w3 eo led =
       texts = g2.texts;
       more_switches = g2.more_switches;
       switches = g2.switches;
+      named = g2.named;
       makes = λ a r.
           let h : G (within a (length new) (Some again)) (length old.code) (length new) = subst (λ t. G (within a t (Some again)) (length old.code) (length new)) ends (g2.makes a r) in
           (again, h.0, subst (λ t. T t (within a (length new) (Some again)) again (length new)) et h.1);
@@ -183,6 +187,7 @@ open_adds {l} {old} {new} x F e f =
       texts = λ k h. ap (λ d. slice_get d.texts k) e;
       more_switches = omega arith;
       switches = λ k h. ap (λ d. slice_get d.switches k) e;
+      named = λ k x y. absurd (omega (arith, x, y, o));
       makes = λ a r. subst (λ t. F a (length old.code) t) (sym n) (f a (length old.code) (r.instrs (length old.code) (omega arith) (omega arith) ∙ ap (λ d. resolved a.out a.again (slice_get d.code (length old.code))) e ∙ ap (resolved a.out a.again) (slice_get-seam old.code [] x)));
     }
 

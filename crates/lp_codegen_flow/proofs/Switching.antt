@@ -1,6 +1,8 @@
 -- The parts of a switch, one after another, and its row.
-use Rattle.std.proofs.Common.{◌≡◌, ℕ, ℤ, ◌+◌, List, [], ◌∷◌, ◌++◌, length, take, Bool, true, false, cond, Option, Some, None, is_some, refl, sym, ap, ◌∙◌, subst, arith, length-append, append_assoc, append-nil}
-use Rattle.std.specs.Prelude.{slice_get}
+use Rattle.std.proofs.Common.{◌≡◌, ℕ, ℤ, ◌+◌, ◌<◌, ◌≤◌, List, [], ◌∷◌, ◌++◌, length, take, ⊎_elim, Bool, true, false, cond, Option, Some, None, is_some, refl, sym, ap, ◌∙◌, subst, arith, length-append, append_assoc, append-nil}
+use Rattle.std.specs.Prelude.{slice_get, slice_set}
+use Rattle.std.proofs.lemmas.Bool.{cases_lt}
+use Rattle.std.proofs.lemmas.List.{length-set}
 use Rattle.lp_tree.specs.declared.stmt.Constant.{Constant}
 use Rattle.lp_tree.specs.declared.stmt.Constant.TheVariants as constants
 use Rattle.lp_tree.specs.declared.stmt.Label.{Label}
@@ -19,14 +21,14 @@ use Rattle.lp_instr.specs.Code.{Code, Table}
 use Rattle.lp_language.specs.Exec.{first_label, is_default}
 use Rattle.lp_language.specs.Resolve.{Heritage, counted}
 use Rattle.lp_language.specs.Scope.{Names, behind, declared, declared_parts, slots_from}
-use Rattle.lp_isa.specs.Translates.{Then, Line, MakesParts, OtherIs}
+use Rattle.lp_isa.specs.Translates.{Then, One, MakesParts, OtherIs}
 use Rattle.lp_codegen_expr.specs.declared.code.Draft.{Draft}
 use Rattle.lp_codegen_expr.specs.declared.code.Draft.TheVariants.{Done}
 use Rattle.lp_codegen_expr.specs.declared.scope.Scope.{Scope}
 use Rattle.lp_codegen_expr.specs.Names.{Plan, layout_of}
-use Rattle.lp_codegen_expr.specs.Drafts.{Sketch, Around, Form, Adds, HasText, after, draft_of, grown, filled}
+use Rattle.lp_codegen_expr.specs.Drafts.{Sketch, Around, Form, Adds, HasText, after, draft_of, grown, filled, line, resolved}
 use Rattle.lp_codegen_expr.specs.declared.code.Code.{Code as Built}
-use Rattle.lp_codegen_expr.proofs.Compose.{adds_then, reform, seq, skip, slice_get-front, slice_get-seam}
+use Rattle.lp_codegen_expr.proofs.Compose.{adds_then, adds_below, hole_filled, one_adds, reform, seq, slice_get-front, slice_get-seam, slice_get-set_same}
 use Rattle.lp_codegen_expr.proofs.Trees.{of_tree}
 use Rattle.lp_codegen_flow.specs.Led.{Led}
 use Rattle.lp_codegen_flow.specs.Cleared.{Cleared, of_clears}
@@ -127,6 +129,7 @@ nothing_adds F f = record {
   texts = λ k h. refl;
   more_switches = omega arith;
   switches = λ k h. refl;
+  named = λ k x y. absurd (omega (arith, x, y));
   makes = λ a r. f a;
 }
 
@@ -140,23 +143,56 @@ text_adds {l} {old} {new} F k t h f =
       texts = h.texts.kept;
       more_switches = let q = ap length h.switches in omega arith;
       switches = λ p x. ap (λ c. slice_get c p) h.switches;
+      named = λ j x y. absurd (let q = ap length h.switches in omega (arith, x, y, q));
       makes = λ a r. subst (λ m. F a (length old.code) m) (sym n) (f a (r.texts k h.texts.within ∙ h.texts.there));
     }
 
-pub switch_adds : {l : Plan} {old new : Sketch} (F : Form) (k : ℕ) (row : Table) → HasSwitch k row old new → ((a : Around) → slice_get a.code.switches k ≡ Some row → F a (length old.code) (length old.code)) → Adds l F old new
-switch_adds {l} {old} {new} F k row h f =
-    let n : length new.code ≡ length old.code = ap length h.code in
-    let m : length new.switches ≡ length old.switches + 1 = ap length h.switches ∙ (omega (arith, length-append old.switches (row ∷ []))) in
-    let q : length new.texts ≡ length old.texts = ap length h.texts in
-    let number = h.number in
+-- A piece behind a place that is kept for an instruction, and then a row of the list of switches, which is filled in as the
+-- one that the instruction names.
+pub switch_adds : {l : Plan} {old c1 c3 c4 new : Sketch} (P : Form) (k : ℕ) (row : Table) (x : Draft) (start : ℕ) → start ≡ length old.code → c1 ≡ grown old (x ∷ []) → Adds l P c1 c3 → HasSwitch k row c3 c4 → new ≡ filled c4 start (Done (Switch k)) → Adds l (λ a from to. Then (One a.code (Switch k)) (λ from to. P a from to × (slice_get a.code.switches k ≡ Some row)) from to) old new
+switch_adds {l} {old} {c1} {c3} {c4} {new} P k row x start es e1 w has en =
+    let d = Done (Switch k) in
+    let n1 : length c1.code ≡ length old.code + 1 = ap (λ s. length s.code) e1 ∙ (omega (arith, length-append old.code (x ∷ []))) in
+    let s1 : length c1.switches ≡ length old.switches = ap (λ s. length s.switches) e1 in
+    let t1 : length c1.texts ≡ length old.texts = ap (λ s. length s.texts) e1 in
+    let lt1 : start < length c1.code = omega (arith, es, n1) in
+    let C1 = filled c1 start d in
+    let C3 = filled c3 start d in
+    let v1 : Adds l (line (Switch k ∷ [])) old C1 = one_adds (Switch k) (hole_filled (Switch k) x old c1 start e1 es) in
+    let v3 : Adds l P C1 C3 = adds_below P c1 c3 start d lt1 w in
+    let v : Adds l (after (line (Switch k ∷ [])) P) old C3 = seq v1 v3 in
+    let code : new.code ≡ C3.code = ap (λ s. s.code) en ∙ ap (λ c. slice_set c start d) has.code in
+    let texts : new.texts ≡ c3.texts = ap (λ s. s.texts) en ∙ has.texts in
+    let rows : new.switches ≡ c3.switches ++ row ∷ [] = ap (λ s. s.switches) en ∙ has.switches in
+    let n : length new.code ≡ length C3.code = ap length code in
+    let m : length new.switches ≡ length c3.switches + 1 = ap length rows ∙ (omega (arith, length-append c3.switches (row ∷ []))) in
+    let q : length new.texts ≡ length c3.texts = ap length texts in
+    let number = has.number in
+    let first : slice_get C3.code start ≡ Some d = slice_get-set_same c3.code start d (let c = w.longer in omega (arith, lt1, c)) in
     record {
-      longer = omega arith;
-      same = λ p x. ap (λ c. slice_get c p) h.code;
-      more_texts = omega arith;
-      texts = λ j x. ap (λ c. slice_get c j) h.texts;
-      more_switches = omega arith;
-      switches = λ j x. ap (λ c. slice_get c j) h.switches ∙ slice_get-front old.switches (row ∷ []) j x;
-      makes = λ a r. subst (λ t. F a (length old.code) t) (sym n) (f a (r.switches k (omega arith) ∙ ap (λ c. slice_get c k) h.switches ∙ ap (slice_get (old.switches ++ row ∷ [])) number ∙ slice_get-seam old.switches [] row));
+      longer = let c = v.longer in omega (arith, c, n);
+      same = λ p h. ap (λ c. slice_get c p) code ∙ v.same p h;
+      more_texts = let c = v.more_texts in omega (arith, c, q);
+      texts = λ j h. ap (λ c. slice_get c j) texts ∙ v.texts j h;
+      more_switches = let c = v.more_switches in omega (arith, c, m);
+      switches = λ j h. ap (λ c. slice_get c j) rows ∙ slice_get-front c3.switches (row ∷ []) j (let c = v.more_switches in omega (arith, c, h)) ∙ v.switches j h;
+      named = λ j h g. ⊎_elim
+          (λ (y : j < length c3.switches).
+          let s = v.named j h y in
+          record { place = s.place; behind = s.behind; there = ap (λ c. slice_get c s.place) code ∙ s.there })
+          (λ (y : length c3.switches ≤ j).
+          let z : k ≡ j = omega (arith, number, y, g, m) in
+          record { place = start; behind = omega (arith, es); there = ap (λ c. slice_get c start) code ∙ first ∙ ap (λ i. Some (Done (Switch i))) z })
+          (cases_lt j (length c3.switches));
+      makes = λ a r.
+          let made : Then (One a.code (Switch k)) (P a) (length old.code) (length C3.code) = v.makes a (record {
+            lays = r.lays;
+            instrs = λ p h g. r.instrs p h (omega (arith, g, n)) ∙ ap (λ c. resolved a.out a.again (slice_get c p)) code;
+            texts = λ j h. r.texts j (omega (arith, h, q)) ∙ ap (λ c. slice_get c j) texts;
+            switches = λ j h. r.switches j (omega (arith, h, m)) ∙ ap (λ c. slice_get c j) rows ∙ slice_get-front c3.switches (row ∷ []) j h;
+          }) in
+          let there : slice_get a.code.switches k ≡ Some row = r.switches k (omega (arith, number, m)) ∙ ap (λ c. slice_get c k) rows ∙ ap (slice_get (c3.switches ++ row ∷ [])) number ∙ slice_get-seam c3.switches [] row in
+          (made.0, made.1, (subst (λ t. P a made.0 t) (sym n) made.2, there));
     }
 
 -- labels
@@ -267,6 +303,19 @@ fits_end : (o : Option ℕ) (to : ℕ) → OtherFits o (or_end o to)
 fits_end None to = tt
 fits_end (Some n) to = refl
 
+-- the same form at its places
+table_form : {l : Plan} {old new : Sketch} (F G : Form) → Adds l F old new → ((a : Around) → F a (length old.code) (length new.code) → G a (length old.code) (length new.code)) → Adds l G old new
+table_form {l} {old} {new} F G w f = record {
+  longer = w.longer;
+  same = w.same;
+  more_texts = w.more_texts;
+  texts = w.texts;
+  more_switches = w.more_switches;
+  switches = w.switches;
+  named = w.named;
+  makes = λ a r. f a (w.makes a r);
+}
+
 pub table_stands : {s0 s1 : Scope} {old c1 c2 c4 new : Sketch} (ps : List (Part Stmt)) (ks : Labels) (x : Draft) (start first end k : ℕ) (led : List Draft) → start ≡ length old.code → c1 ≡ grown old (x ∷ []) → first ≡ length c1.code → PartsStand ps ks s0 s1 c1 c2 → end ≡ length c2.code → Led first end None c2.code led → HasSwitch k (row_of ks end) (recoded c2 led) c4 → new ≡ filled c4 start (Done (Switch k)) → TableStands ps s0 s1 old new
 table_stands {s0} {s1} {old} {c1} {c2} {c4} {new} ps ks x start first end k led es e1 ef w ee leads has en =
     let ns = s0.locals.items in
@@ -275,21 +324,16 @@ table_stands {s0} {s1} {old} {c1} {c2} {c4} {new} ps ks x start first end k led 
     let row = row_of ks end in
     let c3 = recoded c2 led in
     let P : Form = λ a. of_parts ps ks.cases.items o ns (within a end None) in
-    let S : Form = λ a from to. (slice_get a.code.switches k ≡ Some row) × (to ≡ from) in
-    let G : Form = λ a from to. P a from to × (slice_get a.code.switches k ≡ Some row) × (end ≡ to) in
-    let long : end ≡ length c4.code = ee ∙ sym leads.as_long ∙ sym (ap length has.code) in
+    let long : end ≡ length new.code = ee ∙ sym leads.as_long ∙ sym (ap length has.code) ∙ sym (ap (λ s. length s.code) en ∙ length-set c4.code start (Done (Switch k))) in
     let w3 : Adds l P c1 c3 = led_adds (of_parts ps ks.cases.items o ns) first end None led ef leads w.code in
-    let w4 : Adds l S c3 c4 = switch_adds S k row has (λ a h. (h, refl)) in
-    let w5 : Adds l G c1 c4 = adds_then l P S G c1 c3 c4 w3 w4 (λ a p q. (subst (λ n. P a (length c1.code) n) (sym q.1) p, q.0, long)) in
-    let H : Form = λ a from to. Then (Line a.code (Switch k ∷ [])) (G a) from to in
-    let w6 : Adds l H old new = skip G (λ n. Switch k) x start (length c4.code) es e1 w5 refl en in
+    let H : Form = λ a from to. Then (One a.code (Switch k)) (λ from to. P a from to × (slice_get a.code.switches k ≡ Some row)) from to in
+    let w6 : Adds l H old new = switch_adds P k row x start es e1 w3 has en in
     record {
-      code = reform H (of_table (parts_of ps) ns)
-          (λ a from to p.
+      code = table_form H (of_table (parts_of ps) ns) w6
+          (λ a p.
           let g = p.2 in
-          let made : MakesParts a.heritage ns (parts_of ps) ks.cases.items (or_end o end) end (Some a.again) a.code p.0 to = g.0 (or_end o end) (fits_end o end) in
-          (k, row, g.1, subst (λ n. OtherIs (first_label is_default (parts_of ps)) (or_end o end) n) g.2 (other_is o (first_label is_default (parts_of ps)) end w.default), (p.0, p.1, subst (λ n. MakesParts a.heritage ns (parts_of ps) ks.cases.items (or_end o end) n (Some a.again) a.code p.0 to) g.2 made)))
-          w6;
+          let made : MakesParts a.heritage ns (parts_of ps) ks.cases.items (or_end o end) end (Some a.again) a.code p.0 (length new.code) = g.0 (or_end o end) (fits_end o end) in
+          (k, row, g.1, subst (λ n. OtherIs (first_label is_default (parts_of ps)) (or_end o end) n) long (other_is o (first_label is_default (parts_of ps)) end w.default), (p.0, p.1, subst (λ n. MakesParts a.heritage ns (parts_of ps) ks.cases.items (or_end o end) n (Some a.again) a.code p.0 (length new.code)) long made)));
       layout = w.layout;
       names = w.names;
     }

@@ -1,9 +1,10 @@
 -- How the code of functions is put together, and how it stands in finished code.
-use Rattle.std.proofs.Common.{◌≡◌, ℕ, zero, suc, ◌<◌, ◌≤◌, List, [], ◌∷◌, ◌++◌, length, map, true, false, refl, sym, ap, ◌∙◌, subst, ⊎_elim, arith}
+use Rattle.std.proofs.Common.{◌≡◌, ℕ, zero, suc, ◌<◌, ◌≤◌, List, [], ◌∷◌, ◌++◌, length, map, Some, true, false, refl, sym, ap, ◌∙◌, subst, ⊎_elim, arith}
 use Rattle.std.proofs.lemmas.List.{length-map}
 use Rattle.std.specs.Prelude.{slice_get}
 use Rattle.std.proofs.lemmas.Bool.{cases_lt}
 use Rattle.lp_instr.specs.declared.instr.Instr.{Instr}
+use Rattle.lp_instr.specs.declared.instr.Instr.TheVariants.{Switch}
 use Rattle.lp_code.specs.declared.program.FunRow.{FunRow}
 use Rattle.lp_code.specs.Programs.{table_of}
 use Rattle.lp_language.specs.Resolve.{Function, Variable, has_initialiser}
@@ -14,14 +15,14 @@ use Rattle.lp_codegen_expr.specs.declared.code.Draft.{Draft}
 use Rattle.lp_codegen_expr.specs.declared.code.Draft.TheVariants.{Done}
 use Rattle.lp_codegen_expr.specs.declared.scope.Scope.{Scope}
 use Rattle.lp_codegen_expr.specs.Names.{Plan, layout_of}
-use Rattle.lp_codegen_expr.specs.Drafts.{Adds, Around, Form, Has, Sketch, draft_of, resolved}
-use Rattle.lp_codegen_expr.proofs.Compose.{adds_then, line_none, reform}
+use Rattle.lp_codegen_expr.specs.Drafts.{Adds, Around, Form, Has, NamesSwitch, Sketch, draft_of, resolved}
+use Rattle.lp_codegen_expr.proofs.Compose.{adds_then, line_none, names_from, names_still, reform}
 use Rattle.lp_codegen_flow.specs.Functions.{AreDone, FunStands, IsDone, of_fun}
 use Rattle.lp_codegen_flow.specs.Initialisers.{InitialisersStand}
 use Rattle.lp_codegen_unit.specs.declared.finish.UnitCode.{UnitCode}
 use Rattle.lp_codegen_unit.specs.Finish.{Finishes}
 use Rattle.lp_codegen_unit.specs.Rows.{Behind, IsInitRow, IsRow, init_if, initialisers, no_more, of_functions}
-use Rattle.lp_codegen_unit.specs.Stands.{FunctionsStand, IsUnitCode, OneStands, RowsBare, at, function_of}
+use Rattle.lp_codegen_unit.specs.Stands.{AreRowsNamed, FunctionsStand, IsUnitCode, OneStands, RowsBare, at, function_of}
 
 -- Functions and what stands behind them.
 
@@ -97,6 +98,7 @@ one_function {was} {is} {old} {new} f r h = record {
     texts = h.code.texts;
     more_switches = h.code.more_switches;
     switches = h.code.switches;
+    named = h.code.named;
     makes = λ a x. (h.row, (length new.code, h.code.makes a x, (refl, refl)));
   };
   done = h.done;
@@ -125,6 +127,7 @@ some_initialisers {s} {old} {new} vs k r e h i = record {
         texts = w.texts;
         more_switches = w.more_switches;
         switches = w.switches;
+        named = w.named;
         makes = λ a x. subst (λ b. init_if b vs k (r ∷ []) a (length old.code) (length new.code)) (sym e) (r, refl, i, w.makes a x);
       };
   done = h.done;
@@ -159,6 +162,25 @@ unit_code {was} {is} {clear} start mid new b fs vs k rs ss u none same bare v w 
     subst (λ n. of_functions fs (initialisers vs k) u.funs.items (at h code) 0 n) long
     (subst (λ n. of_functions fs (initialisers vs k) u.funs.items (at h code) n (length new.code)) none
     (subst (λ x. of_functions fs (initialisers vs k) x (at h code) (length start.code) (length new.code)) (sym f.funs) made))
+
+get_of_done : (is : List Instr) (p : ℕ) (i : Instr) → slice_get (map Done is) p ≡ Some (Done i) → slice_get is p ≡ Some i
+get_of_done [] p i e = absurd cc
+get_of_done (x ∷ is) zero i e = let same : x ≡ i = cc in ap (λ y. Some y) same
+get_of_done (x ∷ is) (suc p) i e = get_of_done is p i e
+
+-- each switch of a whole unit is named
+pub rows_named : {was is clear : Scope} {fs : List Function} {rs ss : List FunRow} (vs : List Variable) (k : ℕ) (start mid new : Sketch) (b : Built) (us : List FunRow) (u : UnitCode) → length start.switches ≡ 0 → clear.locals.items ≡ [] → FunctionsStand fs rs was is start mid → RowsBare clear (initialisers vs k) ss mid new → draft_of b ≡ new → Finishes b us u → AreRowsNamed u
+rows_named {was} {is} {clear} {fs} {rs} {ss} vs k start mid new b us u none bare v w is_b f j l =
+    let more = w.code bare in
+    let rows : map table_of u.switches.items ≡ new.switches = ap (map table_of) f.switches ∙ ap (λ s. s.switches) is_b in
+    let long : length u.switches.items ≡ length new.switches = sym (length-map u.switches.items table_of) ∙ ap length rows in
+    let done : map Done u.instrs.items ≡ new.code = f.instrs ∙ ap (λ s. s.code) is_b in
+    let here : NamesSwitch new.code 0 j =
+    ⊎_elim
+    (λ (q : j < length mid.switches). names_still more.same (omega arith) (v.code.named j (omega (arith, none)) q))
+    (λ (q : length mid.switches ≤ j). names_from (omega arith) (more.named j q (omega (arith, l, long))))
+    (cases_lt j (length mid.switches)) in
+    (here.place, get_of_done u.instrs.items here.place (Switch j) (ap (λ c. slice_get c here.place) done ∙ here.there))
 
 -- no jump is open in a whole unit
 pub all_done : {was is clear : Scope} {fs : List Function} {rs ss : List FunRow} (vs : List Variable) (k : ℕ) (start mid new : Sketch) → length start.code ≡ 0 → clear.locals.items ≡ [] → FunctionsStand fs rs was is start mid → RowsBare clear (initialisers vs k) ss mid new → AreDone new.code 0

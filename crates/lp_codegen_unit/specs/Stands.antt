@@ -1,10 +1,11 @@
 -- What it says that code stands for functions, and for a unit.
-use Rattle.std.specs.Prelude.{◌≡◌, ℕ, List, [], ◌∷◌, map, length, Option, Some, None}
+use Rattle.std.specs.Prelude.{◌≡◌, ◌<◌, ℕ, List, [], ◌∷◌, map, length, Option, Some, None, slice_get}
 use Rattle.lp_tree.specs.declared.keyword.Modifier.{Modifier}
 use Rattle.lp_tree.specs.declared.unit.Param.{Param}
 use Rattle.lp_tree.specs.Statements.{StmtTrees}
 use Rattle.lp_code.specs.declared.program.FunRow.{FunRow}
 use Rattle.lp_code.specs.Programs.{table_of}
+use Rattle.lp_instr.specs.declared.instr.Instr.TheVariants.{Switch}
 use Rattle.lp_instr.specs.Code.{Code}
 use Rattle.lp_language.specs.Resolve.{Function, Heritage, Variable}
 use Rattle.lp_codegen_expr.specs.declared.scope.Scope.{Scope}
@@ -60,6 +61,10 @@ AreClear l (f ∷ fs) = IsClearFun l f.parameters f.body × AreClear l fs
 pub record IsClearUnit (l : Plan) (fs : List Function) (vs : List Variable) : Type 0 where
   pub functions : AreClear l fs
   pub variables : AreClearVariables l [] vs
+
+-- an instruction names each row of its list of switches
+abbrev pub AreRowsNamed : UnitCode → Type 0
+AreRowsNamed u = (k : ℕ) → k < length u.switches.items → (at : ℕ) × (slice_get u.instrs.items at ≡ Some (Switch k))
 
 -- What is made of a unit: in every finished code that has it, and whose names are laid out so, its functions are translated
 -- one behind another from the first instruction to the last, and then its initialisers, where there are some.

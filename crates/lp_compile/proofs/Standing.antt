@@ -7,17 +7,16 @@ use Rattle.lp_code.specs.Programs.{code_of}
 use Rattle.lp_language.specs.Resolve.{Heritages, NoParent, OneParent, parents_of, variables_before, version_of}
 use Rattle.lp_isa.specs.Programs.{AreFuns, StandsForVersion, own_functions}
 use Rattle.lp_inherit.specs.Heirs.{table, tables}
-use Rattle.lp_inherit.proofs.Meanings.{count_variables}
 use Rattle.lp_codegen_expr.specs.Names.{Lays}
 use Rattle.lp_codegen_layout.specs.Laid.{plan_of, row_names}
+use Rattle.lp_part_laws.specs.Versions.{row_of}
 use Rattle.lp_plan_laws.specs.Tables.{table_row}
 use Rattle.lp_plan_laws.proofs.Laying.{layouts_lay}
 use Rattle.lp_plan_laws.proofs.Standing.{tables_stand}
-use Rattle.lp_compile.specs.Translated.{Stands, Translates, row_of, rows_of, variables_in}
-
-counted : (hs : Heritages) → variables_before hs ≡ variables_in (tables hs)
-counted NoParent = refl
-counted (OneParent h hs) = ap (λ n. n + variables_before hs) (sym (count_variables h)) ∙ ap (λ n. length (table h).vars + n) (counted hs)
+use Rattle.lp_compile.specs.Translated.{Stands, Translates}
+use Rattle.lp_unit_laws.specs.Units.{rows_of}
+use Rattle.lp_unit_laws.specs.Versions.{variables_in}
+use Rattle.lp_unit_laws.proofs.Sounding.{counted}
 
 pub stands : (items : List ItemTree) (ts : List Tables) (names : List (List ℕ)) (p : RawProgram) → Translates items ts names p → Stands items ts names p
 stands items ts names p made h v =

@@ -18,7 +18,10 @@ use Rattle.lp_codegen_expr.specs.Names.{Lays}
 use Rattle.lp_codegen_layout.specs.Laid.{plan_of}
 use Rattle.lp_codegen_unit.specs.Rows.{IsRow, init_if, initialisers, of_functions}
 use Rattle.lp_codegen_unit.specs.Stands.{at}
-use Rattle.lp_compile.specs.Translated.{IsGenerated, Translates, row_of, rows_of, variables_in}
+use Rattle.lp_compile.specs.Translated.{IsGenerated, Translates}
+use Rattle.lp_part_laws.specs.Versions.{row_of}
+use Rattle.lp_unit_laws.specs.Units.{rows_of}
+use Rattle.lp_unit_laws.specs.Versions.{variables_in}
 
 -- no fewer slots are in use behind than before
 mutual

@@ -3,8 +3,9 @@ use Rattle.std.specs.Prelude.{◌≡◌, ℕ, ⊤, List, [], ◌∷◌, ◌++◌
 use Rattle.lp_code.specs.declared.tables.Tables.{Tables}
 use Rattle.lp_layout.specs.Layout.{AreInside}
 use Rattle.lp_front.specs.declared.parents.Parent.{Parent}
+use Rattle.lp_unit_laws.specs.Versions.{AreOfVersions}
 use Rattle.lp_compile.specs.declared.fault.CompileFault.{CompileFault}
-use Rattle.lp_compile.specs.declared.fault.CompileFault.TheVariants.{Need, Faults, NoMemory}
+use Rattle.lp_compile.specs.declared.fault.CompileFault.TheVariants.{Need, Faults, TooLarge, NoMemory}
 
 -- the tables of the version of a file, where it is loaded
 abbrev pub Known : Type 0
@@ -30,17 +31,20 @@ IsFirstMissing k (p ∷ ps) file = IsMissing (k p.file) p.file file (IsFirstMiss
 abbrev pub IsNotGiven : Known → List ℕ → CompileFault → Type 0
 IsNotGiven k file (Need name) = (k file ≡ None) × (string_bytes name ≡ file)
 IsNotGiven k file (Faults fs) = ⊥
+IsNotGiven k file TooLarge = ⊥
 IsNotGiven k file NoMemory = ⊤
 
 -- why the tables of some parents are not
 abbrev pub AreNotGiven : Known → List Parent → CompileFault → Type 0
 AreNotGiven k ps (Need name) = IsFirstMissing k ps (string_bytes name)
 AreNotGiven k ps (Faults fs) = ⊥
+AreNotGiven k ps TooLarge = ⊥
 AreNotGiven k ps NoMemory = ⊤
 
 -- the first parents have these tables; so what is said of those that are left is said of all
 pub record IsOnTheWay (k : Known) (left all : List Parent) (n : ℕ) (ts : List Tables) : Type 0 where
   pub inside : AreInside ts
+  pub versions : AreOfVersions ts
   pub count : length ts ≡ n
   pub given : (us : List Tables) → AreGiven k left us → AreGiven k all (ts ++ us)
   pub missing : (file : List ℕ) → IsFirstMissing k left file → IsFirstMissing k all file

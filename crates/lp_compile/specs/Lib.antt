@@ -1,6 +1,6 @@
 pub mod Compiles
 pub mod Faultless
-pub mod Heights
 pub mod Known
 pub mod Outcomes
+pub mod Settled
 pub mod Translated

@@ -11,15 +11,17 @@ use Rattle.lp_front.specs.declared.read.Declared.{Declared}
 use Rattle.lp_front.specs.Names.{parents_in}
 use Rattle.lp_front.specs.Reading.{items_of}
 use Rattle.lp_front.specs.Settling.{faults_of, tables_of}
+use Rattle.lp_unit_laws.specs.Versions.{IsOfVersion}
 use Rattle.lp_compile.specs.Known.{AreGiven, IsFirstMissing, Known}
 use Rattle.lp_compile.specs.Translated.{IsGenerated, Translates}
 use Rattle.lp_compile.specs.declared.fault.CompileFault.{CompileFault}
-use Rattle.lp_compile.specs.declared.fault.CompileFault.TheVariants.{Need, Faults, NoMemory}
+use Rattle.lp_compile.specs.declared.fault.CompileFault.TheVariants.{Need, Faults, TooLarge, NoMemory}
 
 -- one fault alone is told, unless memory ran out
 abbrev pub IsAlone : Fault → CompileFault → Type 0
 IsAlone f (Need file) = ⊥
 IsAlone f (Faults fs) = fs.items ≡ f ∷ []
+IsAlone f TooLarge = ⊥
 IsAlone f NoMemory = ⊤
 
 -- the program that was made of a unit with these tables, which is sound
@@ -32,13 +34,15 @@ pub record IsMadeOver (path : List ℕ) (d : Declared) (own : ProgId) (ts : List
   pub faultless : faults_of path (items_of d) d.pragmas ts simuls ≡ []
   pub tables : p.tables ≡ tables_of path (items_of d) d.pragmas ts own
   pub inside : AreInside (p.tables ∷ [])
+  pub of : IsOfVersion p.tables
   pub translates : Translates (items_of d) ts simuls p
   pub sound : IsProgram p
 
--- or faults
+-- or faults, or no room for its program
 abbrev pub IsRefusedOver : List ℕ → Declared → List Tables → List (List ℕ) → CompileFault → Type 0
 IsRefusedOver path d ts simuls (Need file) = ⊥
 IsRefusedOver path d ts simuls (Faults fs) = (fs.items ≡ faults_of path (items_of d) d.pragmas ts simuls) × (fs.items ≡ [] → ⊥)
+IsRefusedOver path d ts simuls TooLarge = faults_of path (items_of d) d.pragmas ts simuls ≡ []
 IsRefusedOver path d ts simuls NoMemory = ⊤
 
 -- a unit whose parents are loaded has a program
@@ -54,8 +58,15 @@ pub record AreFaultsOf (path : List ℕ) (d : Declared) (known : Known) (simuls 
   pub faults : fs ≡ faults_of path (items_of d) d.pragmas parents simuls
   pub some : fs ≡ [] → ⊥
 
+-- a unit without faults whose parents are loaded
+pub record IsWithoutFaultOf (path : List ℕ) (d : Declared) (known : Known) (simuls : List (List ℕ)) : Type 0 where
+  pub parents : List Tables
+  pub given : AreGiven known (parents_in (items_of d)) parents
+  pub faultless : faults_of path (items_of d) d.pragmas parents simuls ≡ []
+
 -- why it has none
 abbrev pub IsRefusedOf : List ℕ → Declared → Known → List (List ℕ) → CompileFault → Type 0
 IsRefusedOf path d known simuls (Need file) = IsFirstMissing known (parents_in (items_of d)) (string_bytes file)
 IsRefusedOf path d known simuls (Faults fs) = AreFaultsOf path d known simuls fs.items
+IsRefusedOf path d known simuls TooLarge = IsWithoutFaultOf path d known simuls
 IsRefusedOf path d known simuls NoMemory = ⊤

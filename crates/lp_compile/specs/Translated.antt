@@ -1,39 +1,29 @@
 -- What it says that a program is the translation of a unit.
-use Rattle.std.specs.Prelude.{◌≡◌, ℕ, ◌+◌, ◌-◌, List, [], ◌∷◌, map, length}
+use Rattle.std.specs.Prelude.{◌≡◌, ℕ, List, map, length}
 use Rattle.lp_tree.specs.Units.{ItemTree}
-use Rattle.lp_code.specs.declared.program.FunRow.{FunRow as CodeRow}
 use Rattle.lp_code.specs.declared.program.RawProgram.{RawProgram}
 use Rattle.lp_code.specs.declared.tables.Tables.{Tables}
 use Rattle.lp_code.specs.Programs.{code_of}
 use Rattle.lp_language.specs.Resolve.{Heritage, own_variables, parents_of, variables_before, version_of}
-use Rattle.lp_isa.specs.Programs.{AreFuns, FunRow, Program, StandsForVersion, own_functions}
-use Rattle.lp_inherit.specs.Heirs.{IsNumbered, IsUnambiguous, table, tables}
-use Rattle.lp_plan_laws.specs.Tables.{IsNamedOnce, table_row}
+use Rattle.lp_isa.specs.Programs.{AreFuns, StandsForVersion, own_functions}
+use Rattle.lp_part_laws.specs.Versions.{program_of, row_of}
 use Rattle.lp_codegen_expr.specs.Names.{Lays}
-use Rattle.lp_codegen_layout.specs.Laid.{plan_of, row_names}
+use Rattle.lp_codegen_layout.specs.Laid.{plan_of}
 use Rattle.lp_codegen_unit.specs.Rows.{initialisers, of_functions}
 use Rattle.lp_codegen_unit.specs.Stands.{at}
-use Rattle.lp_compile.specs.Heights.{gains}
-
--- how many variables parents have together: the place of the first variable of a child's own
-abbrev pub variables_in : List Tables → ℕ
-variables_in [] = 0
-variables_in (t ∷ ts) = length t.vars + variables_in ts
-
--- a row of functions, as the meaning of programs has it: the locals are those beside the parameters
-abbrev pub row_of : CodeRow → FunRow
-row_of r = record { name = r.name; from = r.from; params = r.params; locals = r.locals - r.params }
-
--- the names of the rows in the tables of parents
-abbrev pub rows_of : List Tables → List (List (List ℕ))
-rows_of ts = map (λ t. row_names t.slots) ts
+use Rattle.lp_sound_laws.specs.Heights.{gains}
+use Rattle.lp_sound_laws.specs.Parts.{AreSwitchesNamed}
+use Rattle.lp_unit_laws.specs.Units.{rows_of}
+use Rattle.lp_unit_laws.specs.Versions.{IsVersion, variables_in}
 
 -- What is made of a unit before it is verified: it has these tables; and wherever the names of its tables are laid out as a
 -- version's names are, its functions are translated one behind another from the first instruction to the last, and then its
--- initialisers. Its stack may become as high as all its instructions together make it.
+-- initialisers. Its stack may become as high as all its instructions together make it, and an instruction names each row of its
+-- list of switches.
 pub record IsGenerated (items : List ItemTree) (t : Tables) (ts : List Tables) (simuls : List (List ℕ)) (p : RawProgram) : Type 0 where
   pub tables : p.tables ≡ t
   pub height : p.max_height ≡ gains p.instrs
+  pub named : AreSwitchesNamed p
   pub code : (h : Heritage) → Lays (plan_of t ts simuls) h (code_of p (rows_of ts))
       → of_functions (own_functions items) (initialisers (own_variables items) (variables_in ts)) p.funs (at h (code_of p (rows_of ts))) 0 (length p.instrs)
 
@@ -47,22 +37,6 @@ pub record IsOfUnit (is : List ItemTree) (ts : List Tables) (h : Heritage) : Typ
 abbrev pub Translates : List ItemTree → List Tables → List (List ℕ) → RawProgram → Type 0
 Translates items ts simuls p =
     (h : Heritage) → IsOfUnit items ts h → Lays (plan_of p.tables ts simuls) h (code_of p (rows_of ts)) → AreFuns h (code_of p (rows_of ts)) (own_functions items) (map row_of p.funs)
-
--- An inheritance tree is that of a version of a unit: with these tables, over parents with these tables, compiled with these
--- names of simul efuns. In none of its files are there more functions than rows can number, or two functions of one name, or
--- a name of a variable that is used twice; each of these would be a fault of the file.
-pub record IsVersion (is : List ItemTree) (t : Tables) (ts : List Tables) (names : List (List ℕ)) (h : Heritage) : Type 0 where
-  pub items : (version_of h).items ≡ is
-  pub simuls : (version_of h).simuls ≡ names
-  pub own : table h ≡ t
-  pub parents : tables (parents_of h) ≡ ts
-  pub numbered : IsNumbered h
-  pub unambiguous : IsUnambiguous h
-  pub once : IsNamedOnce h
-
--- a program, as the meaning has it, with the names in the tables of its parents
-abbrev pub program_of : RawProgram → List Tables → Program
-program_of p ts = record { code = code_of p (rows_of ts); funs = map row_of p.funs; table = map table_row p.tables.slots }
 
 -- a program stands for each version of a unit that has its tables
 abbrev pub Stands : List ItemTree → List Tables → List (List ℕ) → RawProgram → Type 0

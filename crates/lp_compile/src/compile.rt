@@ -4,12 +4,15 @@ ghost use Rattle.lp_tree.specs.UnitView.{item_of};
 ghost use Rattle.lp_code.specs.Programs.{IsProgram};
 ghost use Rattle.lp_layout.specs.Layout.{AreInside, IsSpelled, inherits};
 ghost use Rattle.lp_front.specs.Reading.{items_of};
-ghost use Rattle.lp_compile.specs.Compiles.{Compiles, IsRefused};
+ghost use Rattle.lp_compile.specs.Compiles.{Compiles, IsRefused, IsWant};
+ghost use Rattle.lp_unit_laws.specs.Versions.{AreOfVersions};
 ghost use Rattle.lp_compile.specs.Outcomes.{IsAlone, IsMade, IsMadeOf, IsMadeOver, IsRefusedOf, IsRefusedOver};
+ghost use Rattle.lp_compile.specs.Settled.{IsOfTokens, IsSettledUnit};
 
 use crate::family::tables_of_parents;
 use crate::fault::CompileFault;
 use crate::generate::generate;
+use crate::laws::law_code;
 use crate::loaded::Loaded;
 use lp_code::names::Names2;
 use lp_code::program::{Program, RawProgram};
@@ -21,6 +24,7 @@ use lp_front::read::{Declared, ReadFault, read_file};
 use lp_front::settle::{SettleFault, settle};
 use lp_tree::fault::Fault;
 use lp_tree::unit::Item;
+use lp_unit_laws::law_programs;
 use lp_values::id::ProgId;
 use lp_verify::fault::VerifyFault;
 use lp_verify::verify::verify;
@@ -37,8 +41,9 @@ fn one_fault(alloc: Global, fault: Fault) -> CompileFault
     }
 }
 
-// A program that is sound. Of what was generated none is refused, but for want of memory.
+// The program of parts that are sound, so that it is refused for want of memory alone.
 fn verified(alloc: Global, raw: RawProgram) -> Result<Program, CompileFault>
+    requires sound { IsProgram raw }
     ensures program { IfOk result (λ p. p ≡ raw) }
     ensures sound { IfOk result (λ p. IsProgram p) }
     ensures fault { IfErr result (λ f. f ≡ CompileFault.NoMemory) }
@@ -46,11 +51,11 @@ fn verified(alloc: Global, raw: RawProgram) -> Result<Program, CompileFault>
     match verify(alloc, raw) {
         Ok(program) => Ok(program),
         Err(VerifyFault::NoMemory) => Err(CompileFault::NoMemory),
-        Err(VerifyFault::Unsound { .. }) => Err(CompileFault::NoMemory),
+        Err(VerifyFault::Unsound { .. }) => unreachable!(),
     }
 }
 
-// The program of a unit that has these tables.
+// The program of a unit that has these tables. It is refused for want of memory or room alone.
 fn make(
     alloc: Global,
     items: &Vec<Item>,
@@ -58,17 +63,20 @@ fn make(
     parents: &[Tables],
     simuls: &Names2,
 ) -> Result<Program, CompileFault>
+    requires settled { IsSettledUnit (map item_of items.now.items) tables parents.now simuls.now }
     ensures program { IfOk result (IsMade (map item_of items.now.items) tables parents.now simuls.now) }
-    ensures fault { IfErr result (λ f. f ≡ CompileFault.NoMemory) }
+    ensures fault { IfErr result IsWant }
 {
+    law_code();
+    law_programs();
     match generate(alloc, items, tables, parents, simuls.as_slice()) {
         Ok(raw) => {
             let program = verified(alloc, raw)?;
             Ok(program)
         }
         Err(GenFault::NoMemory) => Err(CompileFault::NoMemory),
-        Err(GenFault::TooLarge) => Err(CompileFault::NoMemory),
-        Err(GenFault::Unclear) => Err(CompileFault::NoMemory),
+        Err(GenFault::TooLarge) => Err(CompileFault::TooLarge),
+        Err(GenFault::Unclear) => unreachable!(),
     }
 }
 
@@ -84,6 +92,8 @@ fn compile_over(
     requires inside { AreInside parents.now }
     requires each { length parents.now ≡ inherits (items_of declared.now) }
     requires spelled { IsSpelled (items_of declared.now) }
+    requires tokens { IsOfTokens (items_of declared.now) }
+    requires of { AreOfVersions parents.now }
     ensures program { IfOk result (IsMadeOver path.now declared.now own parents.now simuls.now) }
     ensures fault { IfErr result (IsRefusedOver path.now declared.now parents.now simuls.now) }
 {
@@ -106,6 +116,7 @@ fn compile_declared<L: Loaded>(
     loaded: &L,
 ) -> Result<Program, CompileFault>
     requires spelled { IsSpelled (items_of declared.now) }
+    requires tokens { IsOfTokens (items_of declared.now) }
     ensures program { IfOk result (IsMadeOf path.now declared.now own (L.known loaded.now) (L.simuls loaded.now)) }
     ensures fault { IfErr result (IsRefusedOf path.now declared.now (L.known loaded.now) (L.simuls loaded.now)) }
 {
@@ -122,7 +133,9 @@ fn compile_declared<L: Loaded>(
 /// # Errors
 ///
 /// `Faults` with its one first fault where it declares no unit. Else `Need` with the first of its parents that is not loaded.
-/// Else `Faults` with all faults of its types, or else the first of its layout. `NoMemory` may come at any time.
+/// Else `Faults` with all faults of its types, or else the first of its layout. Else it has a program: the generators find all
+/// of it clear, and the verifier refuses nothing that they make. But then `TooLarge` may come, where an instruction or a row
+/// has no room for a number; and `NoMemory` at any time, for want of memory.
 pub fn compile<L: Loaded>(
     alloc: Global,
     files: &Store,

@@ -1,6 +1,7 @@
 //! The tables of the files that a file inherits.
 ghost use Rattle.std.specs.Prelude.{◌≡◌, ◌∷◌, [], IfErr, IfOk, Some, length};
 ghost use Rattle.lp_layout.specs.Layout.{AreInside};
+ghost use Rattle.lp_unit_laws.specs.Versions.{AreOfVersions, IsOfVersion};
 ghost use Rattle.lp_compile.specs.Known.{AreGiven, AreNotGiven, IsNotGiven};
 
 use crate::fault::CompileFault;
@@ -14,6 +15,7 @@ use std::alloc::Global;
 fn tables_of<L: Loaded>(alloc: Global, file: &str, loaded: &L) -> Result<Tables, CompileFault>
     ensures known { IfOk result (λ t. L.known loaded.now file.now ≡ Some t) }
     ensures inside { IfOk result (λ t. AreInside (t ∷ [])) }
+    ensures of { IfOk result (λ t. IsOfVersion t) }
     ensures fault { IfErr result (IsNotGiven (L.known loaded.now) file.now) }
 {
     match loaded.parent(file) {
@@ -30,6 +32,7 @@ pub(crate) fn tables_of_parents<L: Loaded>(
 ) -> Result<Vec<Tables>, CompileFault>
     ensures known { IfOk result (λ v. AreGiven (L.known loaded.now) parents.now v.items) }
     ensures inside { IfOk result (λ v. AreInside v.items) }
+    ensures of { IfOk result (λ v. AreOfVersions v.items) }
     ensures count { IfOk result (λ v. length v.items ≡ length parents.now) }
     ensures fault { IfErr result (AreNotGiven (L.known loaded.now) parents.now) }
 {

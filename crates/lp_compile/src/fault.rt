@@ -14,6 +14,9 @@ pub enum CompileFault {
     /// Its faults: the first of its expansion or of its unit; or else all of its types; or else the first of its layout.
     #[error("faults in the file")]
     Faults(Vec<Fault>),
+    /// A number has no room in an instruction or a row of its program: a place, a text, a count, or the height of the stack.
+    #[error("too large")]
+    TooLarge,
     /// There is no memory.
     #[error("out of memory")]
     NoMemory,

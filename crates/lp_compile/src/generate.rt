@@ -7,7 +7,8 @@ ghost use Rattle.lp_codegen_expr.specs.Clear.{Spares};
 ghost use Rattle.lp_codegen_expr.specs.declared.code.GenFault.TheVariants.{Unclear};
 ghost use Rattle.lp_codegen_layout.specs.Laid.{plan_of};
 ghost use Rattle.lp_codegen_unit.specs.Stands.{IsClearUnit};
-ghost use Rattle.lp_compile.specs.Translated.{IsGenerated, variables_in};
+ghost use Rattle.lp_unit_laws.specs.Versions.{variables_in};
+ghost use Rattle.lp_compile.specs.Translated.{IsGenerated};
 
 use crate::heights::greatest_height;
 use lp_code::listed::Listed;

@@ -1,7 +1,7 @@
 //! How high the stack may become.
 ghost use Rattle.std.specs.Prelude.{◌≡◌, ◌≢◌, MatchResult};
 ghost use Rattle.lp_codegen_expr.specs.declared.code.GenFault.TheVariants.{Unclear};
-ghost use Rattle.lp_compile.specs.Heights.{gain as gained, gains};
+ghost use Rattle.lp_sound_laws.specs.Heights.{gain as gained, gains};
 
 use lp_codegen_expr::code::GenFault;
 use lp_instr::instr::Instr;

@@ -3,6 +3,7 @@ ghost use Rattle.std.specs.Prelude.{◌≡◌, ◌∷◌, [], IfSome, Some};
 ghost use Rattle.std.specs.Option.{option_map};
 ghost use Rattle.lp_layout.specs.Layout.{AreInside};
 ghost use Rattle.lp_front.specs.Settling.{own_version};
+ghost use Rattle.lp_unit_laws.specs.Versions.{IsOfVersion};
 
 use lp_code::names::Names2;
 use lp_code::tables::Tables;
@@ -18,12 +19,13 @@ pub trait Loaded {
 
     ghost simuls: { Self → List (List ℕ) };
 
-    /// The version of a file with its tables, or None where it is not loaded. The version is the last part of its tables.
-    /// Takes no memory.
+    /// The version of a file with its tables, or None where it is not loaded. The version is the last part of its tables, which
+    /// are those of a version of files without faults, as `compile` gives them. Takes no memory.
     fn parent(&self, path: &str) -> Option<(ProgId, &Tables)>
         ensures known { option_map (λ p. p.1.now) result ≡ known self.now path.now }
         ensures version { IfSome result (λ p. own_version p.1.now ≡ Some p.0) }
-        ensures inside { IfSome result (λ p. AreInside (p.1.now ∷ [])) };
+        ensures inside { IfSome result (λ p. AreInside (p.1.now ∷ [])) }
+        ensures of { IfSome result (λ p. IsOfVersion p.1.now) };
 
     /// The names of the functions of the simul-efun object. Takes no memory.
     fn simul(&self) -> &Names2

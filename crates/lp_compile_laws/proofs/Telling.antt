@@ -23,7 +23,7 @@ use Rattle.lp_compile.specs.Compiles as compiling
 use Rattle.lp_compile.specs.Compiles.{Compiles, IsRefused, Needs, IsUnread}
 use Rattle.lp_compile.specs.declared.fault.CompileFault.{CompileFault}
 use Rattle.lp_compile.specs.declared.fault.CompileFault.TheVariants as faults
-use Rattle.lp_compile_laws.specs.Told.{CompiledIsSound, IsChecked, IsFaultyFile, IsFaultyUnit, IsMissing, IsToldAs, RefusedIsTold, StandsOn}
+use Rattle.lp_compile_laws.specs.Told.{CompiledIsSound, IsChecked, IsUnitWithoutFault, IsFaultyFile, IsFaultyUnit, IsMissing, IsToldAs, RefusedIsTold, StandsOn}
 
 -- Tables that are given are all known.
 given_known : (k : Known) (ps : List Inherited) (ts : List Tables) → AreGiven k ps ts → map (λ (p : Inherited). k p.file) ps ≡ map Some ts
@@ -33,21 +33,21 @@ given_known k (p ∷ ps) [] h = absurd h
 given_known k (p ∷ ps) (t ∷ ts) h = ap (λ (o : Option Tables). o ∷ map (λ (q : Inherited). k q.file) ps) h.0 ∙ ap (λ (xs : List (Option Tables)). Some t ∷ xs) (given_known k ps ts h.1)
 
 -- and none of them is the first that is not known
-given_none : (k : Known) (ps : List Inherited) (ts : List Tables) → AreGiven k ps ts → first_not_known k ps ≡ None
+pub given_none : (k : Known) (ps : List Inherited) (ts : List Tables) → AreGiven k ps ts → first_not_known k ps ≡ None
 given_none k [] [] h = refl
 given_none k [] (t ∷ ts) h = absurd h
 given_none k (p ∷ ps) [] h = absurd h
 given_none k (p ∷ ps) (t ∷ ts) h = ap (λ (o : Option Tables). cond (not (is_some o)) (Some p) (first_not_known k ps)) h.0 ∙ given_none k ps ts h.1
 
 -- The file that is needed is that of the first that is not known.
-abbrev IsFirst : Known → List Inherited → List ℕ → Type 0
+abbrev pub IsFirst : Known → List Inherited → List ℕ → Type 0
 IsFirst k ps file = (p : Inherited) × (first_not_known k ps ≡ Some p) × (file ≡ p.file)
 
 first_by : (k : Known) (p : Inherited) (ps : List Inherited) (file : List ℕ) (o : Option Tables) → k p.file ≡ o → IsMissingThere o p.file file (IsFirstMissing k ps file) → (IsFirstMissing k ps file → IsFirst k ps file) → IsFirst k (p ∷ ps) file
 first_by k p ps file None e h ih = (p, ap (λ (o : Option Tables). cond (not (is_some o)) (Some p) (first_not_known k ps)) e, h)
 first_by k p ps file (Some t) e h ih = let q = ih h in (q.0, ap (λ (o : Option Tables). cond (not (is_some o)) (Some p) (first_not_known k ps)) e ∙ q.1, q.2)
 
-first_needed : (k : Known) (ps : List Inherited) (file : List ℕ) → IsFirstMissing k ps file → IsFirst k ps file
+pub first_needed : (k : Known) (ps : List Inherited) (file : List ℕ) → IsFirstMissing k ps file → IsFirst k ps file
 first_needed k [] file h = absurd h
 first_needed k (p ∷ ps) file h = first_by k p ps file (k p.file) refl h (λ r. first_needed k ps file r)
 
@@ -97,6 +97,9 @@ module _ (reads : StoresAreRead) (missing : MissingAreTheSame) (tables : TablesA
   faulty_unit : (simuls : List (List ℕ)) (fs : List Fault) → compiling.IsFaulty store (encode_utf8_all path) known simuls fs → IsFaultyUnit front w made path simuls fs
   faulty_unit simuls fs f = record { items = f.items; pragmas = f.pragmas; checked = checked f.items f.pragmas f.declares f.parents simuls fs f.given (sym f.faults); some = f.some }
 
+  unit_without_fault : (simuls : List (List ℕ)) → compiling.IsWithoutFault store (encode_utf8_all path) known simuls → IsUnitWithoutFault front w made path simuls
+  unit_without_fault simuls f = record { items = f.items; pragmas = f.pragmas; checked = checked f.items f.pragmas f.declares f.parents simuls [] f.given f.faultless }
+
   faulty : (simuls : List (List ℕ)) (fs : List Fault) → IsUnread store (encode_utf8_all path) fs ⊎ compiling.IsFaulty store (encode_utf8_all path) known simuls fs → IsFaultyFile front w path fs ⊎ IsFaultyUnit front w made path simuls fs
   faulty simuls fs (inl u) = inl (faulty_file fs u)
   faulty simuls fs (inr f) = inr (faulty_unit simuls fs f)
@@ -104,6 +107,7 @@ module _ (reads : StoresAreRead) (missing : MissingAreTheSame) (tables : TablesA
   refused : (simuls : List (List ℕ)) (f : CompileFault) → IsRefused store (encode_utf8_all path) known simuls f → IsToldAs front w made path simuls f
   refused simuls (faults.Need file) n = needed n.items n.pragmas n.declares (string_bytes file) n.missing
   refused simuls (faults.Faults fs) h = faulty simuls fs.items h
+  refused simuls faults.TooLarge h = unit_without_fault simuls h
   refused simuls faults.NoMemory h = tt
 
 pub compiled_is_sound : StoresAreRead → MissingAreTheSame → TablesAreTheSame → CompiledIsSound

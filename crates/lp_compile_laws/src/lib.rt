@@ -3,7 +3,7 @@
 //! No code runs here. The functions are laws: each has a clause and nothing to do.
 #![tactic(auto)]
 
-ghost use Rattle.lp_compile_laws.specs.Told.{CompiledIsSound, RefusedIsTold};
+ghost use Rattle.lp_compile_laws.specs.Told.{AnswersAreApart, CompiledIsSound, RefusedIsTold};
 
 use lp_front_end::{law_missing_are_the_same, law_stores_are_read, law_tables_are_the_same};
 
@@ -24,4 +24,12 @@ pub fn law_refused_is_told()
     law_stores_are_read();
     law_missing_are_the_same();
     law_tables_are_the_same();
+}
+
+/// Law: a file of which a program is compiled has neither a parent that is not loaded nor faults, whatever else compiling it
+/// over the same may answer: so a program comes exactly where neither of them does, but for want of room or memory.
+pub fn law_answers_are_apart()
+    ensures { AnswersAreApart }
+{
+    law_stores_are_read();
 }

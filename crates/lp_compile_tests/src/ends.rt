@@ -61,6 +61,7 @@ fn end_without(fault: &CompileFault) -> End {
             }
         }
         CompileFault::Faults(faults) => End::Faulty(faults.len()),
+        CompileFault::TooLarge => End::Lost,
         CompileFault::NoMemory => End::Lost,
     }
 }

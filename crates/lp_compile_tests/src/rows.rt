@@ -3,7 +3,7 @@ use crate::ends::{End, are_made, end_so};
 use std::test::Fail;
 
 /// Operators, texts, arrays, mappings and forms; and how many functions each file has, where a value of a variable is one.
-const BODIES: [(&str, usize); 13] = [
+const BODIES: [(&str, usize); 25] = [
     (
         "void t() { int *a, *b; a = ({1, 2}); b = a; b[0] = 9; write(a[0] + \"\\n\"); }",
         1,
@@ -50,6 +50,48 @@ const BODIES: [(&str, usize); 13] = [
     ),
     ("", 0),
     ("int x;", 0),
+    ("void t() { write(-7 / 2); write(-7 % 2); }", 1),
+    (
+        "void t() { write(catch((-9223372036854775807 - 1) / -1)); write(catch(9223372036854775807 + 1)); }",
+        1,
+    ),
+    (
+        "void t() { write(1 << 63); write(1 << 64); write(-1 >> 70); }",
+        1,
+    ),
+    (
+        "void t() { write(sizeof(({1, 2, 1}) - ({1})) + (({1, 2, 1}) - ({1}))[0]); }",
+        1,
+    ),
+    (
+        "void t() { mixed *a; a = ({0}); a[0] = a; write(a == a[0]); }",
+        1,
+    ),
+    (
+        "void t() { mapping m; m = ([1: 2]) + ([1: 3, 0: 4]); write(m_indices(m)[0] + \",\" + m_values(m)[1] + sizeof(m)); }",
+        1,
+    ),
+    ("void t() { write(catch(({1})[1])); write(random(10)); }", 1),
+    (
+        "object connect() { return this_object(); } int logon() { write(\"Hello\\n\"); return 1; }",
+        2,
+    ),
+    (
+        "int go(string s) { write(\"/k\"->v() + \"/p\"->v() + \"\\n\"); return 1; } int logon() { load_object(\"/k\"); add_action(\"go\", \"go\"); return go(0); }",
+        2,
+    ),
+    (
+        "object x; int logon() { x = clone_object(\"/c\"); return 1; } void disconnect(object o, string s) { write(x->v() + clone_object(\"/c\")->v()); }",
+        2,
+    ),
+    (
+        "int n; private static int f(int k) { return k ? n += k : n--; } nomask public int g() { return efun::sizeof(({ f(1), f(0) })) ^ ~n; }",
+        2,
+    ),
+    (
+        "string *a = ({ \"x\", \"y\" \"z\" }); mapping m = ([ \"k\": a ]); int f() { return m[\"k\"][<1][0] == 'y' && (string) a[0] != \"x\" || !a; }",
+        2,
+    ),
 ];
 
 /// Control flow.
@@ -85,9 +127,10 @@ const STATEMENTS: [(&str, usize); 7] = [
 ];
 
 /// What a file ends with that needs a parent, or has faults; and the nearest files that have none.
-const REFUSALS: [(&str, End); 11] = [
+const REFUSALS: [(&str, End); 12] = [
     ("inherit \"/p\"; int f() { return 1; }", End::Needs),
     ("inherit \"/p\"; inherit \"/q\";", End::Needs),
+    ("inherit \"/p\";\n", End::Needs),
     // The parent goes before faults of types, and faults of the text before the parent.
     ("inherit \"/p\"; int f() { return x; }", End::Needs),
     ("inherit \"/p\"; int f() { return ; ", End::Faulty(1)),

@@ -1,4 +1,5 @@
 -- A whole call, from its parts.
+use Rattle.std.specs.Prelude.{⊤}
 use Rattle.std.proofs.Common.{◌≡◌, ◌∙◌, ◌-◌, ℕ, Bool, true, false, List, Option, Some, None, refl, ap, sym, subst, length, All, nat_lt, [], unwrap_or, map, if◌then◌else◌}
 use Rattle.lp_values.specs.declared.id.ObjId.{ObjId}
 use Rattle.lp_values.specs.declared.value.Value.{Value}
@@ -32,7 +33,7 @@ use Rattle.lp_efuns.specs.declared.answer.Did.{Did}
 use Rattle.lp_efuns.specs.declared.answer.Did.TheVariants as did
 use Rattle.lp_efuns.specs.declared.caller.Caller.{Caller}
 use Rattle.lp_efuns.specs.declared.caller.Turn.{Turn}
-use Rattle.lp_efuns.specs.Deeds.{Does, Done, Gave, IsDone, Refused, Threw, deed_done, effect_done, group_done}
+use Rattle.lp_efuns.specs.Deeds.{Does, Done, Gave, IsDone, Refused, Threw, deed_done, effect_done, efun_done, group_done}
 use Rattle.lp_efuns.specs.Plain.{CallsEfun, Finishes, IsDidThere, IsEnd, PaysFor, is_computing, is_deed, is_plain, is_plain_in, price_of_value}
 use Rattle.lp_efuns.specs.Turns.{At, Setting}
 use Rattle.lp_efuns.proofs.Parted.{price_same}
@@ -65,12 +66,25 @@ deed_priced : (e : Efun) (d : Deed) (s : State) → deed_end e d s ≡ priced e 
 deed_priced e (Yields x t) s = effect_priced e x s t
 deed_priced e (Throws v) s = refl
 
--- the course of an efun that calls no LPC, once its arguments fit
-acts_so : (k : Group) (e : Efun) (by : Asker) (c : Scene) (vs : List Value) (s : State) → is_plain_in k e ≡ true → acting k e by c vs (opened_args s vs) s ≡ Over (priced e (group_done k e c s vs))
-acts_so Computes e by c vs s p = ap Over (effect_priced e (computes e s vs (opened_args s vs)) s s)
-acts_so OfWorld e by c vs s p = ap Over (deed_priced e (deed e c s vs (opened_args s vs)) s)
-acts_so Calls e by c vs s p = absurd (differ p)
-acts_so OfFiles e by c vs s p = absurd (differ p)
+-- efuns of this group call no LPC and use no files
+abbrev pub AsksNothing : Group → Type 0
+AsksNothing Computes = ⊤
+AsksNothing OfWorld = ⊤
+AsksNothing Calls = ⊥
+AsksNothing OfFiles = ⊥
+
+pub plain_asks_nothing : (k : Group) (e : Efun) → is_plain_in k e ≡ true → AsksNothing k
+plain_asks_nothing Computes e p = tt
+plain_asks_nothing OfWorld e p = tt
+plain_asks_nothing Calls e p = absurd (differ p)
+plain_asks_nothing OfFiles e p = absurd (differ p)
+
+-- the course of such an efun, once its arguments fit
+acts_so : (k : Group) (e : Efun) (by : Asker) (c : Scene) (vs : List Value) (s : State) → AsksNothing k → acting k e by c vs (opened_args s vs) s ≡ Over (priced e (group_done k e c s vs))
+acts_so Computes e by c vs s n = ap Over (effect_priced e (computes e s vs (opened_args s vs)) s s)
+acts_so OfWorld e by c vs s n = ap Over (deed_priced e (deed e c s vs (opened_args s vs)) s)
+acts_so Calls e by c vs s n = absurd n
+acts_so OfFiles e by c vs s n = absurd n
 
 -- less is left of the budget
 at_budget : (g : Setting) (live : Live) (turn : Turn) (b : ℕ) (s : State) (k : ℕ) → At g live turn b s → At g live turn k (record s { budget = k })
@@ -136,7 +150,7 @@ computing_of OfFiles c = absurd (differ c)
 
 -- A whole call: its parts on the state, in order.
 
-module _ (e : Efun) (caller : Caller) (vs : List Value) (live0 : Live) (turn0 : Turn) (old : ℕ) (p : is_plain e ≡ true) (there : All (IsThere live0.cells) vs) where
+module _ (e : Efun) (caller : Caller) (vs : List Value) (live0 : Live) (turn0 : Turn) (old : ℕ) (asks : AsksNothing (group e)) (there : All (IsThere live0.cells) vs) where
   -- the price before, in the state and in the meaning
   before_is : (before : ℕ) (g : Setting) (s : State) → At g live0 turn0 old s → ((t : State) → living t ≡ live_in live0.objects → cells_of t ≡ live0.cells → before ≡ price_before e vs t) → before ≡ price_before e vs s
   before_is before g s h f =
@@ -176,21 +190,32 @@ module _ (e : Efun) (caller : Caller) (vs : List Value) (live0 : Live) (turn0 : 
         subst (λ a. IsEnd a (At g live0 turn0 paid) (Stops (here (Failed (bad_arg number (efun_name e)))) t)) (sym is) (refl, subst (λ k. At g live0 turn0 k t) (ap (λ k. k - before) h.left ∙ sym z) (at_budget g live0 turn0 old s (s.budget - before) h)),
       )
 
-  -- the efun acts
+  -- the efun acts, in a state in which it comes to what it means
+  pub acted_at : (before paid new : ℕ) (d : Did) (a : Answer) (live1 : Live) (turn1 : Turn) → nat_lt old before ≡ false → paid ≡ old - before
+      → ((t : State) → living t ≡ live_in live0.objects → cells_of t ≡ live0.cells → before ≡ price_before e vs t)
+      → ((cells : Store) → None ≡ first_bad 1 (kinds e) (map (operand (live_in live0.objects) cells) vs))
+      → IsDidThere live1.cells d → Finishes e (live_in live1.objects) live1.cells d paid a new
+      → (g : Setting) (by : Asker) (c : Scene) (s : State) → At g live0 turn0 old s
+      → ((t : State) → t.world ≡ s.world → At g live0 turn0 paid t → IsDone d (At g live1 turn1 paid) (efun_done e c t vs))
+      → (end : End Value) × (efun_in e by c vs s ≡ Over end) × IsEnd a (At g live1 turn1 new) end
+  acted_at before paid new d a live1 turn1 less z f k i fin g by c s h does =
+      let t : State = record s { budget = s.budget - before } in
+      let at : At g live0 turn0 paid t = subst (λ k. At g live0 turn0 k t) (ap (λ k. k - before) h.left ∙ sym z) (at_budget g live0 turn0 old s (s.budget - before) h) in (
+        priced e (group_done (group e) e c t vs),
+        course before None by c s (before_is before g s h f) (bad_is None g s h k)
+            ∙ ap (λ b. if b then Over (Stops (here Spent) (record s { budget = 0 })) else kinds_looked_at e by c vs None t) (ap (λ k. nat_lt k before) h.left ∙ less)
+            ∙ acts_so (group e) e by c vs t asks,
+        finishes g live1 turn1 paid new e d a (group_done (group e) e c t vs) (does t refl at) i fin,
+      )
+
+  -- the same in each state
   pub acted_call : (before paid new : ℕ) (d : Did) (a : Answer) (live1 : Live) (turn1 : Turn) → nat_lt old before ≡ false → paid ≡ old - before
       → ((t : State) → living t ≡ live_in live0.objects → cells_of t ≡ live0.cells → before ≡ price_before e vs t)
       → ((cells : Store) → None ≡ first_bad 1 (kinds e) (map (operand (live_in live0.objects) cells) vs))
       → Does e caller vs live0 turn0 d live1 turn1 → IsDidThere live1.cells d → Finishes e (live_in live1.objects) live1.cells d paid a new
       → CallsEfun e caller vs live0 turn0 old a live1 turn1 new
   acted_call before paid new d a live1 turn1 less z f k does i fin g by c s sc h =
-      let t : State = record s { budget = s.budget - before } in
-      let at : At g live0 turn0 paid t = subst (λ k. At g live0 turn0 k t) (ap (λ k. k - before) h.left ∙ sym z) (at_budget g live0 turn0 old s (s.budget - before) h) in (
-        priced e (group_done (group e) e c t vs),
-        course before None by c s (before_is before g s h f) (bad_is None g s h k)
-            ∙ ap (λ b. if b then Over (Stops (here Spent) (record s { budget = 0 })) else kinds_looked_at e by c vs None t) (ap (λ k. nat_lt k before) h.left ∙ less)
-            ∙ acts_so (group e) e by c vs t p,
-        finishes g live1 turn1 paid new e d a (group_done (group e) e c t vs) (does g paid c t sc at) i fin,
-      )
+      acted_at before paid new d a live1 turn1 less z f k i fin g by c s h (λ t w at. does g paid c t sc at)
 
 -- Prices
 

@@ -83,6 +83,8 @@ closed_connections live os c k h e = record {
   call_outs = h.call_outs;
   waiting = subst (λ (c : Connecting). All (λ (x : Waiting). All (IsThere live.cells) x.arguments) c.waiting) (sym e)
       (All-filter (λ x. not (nat_eq x.connection k)) (λ (x : Waiting). All (IsThere live.cells) x.arguments) live.connections.waiting h.waiting);
+  placed = h.placed;
+  numbered = h.numbered;
   room = h.room;
 }
 

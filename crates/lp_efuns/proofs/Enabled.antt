@@ -124,6 +124,8 @@ closed_living live o row h e = record {
   versions = h.versions;
   call_outs = h.call_outs;
   waiting = h.waiting;
+  placed = h.placed;
+  numbered = h.numbered;
   room = subst (λ l. AreTaken (l ++ flat_map version_extents live.versions) live.swapper) (sym (extents_set live.objects o.0 (Some row) (Some new) e refl)) h.room;
 }
   where

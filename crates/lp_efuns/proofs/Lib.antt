@@ -9,4 +9,5 @@ pub mod Looking
 pub mod Timed
 pub mod Commanded
 pub mod Connected
+pub mod Handed
 pub mod Enabled

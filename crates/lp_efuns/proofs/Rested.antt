@@ -10,8 +10,9 @@ use Rattle.lp_timers.specs.Timing.{Timing}
 use Rattle.lp_language.specs.Course.{State}
 use Rattle.lp_language.specs.Operations.{with_world}
 use Rattle.lp_meaning.specs.WorldEfuns.{with_generator}
-use Rattle.lp_world.specs.Closed.{IsClosed}
+use Rattle.lp_world.specs.Closed.{AreNumbered, ArePlaced, IsClosed}
 use Rattle.lp_world.specs.declared.live.Live.{Live}
+use Rattle.lp_world.proofs.Closing.{closed_with_places, closed_with_timers}
 use Rattle.lp_efuns.specs.declared.caller.Turn.{Turn}
 use Rattle.lp_efuns.specs.Turns.{At, Setting}
 
@@ -55,6 +56,8 @@ closed_generator live k h = record {
   versions = h.versions;
   call_outs = h.call_outs;
   waiting = h.waiting;
+  placed = h.placed;
+  numbered = h.numbered;
   room = h.room;
 }
 
@@ -91,17 +94,8 @@ at_timing g live turn b s t cs bs e h = record {
   commands = h.commands;
 }
 
-pub closed_timing : (live : Live) (t : Timing) → IsClosed live → All (λ (c : CallOut). All (IsThere live.cells) c.arguments) t.call_outs → IsClosed (record live { timers = t })
-closed_timing live t h a = record {
-  clock = h.clock;
-  cells = h.cells;
-  objects = h.objects;
-  apart = h.apart;
-  versions = h.versions;
-  call_outs = a;
-  waiting = h.waiting;
-  room = h.room;
-}
+pub closed_timing : (live : Live) (t : Timing) → IsClosed live → All (λ (c : CallOut). All (IsThere live.cells) c.arguments) t.call_outs → AreNumbered t → IsClosed (record live { timers = t })
+closed_timing = closed_with_timers
 
 -- the chains of shadows
 pub at_places : (g : Setting) (live : Live) (turn : Turn) (b : ℕ) (s : State) (p : Places) (ss : List Shadowing) → Stands p s.world.places ss → At g live turn b s
@@ -135,14 +129,5 @@ at_places g live turn b s p ss e h = record {
   commands = h.commands;
 }
 
-pub closed_places : (live : Live) (p : Places) → IsClosed live → IsClosed (record live { places = p })
-closed_places live p h = record {
-  clock = h.clock;
-  cells = h.cells;
-  objects = h.objects;
-  apart = h.apart;
-  versions = h.versions;
-  call_outs = h.call_outs;
-  waiting = h.waiting;
-  room = h.room;
-}
+pub closed_places : (live : Live) (p : Places) → IsClosed live → ArePlaced p → IsClosed (record live { places = p })
+closed_places = closed_with_places

@@ -17,9 +17,11 @@ use Rattle.lp_language.specs.Operations.{cells_of, living, with_world}
 use Rattle.lp_language.specs.World.{World, is_live}
 use Rattle.lp_meaning.specs.EfunArguments.{int_arg, opened_args, text_arg}
 use Rattle.lp_meaning.specs.WorldEfuns.{Deed, Yields, changes, deed, one, seconds_left, set_heart_beat, with_beats, without_one, zero}
+use Rattle.lp_world.specs.Closed.{AreNumbered}
 use Rattle.lp_world.specs.Rows.{live_in}
 use Rattle.lp_world.specs.declared.live.Live.{Live}
 use Rattle.lp_world.proofs.Keeping.{live_same}
+use Rattle.lp_world.proofs.Numbering.{numbered_filter, numbered_same}
 use Rattle.lp_efuns.specs.declared.answer.Did.{Did}
 use Rattle.lp_efuns.specs.declared.answer.Did.TheVariants as did
 use Rattle.lp_efuns.specs.declared.caller.Caller.{Caller}
@@ -73,6 +75,11 @@ removed_call_out caller vs live turn t v timers f e q g b c s sc h =
 pub left_there : (cells : Store) (cs : List CallOut) (o : Option CallOut) → All (λ (c : CallOut). All (IsThere cells) c.arguments) cs → All (λ (c : CallOut). All (IsThere cells) c.arguments) (without_this cs o)
 left_there cells cs None h = h
 left_there cells cs (Some x) h = All-filter (λ c. not (nat_eq c.number x.number)) (λ (c : CallOut). All (IsThere cells) c.arguments) cs h
+
+-- and each has a number of its own
+pub left_numbered : (old new : Timing) (o : Option CallOut) → new.next ≡ old.next → new.call_outs ≡ without_this old.call_outs o → AreNumbered old → AreNumbered new
+left_numbered old new None n e h = numbered_same old new n e h
+left_numbered old new (Some x) n e h = numbered_filter (λ c. not (nat_eq c.number x.number)) old new n e h
 
 -- Hearts
 

@@ -3,6 +3,7 @@ use Rattle.std.specs.Prelude.{◌≡◌, ℕ, List, length}
 use Rattle.lp_values.specs.declared.error.RunError.{RunError}
 use Rattle.lp_values.specs.declared.value.Value.{Value}
 use Rattle.lp_values.specs.declared.id.CellId.{CellId}
+use Rattle.lp_values.specs.declared.id.ObjId.{ObjId}
 use Rattle.lp_cells.specs.Cells.{Store, content_set, stored_pairs, with_cell}
 use Rattle.lp_cells.specs.Mapping.{pairs_dropped}
 use Rattle.lp_cells.specs.declared.content.Content.TheVariants.{Mapping}
@@ -15,7 +16,7 @@ use Rattle.lp_language.specs.Course.{Scene, State, zero_value}
 use Rattle.lp_language.specs.Operations.{cells_of, with_store}
 use Rattle.lp_meaning.specs.EfunArguments.{opened_args}
 use Rattle.lp_meaning.specs.ComputingEfuns.{computes}
-use Rattle.lp_meaning.specs.WorldEfuns.{Deed, Yields, Throws, deed}
+use Rattle.lp_meaning.specs.WorldEfuns.{Deed, Yields, Throws, deed, exec}
 use Rattle.lp_meaning.specs.Questions.{Group, Computes, OfWorld, Calls, OfFiles, group}
 use Rattle.lp_world.specs.declared.live.Live.{Live}
 use Rattle.lp_efuns.specs.declared.answer.Did.{Did}
@@ -84,3 +85,8 @@ CarriesOut (Fault e) old d new = (d ≡ did.Error e) × (new ≡ old)
 -- a key of a mapping is dropped in the cells of the state, and nothing else changes
 abbrev pub HasDropped : Live → CellId → Value → Live → Type 0
 HasDropped live0 c k live1 = live1 ≡ record live0 { cells = content_set live0.cells c (Mapping (pairs_dropped (live_in live0.objects) (stored_pairs live0.cells c) k)) }
+
+-- the connection of the second object goes to the first, as `exec` means it
+abbrev pub HandsOver : ObjId → ObjId → Live → Did → Live → Type 0
+HandsOver to from live0 d live1 =
+    (g : Setting) (turn : Turn) (budget : ℕ) (s : State) → At g live0 turn budget s → IsDone d (At g live1 turn budget) (deed_done (exec to from s) s)

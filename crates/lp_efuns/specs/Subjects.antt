@@ -1,5 +1,5 @@
 -- Objects that arguments name, and objects as values, by which objects are live.
-use Rattle.std.specs.Prelude.{◌≡◌, ℕ, ◌-◌, negsuc, pos, List, [], ◌∷◌, ◌++◌, Bool, false, not, Option, Some, None, filter, find, nat_eq, option_map, slice_get, if◌then◌else◌}
+use Rattle.std.specs.Prelude.{◌≡◌, ℕ, ◌-◌, negsuc, pos, List, [], ◌∷◌, ◌++◌, Bool, false, not, Option, Some, None, filter, find, map, nat_eq, option_map, slice_get, if◌then◌else◌}
 use Rattle.lp_values.specs.declared.id.CellId.{CellId}
 use Rattle.lp_values.specs.declared.id.ObjId.{ObjId}
 use Rattle.lp_values.specs.declared.value.Value.{Value}
@@ -8,8 +8,13 @@ use Rattle.lp_values.specs.Read.{as_read}
 use Rattle.lp_ops.specs.Operands.{Opened}
 use Rattle.lp_meaning.specs.EfunArguments.{object_in}
 use Rattle.lp_events.specs.declared.out.Out.TheVariants as outs
+use Rattle.lp_world.specs.Connecting.{given_to}
 use Rattle.lp_world.specs.declared.live.Live.{Live}
 use Rattle.lp_world.specs.declared.objects.Object.{Object}
+use Rattle.lp_world.specs.declared.versions.Version.{Version}
+use Rattle.lp_world.specs.Rows.{row_at, version_path}
+use Rattle.lp_efuns.specs.declared.answer.Did.{Did}
+use Rattle.lp_efuns.specs.declared.answer.Did.TheVariants as did
 
 -- an object, or none, as a value: one that is not live reads as 0
 abbrev pub object_read : (ObjId → Bool) → Option ObjId → Value
@@ -66,3 +71,25 @@ hung_up live (Some k) = record live {
 -- the state after that
 abbrev pub IsHungUp : Live → ObjId → Live → Type 0
 IsHungUp live0 o live1 = live1 ≡ hung_up live0 (number_of live0 o)
+
+-- a connection goes to an object
+abbrev pub handed : Live → ℕ → ObjId → Live
+handed live k o = record live {
+  connections = record { opened = map (given_to o k) live.connections.opened; highest = live.connections.highest; present = live.connections.present; waiting = live.connections.waiting };
+}
+
+-- unless that has one: 1, or 0
+abbrev pub IsGivenTo : Option ℕ → Live → ℕ → ObjId → Did → Live → Type 0
+IsGivenTo None live0 k o d live1 = (d ≡ did.Value (Int (pos 1))) × (live1 ≡ handed live0 k o)
+IsGivenTo (Some j) live0 k o d live1 = (d ≡ did.Value (Int (pos 0))) × (live1 ≡ live0)
+
+abbrev pub IsGivenUnless : Live → ℕ → ObjId → Did → Live → Type 0
+IsGivenUnless live0 k o d live1 = IsGivenTo (number_of live0 o) live0 k o d live1
+
+-- the path of the file from which the version of an object was compiled
+abbrev pub path_of_row : List (Option Version) → Option Object → Option (List ℕ)
+path_of_row versions None = None
+path_of_row versions (Some o) = version_path (row_at versions o.program.0)
+
+abbrev pub path_at : Live → ObjId → Option (List ℕ)
+path_at live o = path_of_row live.versions (row_at live.objects o.0)

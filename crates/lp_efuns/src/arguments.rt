@@ -5,11 +5,12 @@ ghost use Rattle.lp_cells.specs.Cells.{IsThere, Store};
 ghost use Rattle.lp_ops.specs.Operands.{operand};
 ghost use Rattle.lp_meaning.specs.EfunArguments.{int_arg, int_in, text_arg, text_in, value_arg};
 
+use lp_values::text::Text;
 use lp_values::value::Value;
-use std::alloc::AllocError;
+use std::alloc::{AllocError, Global};
 
 /// The integer that an argument is, or 0. Arguments count from 0.
-pub(crate) fn int_at(args: &[Value], i: usize) -> i64
+pub fn int_at(args: &[Value], i: usize) -> i64
     ensures { (live : ObjId → Bool) (cells : Store) → result ≡ int_arg (map (operand live cells) args.now) i }
 {
     match args.get(i) {
@@ -29,7 +30,7 @@ fn int_of(v: &Value) -> i64
 }
 
 /// The text that an argument is, or the empty one.
-pub(crate) fn text_at(args: &[Value], i: usize) -> &[char]
+pub fn text_at(args: &[Value], i: usize) -> &[char]
     ensures { (live : ObjId → Bool) (cells : Store) → result.now ≡ text_arg (map (operand live cells) args.now) i }
 {
     match args.get(i) {
@@ -56,5 +57,15 @@ pub(crate) fn value_at(args: &[Value], i: usize) -> Result<Value, AllocError>
     match args.get(i) {
         Some(v) => v.copy(),
         None => Ok(Value::Int(0)),
+    }
+}
+
+/// The text that an argument is, or the empty one, in the same memory. Arguments count from 0.
+pub fn text_shared(alloc: Global, args: &[Value], i: usize) -> Result<Text, AllocError>
+    ensures { IfOk result (λ t. (live : ObjId → Bool) (cells : Store) → t ≡ text_arg (map (operand live cells) args.now) i) }
+{
+    match args.get(i) {
+        Some(Value::Str(t)) => t.copy(),
+        _ => Text::from_slice(alloc, &[]),
     }
 }

@@ -22,7 +22,7 @@ use crate::arguments::{int_at, value_at};
 use crate::caller::{Caller, Turn};
 use crate::carrying::carry;
 use crate::commands::notify_fail;
-use crate::connections::remove_interactive;
+use crate::connections::{exec, remove_interactive};
 use crate::enabling::enable_commands;
 use crate::looks::{is_look, look};
 use crate::places::unshadow;
@@ -239,6 +239,7 @@ fn changed(
     match efun {
         Efun::Unshadow => Ok(unshadow(live, caller)),
         Efun::NotifyFail => notify_fail(turn, args, live),
+        Efun::Exec => Ok(exec(live, args)),
         Efun::RemoveInteractive => remove_interactive(live, args),
         Efun::RemoveCallOut => remove_call_out(live, caller, args),
         Efun::SetHeartBeat => set_heart_beat(live, caller, args),
@@ -256,6 +257,7 @@ pub(crate) fn is_change(efun: Efun) -> bool
     match efun {
         Efun::Unshadow
         | Efun::NotifyFail
+        | Efun::Exec
         | Efun::RemoveInteractive
         | Efun::SetHeartBeat
         | Efun::RemoveCallOut => true,

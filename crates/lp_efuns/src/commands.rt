@@ -10,8 +10,8 @@ ghost use Rattle.lp_efuns.specs.Turns.{commands_of};
 ghost use Rattle.lp_efuns.specs.declared.caller.Caller.{Caller as C};
 
 use crate::answer::{Did, EfunFault};
+use crate::arguments::text_shared;
 use crate::caller::{Command, Turn};
-use crate::timing::text_shared;
 use lp_instr::efun::Efun;
 use lp_ops::effect::Effect;
 use lp_ops::int::int;

@@ -3,7 +3,7 @@
 #![tactic(auto)]
 
 pub mod answer;
-mod arguments;
+pub mod arguments;
 pub mod caller;
 mod carrying;
 mod changes;
@@ -13,9 +13,9 @@ mod connections;
 mod enabling;
 mod known;
 mod looks;
-mod names;
-mod objects;
+pub mod names;
+pub mod objects;
 mod places;
 pub mod plain;
-mod subjects;
+pub mod subjects;
 mod timing;

@@ -4,6 +4,7 @@ ghost use Rattle.lp_values.specs.declared.value.Value.{Value as V};
 ghost use Rattle.lp_cells.specs.Cells.{Store};
 ghost use Rattle.lp_ops.specs.Effects.{IsEffectThere};
 ghost use Rattle.lp_ops.specs.Integers.{int};
+ghost use Rattle.lp_world.specs.Closed.{IsClosed};
 ghost use Rattle.lp_efuns.specs.Deeds.{Looks};
 ghost use Rattle.lp_efuns.specs.Plain.{is_look};
 ghost use Rattle.lp_efuns.specs.declared.caller.Caller.{Caller as C};
@@ -12,9 +13,11 @@ ghost use Rattle.lp_efuns.specs.declared.caller.Turn.{Turn as T};
 use crate::arguments::text_at;
 use crate::caller::{Caller, Turn};
 use crate::commands::query_verb;
+use crate::connections::users;
 use crate::names::find_object;
 use crate::objects::{
-    interactive, living, object_name, previous_object, this_interactive, this_object, this_player,
+    interactive, living, load_name, object_name, previous_object, program_name, this_interactive,
+    this_object, this_player,
 };
 use crate::places::{all_inventory, environment, first_inventory, query_shadowing};
 use crate::timing::find_call_out;
@@ -37,11 +40,13 @@ pub(crate) fn is_look(efun: Efun) -> bool
         | Efun::PreviousObject
         | Efun::FindObject
         | Efun::ObjectName
+        | Efun::LoadName
+        | Efun::ProgramName
         | Efun::Living
         | Efun::Interactive => true,
         Efun::Environment | Efun::AllInventory | Efun::FirstInventory | Efun::QueryShadowing =>
             true,
-        Efun::QueryVerb | Efun::FindCallOut | Efun::Time | Efun::RaiseError => true,
+        Efun::QueryVerb | Efun::Users | Efun::FindCallOut | Efun::Time | Efun::RaiseError => true,
         _ => false,
     }
 }
@@ -81,7 +86,7 @@ pub(crate) fn look(
     args: &[Value],
 ) -> Result<Effect, AllocError>
     requires look { is_look efun ≡ true }
-    requires clock { live.now.clock ≤ 10 ^ 12 }
+    requires closed { IsClosed live.now }
     ensures looks { IfOk result (λ e. Looks efun caller.now args.now live.now turn.now e) }
     ensures there { IfOk result (λ e. (cells : Store) → IsEffectThere cells e) }
 {
@@ -92,6 +97,8 @@ pub(crate) fn look(
         Efun::PreviousObject => Ok(previous_object(caller, args, live)),
         Efun::FindObject => find_object(args, live),
         Efun::ObjectName => object_name(caller, args, live),
+        Efun::LoadName => load_name(caller, args, live),
+        Efun::ProgramName => program_name(caller, args, live),
         Efun::Living => Ok(living(args, live)),
         Efun::Interactive => interactive(caller, args, live),
         Efun::Environment => environment(caller, args, live),
@@ -99,6 +106,7 @@ pub(crate) fn look(
         Efun::FirstInventory => first_inventory(caller, args, live),
         Efun::QueryShadowing => Ok(query_shadowing(args, live)),
         Efun::QueryVerb => query_verb(turn, live),
+        Efun::Users => users(live),
         Efun::FindCallOut => find_call_out(caller, args, live),
         Efun::Time => Ok(time(live)),
         Efun::RaiseError => raised(live.alloc, args, live),

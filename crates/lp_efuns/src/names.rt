@@ -42,7 +42,7 @@ fn with_slash(alloc: Global, path: &[char]) -> Result<Vec<char>, AllocError>
 }
 
 /// Whether a path ends in `.c`.
-fn ends_in_c(path: &[char]) -> bool
+pub fn ends_in_c(path: &[char]) -> bool
     ensures { result ≡ is_name (drop (length path.now - 2) path.now) (codes ".c") }
 {
     let n = path.len();

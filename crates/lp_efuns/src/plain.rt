@@ -78,7 +78,7 @@ pub fn is_plain(efun: Efun) -> bool
 }
 
 /// Pays a price that may be above 64 bits, or tells that the budget is spent: then nothing is left of it.
-fn pay_wide(budget: &mut u64, n: u128) -> bool
+pub fn pay_wide(budget: &mut u64, n: u128) -> bool
     ensures { Pays n budget.old result budget.new }
 {
     if (*budget as u128) < n {
@@ -104,7 +104,7 @@ fn pay_result<L: Living>(efun: Efun, v: Value, cells: &Cells, live: &L, budget: 
 }
 
 /// The answer of what an efun came to, once the price of its result is paid.
-fn finish<L: Living>(efun: Efun, did: Did, cells: &Cells, live: &L, budget: &mut u64) -> Answer
+pub fn finish<L: Living>(efun: Efun, did: Did, cells: &Cells, live: &L, budget: &mut u64) -> Answer
     requires there { IsDidThere cells.now did }
     ensures finishes { Finishes efun (L.live live.now) cells.now did budget.old result budget.new }
     ensures there { IsAnswerThere cells.now result }
@@ -117,7 +117,7 @@ fn finish<L: Living>(efun: Efun, did: Did, cells: &Cells, live: &L, budget: &mut
 }
 
 /// A refusal of an argument. Arguments count from 1.
-fn bad_argument(alloc: Global, efun: Efun, number: u64) -> Result<Answer, EfunFault>
+pub fn bad_argument(alloc: Global, efun: Efun, number: u64) -> Result<Answer, EfunFault>
     ensures { IfOk result (λ a. a ≡ A.Error (bad_arg number (efun_name efun))) }
 {
     Ok(Answer::Error(RunError::bad_arg(alloc, number, efun.name())?))

@@ -13,7 +13,7 @@ use lp_values::id::ObjId;
 use lp_values::value::{Living, Value};
 
 /// An object as a value: one that is not live reads as 0, and so does none.
-pub(crate) fn object_effect<L: Living>(o: Option<ObjId>, live: &L) -> Effect
+pub fn object_effect<L: Living>(o: Option<ObjId>, live: &L) -> Effect
     ensures value { result ≡ E.Gives (object_read (L.live live.now) o) }
     ensures there { (cells : Store) → IsEffectThere cells result }
 {
@@ -35,7 +35,7 @@ fn object_of<L: Living>(v: &Value, live: &L) -> Option<ObjId>
 }
 
 /// The live object that an argument is, or none. Arguments count from 0.
-pub(crate) fn object_at<L: Living>(args: &[Value], i: usize, live: &L) -> Option<ObjId>
+pub fn object_at<L: Living>(args: &[Value], i: usize, live: &L) -> Option<ObjId>
     ensures value { (cells : Store) → result ≡ object_arg (map (operand (L.live live.now) cells) args.now) i }
     ensures live { IfSome result (λ o. L.live live.now o ≡ true) }
 {
@@ -54,7 +54,7 @@ fn this_live<L: Living>(this: ObjId, live: &L) -> Option<ObjId>
 }
 
 /// The live object that an argument is, or none; where the argument is missing, this object.
-pub(crate) fn subject<L: Living>(args: &[Value], i: usize, this: ObjId, live: &L) -> Option<ObjId>
+pub fn subject<L: Living>(args: &[Value], i: usize, this: ObjId, live: &L) -> Option<ObjId>
     ensures value { (cells : Store) → result ≡ subject (L.live live.now) this (map (operand (L.live live.now) cells) args.now) i }
     ensures live { IfSome result (λ o. L.live live.now o ≡ true) }
 {

@@ -7,7 +7,7 @@ ghost use Rattle.lp_values.specs.declared.value.Value.{Value as V};
 ghost use Rattle.lp_cells.specs.Cells.{Store};
 ghost use Rattle.lp_ops.specs.Effects.{IsEffectThere};
 ghost use Rattle.lp_ops.specs.Operands.{operand};
-ghost use Rattle.lp_meaning.specs.EfunArguments.{int_arg, text_arg};
+ghost use Rattle.lp_meaning.specs.EfunArguments.{int_arg};
 ghost use Rattle.lp_timers.specs.Waiting.{call_out_of};
 ghost use Rattle.lp_world.specs.Closed.{IsClosed};
 ghost use Rattle.lp_efuns.specs.Deeds.{Does, Looks};
@@ -17,25 +17,14 @@ ghost use Rattle.lp_efuns.specs.declared.answer.Did.{Did as D};
 ghost use Rattle.lp_efuns.specs.declared.caller.Turn.{Turn as T};
 
 use crate::answer::{Did, EfunFault};
-use crate::arguments::int_at;
+use crate::arguments::{int_at, text_shared};
 use crate::caller::Caller;
 use lp_instr::efun::Efun;
 use lp_ops::effect::Effect;
 use lp_timers::call_out::CallOut;
-use lp_values::text::Text;
 use lp_values::value::{Living, Value};
 use lp_world::live::Live;
 use std::alloc::{AllocError, Global};
-
-/// The text that an argument is, or the empty one, in the same memory. Arguments count from 0.
-pub(crate) fn text_shared(alloc: Global, args: &[Value], i: usize) -> Result<Text, AllocError>
-    ensures { IfOk result (λ t. (live : ObjId → Bool) (cells : Store) → t ≡ text_arg (map (operand live cells) args.now) i) }
-{
-    match args.get(i) {
-        Some(Value::Str(t)) => t.copy(),
-        _ => Text::from_slice(alloc, &[]),
-    }
-}
 
 /// The seconds from a clock to a moment, or -1 where there is none. The answer is want of memory too where they do not
 /// fit an integer: no call-out waits so long.

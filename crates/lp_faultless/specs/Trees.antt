@@ -10,7 +10,7 @@ use Rattle.lp_plan_laws.specs.Tables.{AreNamedOnce, IsNamedOnce}
 
 -- The unit of a version has no fault with the tables of its parents, of which there is one for each `inherit`, and whose trees
 -- are fine.
-pub record IsFaultless (h : Heritage) (ts : List Tables) : Type 0 where
+pub record IsFaultlessTree (h : Heritage) (ts : List Tables) : Type 0 where
   pub parents : tables (parents_of h) ≡ ts
   pub each : length ts ≡ inherits (version_of h).items
   pub numbered : AreNumbered (parents_of h)
@@ -30,4 +30,4 @@ pub record IsFine (h : Heritage) : Type 0 where
 
 -- A tree is fine where its version's unit has no fault.
 abbrev pub FaultlessIsFine : Type 0
-FaultlessIsFine = (h : Heritage) (ts : List Tables) → IsFaultless h ts → IsFine h
+FaultlessIsFine = (h : Heritage) (ts : List Tables) → IsFaultlessTree h ts → IsFine h

@@ -193,6 +193,7 @@ module _ (told : Option Bytes) (programs : List RawProgram) (live : Live) (w : W
         | inl a ↦ subst (IsVersion told programs versions n) (sym a.1) (record {
           version = record (version_at w p) { latest = w.clock };
           there = ap (λ m. slice_get versions m) (sym a.0) ∙ get_set_here w.versions p.0 (record (version_at w p) { latest = w.clock }) o.version (ap (λ m. slice_get w.versions m) a.0 ∙ o.there);
+          path = o.path ∙ ap (λ (z : Option world.Version). (unwrap_or z no_version).path) (sym (ap (λ m. slice_get w.versions m) a.0 ∙ o.there));
           latest = h.rest.clock;
           parents = o.parents ∙ ap (λ (z : Option world.Version). (unwrap_or z no_version).parents) (sym (ap (λ m. slice_get w.versions m) a.0 ∙ o.there));
           program = o.program;
@@ -204,6 +205,7 @@ module _ (told : Option Bytes) (programs : List RawProgram) (live : Live) (w : W
         | inr a ↦ subst (IsVersion told programs versions n) (sym a.1) (record {
           version = o.version;
           there = get_set w.versions p.0 n (record (version_at w p) { latest = w.clock }) a.0 ∙ o.there;
+          path = o.path;
           latest = o.latest;
           parents = o.parents;
           program = o.program;
@@ -324,6 +326,8 @@ object_counted_closed live o h = record {
   versions = h.versions;
   call_outs = h.call_outs;
   waiting = h.waiting;
+  placed = h.placed;
+  numbered = h.numbered;
   room = subst (λ l. AreTaken (l ++ flat_map version_extents live.versions) live.swapper) (sym (extents_aged live.objects o.0 live.clock)) h.room;
 }
   where
@@ -344,6 +348,8 @@ version_counted_closed live p h = record {
   versions = each;
   call_outs = h.call_outs;
   waiting = h.waiting;
+  placed = h.placed;
+  numbered = h.numbered;
   room = subst (λ l. AreTaken (flat_map object_extents live.objects ++ l) live.swapper) (sym (version_extents_aged live.versions p.0 live.clock)) h.room;
 }
   where

@@ -48,6 +48,7 @@ use Rattle.lp_world.specs.declared.versions.Version.{Version}
 use Rattle.lp_world.proofs.BareWorlds.{heritage_same}
 use Rattle.lp_world.proofs.Grown.{closed_with_new_object}
 use Rattle.lp_world.proofs.Keeping.{get_new}
+use Rattle.lp_world.proofs.Numbering.{numbered_same}
 use Rattle.lp_residence.specs.Owners.{program_of}
 use Rattle.lp_residence.proofs.RowChanges.{row_there}
 use Rattle.lp_making.specs.Objects.{IsNotMade, IsRefused, IsUnwatched, IsWanted, IsWantedOf, StandsStill, StandsWithObject, has_function, program_at, with_object, with_watches, without_watches, zeros}
@@ -194,7 +195,7 @@ stands_still old name e table r c told programs w h =
     (stands_with_names told programs old w table h q.0 c, q.1)
 
 pub closed_with_names : (live : Live) (table : Objects) → IsClosed live → IsClosed (record live { names = table })
-closed_with_names live table h = record { clock = h.clock; cells = h.cells; objects = h.objects; apart = h.apart; versions = h.versions; call_outs = h.call_outs; waiting = h.waiting; room = h.room }
+closed_with_names live table h = record { clock = h.clock; cells = h.cells; objects = h.objects; apart = h.apart; versions = h.versions; call_outs = h.call_outs; waiting = h.waiting; placed = h.placed; numbered = h.numbered; room = h.room }
 
 -- Functions of a program
 
@@ -299,9 +300,9 @@ zeros_there : (store : Store) (n : ℕ) → All (IsThere store) (zeros n)
 zeros_there store zero = All-nil (IsThere store)
 zeros_there store (suc n) = All-cons (IsThere store) (Int (pos 0)) (zeros n) tt (zeros_there store n)
 
-pub closed_with_object : (live : Live) (p : ProgId) (row : Version) (table : Objects) (t : Timing) → IsClosed live → slice_get live.versions p.0 ≡ Some (Some row) → t.call_outs ≡ live.timers.call_outs
+pub closed_with_object : (live : Live) (p : ProgId) (row : Version) (table : Objects) (t : Timing) → IsClosed live → slice_get live.versions p.0 ≡ Some (Some row) → t.next ≡ live.timers.next → t.call_outs ≡ live.timers.call_outs
     → IsClosed (with_object live p (zeros row.outline.variables) table t)
-closed_with_object live p row table t h there same =
+closed_with_object live p row table t h there next same =
     let c = closed_with_new_object live p live.clock (zeros row.outline.variables) row h (ap (λ o. unwrap_or o None) there) (length-replicate row.outline.variables (Int (pos 0))) (zeros_there live.cells row.outline.variables) in
     record {
       clock = c.clock;
@@ -311,6 +312,8 @@ closed_with_object live p row table t h there same =
       versions = c.versions;
       call_outs = subst (All (λ (x : CallOut). All (IsThere live.cells) x.arguments)) (sym same) h.call_outs;
       waiting = c.waiting;
+      placed = c.placed;
+      numbered = numbered_same live.timers t next same h.numbered;
       room = c.room;
     }
 
@@ -374,7 +377,7 @@ module _ (old new : Live) (name : List ℕ) (p : ProgId) (reset clean_up : Bool)
   pub made_closed : new ≡ with_object old p (zeros count) new.names to_come → IsClosed new
   made_closed e =
       let r = inside_row old p inside in
-      subst IsClosed (sym e) (subst (λ k. IsClosed (with_object old p (zeros k) new.names to_come)) (count_is r.0 r.2) (closed_with_object old p r.0 new.names to_come c r.2 refl))
+      subst IsClosed (sym e) (subst (λ k. IsClosed (with_object old p (zeros k) new.names to_come)) (count_is r.0 r.2) (closed_with_object old p r.0 new.names to_come c r.2 refl refl))
 
 pub not_made : (old new : Live) (name : List ℕ) (e : ObjectFault) → new ≡ record old { names = new.names } → ((all : List Named) → names.Stands old.names all → IsRefused new.names all name e)
     → names.next_clone_in new.names ≡ names.next_clone_in old.names → StandsStill old new name e

@@ -63,8 +63,8 @@ targets_kept programs more h kept t part slot a e = slot_kept programs more h (p
 no_targets : (programs : List RawProgram) (h : Heritage) (kept : ℕ → ℕ → Option (Option FunAt)) → ((part slot : ℕ) → kept part slot ≡ None) → AreTargets programs h kept
 no_targets programs h kept n part slot a e = let q : None ≡ Some a = sym (n part slot) ∙ e in cc
 
-module _ (told : Option Bytes) (programs : List RawProgram) (live : Live) (w : World) (raw : RawProgram) (row : Version) (v : world.Version)
-    (h : Stands told programs live w) (c : IsClosed live) (is : IsVersionOf live.clock raw row) (now : IsMadeNow w raw v) where
+module _ (told : Option Bytes) (programs : List RawProgram) (live : Live) (w : World) (file : List ℕ) (raw : RawProgram) (row : Version) (v : world.Version)
+    (h : Stands told programs live w) (c : IsClosed live) (is : IsVersionOf live.clock file raw row) (now : IsMadeNow w file raw v) where
   abbrev more : List world.Version
   more = w.versions ++ v ∷ []
 
@@ -85,6 +85,7 @@ module _ (told : Option Bytes) (programs : List RawProgram) (live : Live) (w : W
       record {
         version = o.version;
         there = get_kept w.versions (v ∷ []) n o.version o.there;
+        path = o.path;
         latest = o.latest;
         parents = o.parents;
         program = o.program;
@@ -99,6 +100,7 @@ module _ (told : Option Bytes) (programs : List RawProgram) (live : Live) (w : W
   new_version = record {
     version = v;
     there = ap (λ n. slice_get more n) h.versions.next ∙ get_end w.versions v;
+    path = is.path ∙ sym now.path;
     latest = is.latest ∙ h.rest.clock ∙ sym now.latest;
     parents = is.outline.parents ∙ sym now.parents;
     program = raw;

@@ -90,7 +90,7 @@ pub same_files : (live : Live) (s : Store) → IsSame live.store s → StandsAsB
 same_files live s i told programs w h = with_store told programs live w s w.files h (λ q. i.files q ∙ h.rest.files q)
 
 pub closed_with_store : (live : Live) (s : Store) → IsClosed live → IsClosed (record live { store = s })
-closed_with_store live s h = record { clock = h.clock; cells = h.cells; objects = h.objects; apart = h.apart; versions = h.versions; call_outs = h.call_outs; waiting = h.waiting; room = h.room }
+closed_with_store live s h = record { clock = h.clock; cells = h.cells; objects = h.objects; apart = h.apart; versions = h.versions; call_outs = h.call_outs; waiting = h.waiting; placed = h.placed; numbered = h.numbered; room = h.room }
 
 -- an object that is not live stays as it is, and closes nothing
 pub dead_stays : (live : Live) (o : ObjId) → ((told : Option Bytes) (programs : List RawProgram) (w : World) → Stands told programs live w → is_live w o ≡ false) → StandsDestructed live live (Some o) None

@@ -3,7 +3,6 @@ ghost use Rattle.std.specs.Prelude.{◌≡◌, IfOk, IsAscii, OnErr, Some, map};
 ghost use Rattle.lp_language.specs.World.{World};
 ghost use Rattle.lp_meaning.specs.WorldSteps.{blueprint, is_clone_name as is_clone, reloaded_blueprint};
 ghost use Rattle.lp_objects.specs.Stands.{Stands as Name};
-ghost use Rattle.lp_residence.specs.Ending.{AreNumberedOnce, ArePlaced};
 ghost use Rattle.lp_world.specs.Closed.{IsClosed};
 ghost use Rattle.lp_world.specs.Stands.{named_of};
 ghost use Rattle.lp_making.specs.Reloads.{StandsAsBefore, StandsDestructed, StandsReloaded};
@@ -48,12 +47,8 @@ fn blueprint_of(names: &Objects, path: &str) -> Option<ObjId>
 /// Destructs an object, where it is live. Answers the connection that it had.
 fn destruct(live: &mut Live, ob: ObjId) -> Option<u32>
     requires closed { IsClosed live.old }
-    requires placed { ArePlaced live.old.places }
-    requires numbered { AreNumberedOnce live.old.timers.call_outs }
     ensures stands { StandsDestructed live.old live.new (Some ob) result }
     ensures closed { IsClosed live.new }
-    ensures placed { ArePlaced live.new.places }
-    ensures numbered { AreNumberedOnce live.new.timers.call_outs }
     ensures outputs { live.new.outputs ≡ live.old.outputs }
     ensures cells { live.new.cells ≡ live.old.cells }
     ensures versions { live.new.versions ≡ live.old.versions }
@@ -68,12 +63,8 @@ fn destruct(live: &mut Live, ob: ObjId) -> Option<u32>
 /// Destructs an object, where there is one and it is live. Answers the connection that it had.
 fn destruct_if(live: &mut Live, found: Option<ObjId>) -> Option<u32>
     requires closed { IsClosed live.old }
-    requires placed { ArePlaced live.old.places }
-    requires numbered { AreNumberedOnce live.old.timers.call_outs }
     ensures stands { StandsDestructed live.old live.new found result }
     ensures closed { IsClosed live.new }
-    ensures placed { ArePlaced live.new.places }
-    ensures numbered { AreNumberedOnce live.new.timers.call_outs }
     ensures outputs { live.new.outputs ≡ live.old.outputs }
     ensures cells { live.new.cells ≡ live.old.cells }
     ensures versions { live.new.versions ≡ live.old.versions }
@@ -93,13 +84,9 @@ fn destruct_if(live: &mut Live, found: Option<ObjId>) -> Option<u32>
 pub fn reload(live: &mut Live, path: &str, bytes: &[u8]) -> Result<Option<u32>, AllocError>
     requires ascii { IsAscii path.now }
     requires closed { IsClosed live.old }
-    requires placed { ArePlaced live.old.places }
-    requires numbered { AreNumberedOnce live.old.timers.call_outs }
     ensures stands { IfOk result (λ k. StandsReloaded live.old live.new path.now bytes.now k) }
     ensures refused { OnErr result (StandsAsBefore live.old live.new) }
     ensures closed { IsClosed live.new }
-    ensures placed { ArePlaced live.new.places }
-    ensures numbered { AreNumberedOnce live.new.timers.call_outs }
     ensures outputs { live.new.outputs ≡ live.old.outputs }
     ensures cells { live.new.cells ≡ live.old.cells }
     ensures versions { live.new.versions ≡ live.old.versions }

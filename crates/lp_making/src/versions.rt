@@ -9,6 +9,7 @@ ghost use Rattle.lp_making.specs.Versions.{StandsWithVersion, StandsWithVersionO
 use lp_code::program::RawProgram;
 use lp_residence::adding::add_version;
 use lp_values::id::ProgId;
+use lp_values::text::Text;
 use lp_world::live::Live;
 use lp_world::shared::SharedProgram;
 use std::alloc::AllocError;
@@ -20,17 +21,22 @@ fn has_places(raw: &RawProgram) -> bool
     raw.instrs.as_slice().len() < 4294967296
 }
 
-/// A program in memory becomes the version with the next number, made at the state's clock. The state then stands for the
-/// world with that version more, whose parents are those of the program's tables. Takes time in proportion to the program.
+/// A program in memory that was compiled from the file with a path becomes the version with the next number, made at the
+/// state's clock. The state then stands for the world with that version more, whose path is this one and whose parents are those
+/// of the program's tables. Takes time in proportion to the program.
 ///
 /// `AllocError`: memory ran out, and nothing has changed. It also comes where the program has 2^32 instructions or more, or
 /// names what is not there, as `add_version` says.
-pub fn new_version(live: &mut Live, program: SharedProgram) -> Result<ProgId, AllocError>
+pub fn new_version(
+    live: &mut Live,
+    path: Text,
+    program: SharedProgram,
+) -> Result<ProgId, AllocError>
     requires closed { IsClosed live.old }
     ensures number { IfOk result (λ p. p.0 ≡ length live.old.versions) }
-    ensures new { OnOk result (IsNewVersion live.old live.new program) }
-    ensures stands { OnOk result (StandsWithVersion live.old live.new program) }
-    ensures file { OnOk result (StandsWithVersionOf live.old live.new program) }
+    ensures new { OnOk result (IsNewVersion live.old live.new path program) }
+    ensures stands { OnOk result (StandsWithVersion live.old live.new path program) }
+    ensures file { OnOk result (StandsWithVersionOf live.old live.new path program) }
     ensures places { OnOk result (length program.instrs < 2 ^ 32) }
     ensures same { OnErr result (live.new ≡ live.old) }
     ensures closed { IsClosed live.new }
@@ -38,5 +44,5 @@ pub fn new_version(live: &mut Live, program: SharedProgram) -> Result<ProgId, Al
     if !has_places(program.raw()) {
         return Err(AllocError);
     }
-    add_version(live, program)
+    add_version(live, path, program)
 }

@@ -1,10 +1,10 @@
 //! The table of objects.
-ghost use Rattle.std.specs.Prelude.{◌≡◌, ◌+◌, ◌∷◌, ◌++◌, IfErr, IfOk, List, None, true, OnErr, OnOk, Some, [], cond, length, nat_eq, ℕ, ◌==◌, if◌then◌else◌};
+ghost use Rattle.std.specs.Prelude.{◌≡◌, ◌+◌, ◌∷◌, ◌++◌, IfErr, IfOk, List, None, true, OnErr, OnOk, Some, [], cond, length, nat_eq, nat_lt, ℕ, ◌==◌, if◌then◌else◌};
 ghost use Rattle.std.specs.Option.{option_copied, option_map};
 ghost use Rattle.std.specs.Ordering.{nat_cmp};
 ghost use Rattle.std.specs.BTreeMap.{get};
 ghost use Rattle.std.specs.Str.{chars};
-ghost use Rattle.lp_objects.specs.Objects.{Named, is_live, killed, may_add, object_at, object_named, with_object};
+ghost use Rattle.lp_objects.specs.Objects.{Named, is_live, killed, live_count, max_live, may_add, object_at, object_named, with_object};
 ghost use Rattle.lp_objects.specs.Stands.{IsAdded, IsNotAdded, Stands, died_in, ended_entry, is_among, is_dead, known_at, last_number, next_clone_in};
 
 use crate::fault::ObjectFault;
@@ -106,6 +106,13 @@ impl Objects {
         }
     }
 
+    /// Whether one more object may be live: fewer than 100000 are. Takes no memory.
+    pub fn has_room(&self) -> bool
+        ensures { (objects : List Named) → Stands self.now objects → result ≡ nat_lt (live_count objects) max_live }
+    {
+        self.serials.len() < MAX_LIVE
+    }
+
     /// Makes an object, live and with the next serial. `NameTaken` comes exactly where a live object
     /// has the name, `TooMany` exactly where else 100000 objects are live. After a refusal all is as it was.
     pub fn add(&mut self, name: &str, program: ProgId) -> Result<ObjId, ObjectFault>
@@ -190,6 +197,17 @@ impl Objects {
     {
         take_out_all(&mut self.entries, self.died.as_slice());
         self.died.clear();
+    }
+
+    /// The number that the next clone gets; there is none exactly where the counter stands at its end,
+    /// 18446744073709551615. Takes no memory.
+    pub fn clone_number(&self) -> Option<u64>
+        ensures { result ≡ (if next_clone_in self.now == last_number then None else Some (next_clone_in self.now)) }
+    {
+        if self.clones == u64::MAX {
+            return None;
+        }
+        Some(self.clones)
     }
 
     /// The number of a new clone. None is given out twice; there is none exactly where the counter

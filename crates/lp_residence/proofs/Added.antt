@@ -21,7 +21,7 @@ use Rattle.lp_residence.specs.Adding.{AreRight, IsClosedAt, IsNewVersion, with_n
 abbrev pub IsTakenBack : {A : Type 0} → List A → List A → Type 0
 IsTakenBack {A} mid after = (rows : List A) (row : A) → mid ≡ rows ++ row ∷ [] → after ≡ rows
 
-module _ (live : Live) (raw : RawProgram) (p : ProgId) (mid after : List (Option Version)) (number : p.0 ≡ length live.versions) (added : IsVersionAdded live.versions mid live.clock raw) where
+module _ (live : Live) (file : List ℕ) (raw : RawProgram) (p : ProgId) (mid after : List (Option Version)) (number : p.0 ≡ length live.versions) (added : IsVersionAdded live.versions mid live.clock file raw) where
   last_there : (versions : List (Option Version)) → versions ≡ live.versions ++ Some added.version ∷ [] → row_at versions p.0 ≡ Some added.version
   last_there versions e =
       ap (λ vs. row_at vs p.0) e ∙ ap (λ n. row_at (live.versions ++ Some added.version ∷ []) n) number ∙ ap (λ o. unwrap_or o None) (get_end live.versions (Some added.version))
@@ -35,7 +35,7 @@ module _ (live : Live) (raw : RawProgram) (p : ProgId) (mid after : List (Option
       (subst (λ vs. IsVersionClosed vs p.0 added.version) e (right added.version (last_there after e)))))
   version_closed (Err x) h same right back = subst (λ vs. IsClosed (record live { versions = vs })) (sym (back live.versions (Some added.version) added.after)) h
 
-  pub version_new : {E : Type 0} (result : Result ProgId E) → OnOk result (after ≡ mid) → OnOk result (IsNewVersion live (record live { versions = after }) raw)
+  pub version_new : {E : Type 0} (result : Result ProgId E) → OnOk result (after ≡ mid) → OnOk result (IsNewVersion live (record live { versions = after }) file raw)
   version_new (Ok q) same = record { version = added.version; is = added.is; after = ap (λ vs. record live { versions = vs }) (same ∙ added.after) }
   version_new (Err x) same = tt
 
@@ -45,7 +45,7 @@ right_variables true l p vs v e n t = record { version = v; there = sym e; count
 right_variables false l p vs v e n t = tt
 
 named_closed : (live : Live) (table : Objects) → IsClosed live → IsClosed (with_names live table)
-named_closed live table h = record { clock = h.clock; cells = h.cells; objects = h.objects; apart = h.apart; versions = h.versions; call_outs = h.call_outs; waiting = h.waiting; room = h.room }
+named_closed live table h = record { clock = h.clock; cells = h.cells; objects = h.objects; apart = h.apart; versions = h.versions; call_outs = h.call_outs; waiting = h.waiting; placed = h.placed; numbered = h.numbered; room = h.room }
 
 module _ (live : Live) (p : ProgId) (vs : List Value) (objects : List (Option Object)) (new : Live) (added : objects ≡ live.objects ++ Some (new_object p live.clock vs) ∷ []) where
   abbrev mid : Live

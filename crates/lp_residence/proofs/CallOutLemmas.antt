@@ -6,7 +6,9 @@ use Rattle.lp_values.specs.declared.id.ObjId.{ObjId}
 use Rattle.lp_timers.specs.Timers.{CallOut, beat_off, by_due, call_outs_without, first_call_out, placed_by_due, watches_without, without_call_out}
 use Rattle.lp_timers.specs.Timing.{Timing, beats_left, watches_left}
 use Rattle.lp_timers.specs.Waiting.{earliest_of, without_this}
-use Rattle.lp_residence.specs.Ending.{AreNumberedOnce, timing_without}
+use Rattle.lp_world.specs.Closed.{AreNumberedOnce}
+use Rattle.lp_world.proofs.Numbering.{once_filter}
+use Rattle.lp_residence.specs.Ending.{timing_without}
 
 -- What holds of all holds of those that pass a test, in any order.
 module _ {A : Type 0} (P : A → Type 0) (p : A → Bool) where
@@ -64,14 +66,6 @@ each_alone (c ∷ cs) h =
     (All-cons (λ (d : CallOut). d.number ≡ c.number → d.object.0 ≡ c.object.0) c cs (λ e. refl)
     (All-weaker (λ (d : CallOut). d.number ≢ c.number) (λ (d : CallOut). d.number ≡ c.number → d.object.0 ≡ c.object.0) (λ d n e. absurd (n e)) cs h.0))
     (λ k d l. alone_more c (slice_index_or cs k d) cs (h.0 k d l) (i k d l))
-
-pub once_filter : (p : CallOut → Bool) (cs : List CallOut) → AreNumberedOnce cs → AreNumberedOnce (filter p cs)
-once_filter p [] h = tt
-once_filter p (c ∷ cs) h = kept (p c) (once_filter p cs h.1)
-  where
-    kept : (b : Bool) → AreNumberedOnce (filter p cs) → AreNumberedOnce (if b then c ∷ filter p cs else filter p cs)
-    kept true i = (all_filter (λ (d : CallOut). d.number ≢ c.number) p cs h.0, i)
-    kept false i = i
 
 -- without one of an object, the others' are the same
 cut : (x y : Bool) (c : CallOut) (o : ObjId) (xs ys : List CallOut) (p : CallOut → Bool) → filter p xs ≡ ys → (x ≡ false → p c ≡ false) → p c ≡ y

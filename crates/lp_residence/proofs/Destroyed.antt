@@ -25,7 +25,7 @@ use Rattle.lp_language.specs.World as world
 use Rattle.lp_language.specs.World.{World, is_live, new_world, no_object, object_at}
 use Rattle.lp_meaning.specs.IdleAndKept.{IsKept, by_child, by_object}
 use Rattle.lp_meaning.specs.WorldSteps.{connection_of, dead, destructed, without_connection_if, without_object}
-use Rattle.lp_world.specs.Closed.{IsClosed, IsObjectClosed, extents_of, object_extents, version_extents}
+use Rattle.lp_world.specs.Closed.{ArePlaced, IsClosed, IsObjectClosed, extents_of, object_extents, version_extents}
 use Rattle.lp_world.specs.Connecting.{Connecting}
 use Rattle.lp_world.specs.Rows.{is_live_row, is_out_state, live_in, object_ticket, row_after_death, row_at, state_in}
 use Rattle.lp_world.specs.Stands.{IsObject, ObjectIs, Stands, named_of, waiting_of}
@@ -37,6 +37,7 @@ use Rattle.lp_world.specs.declared.objects.Object.{Object}
 use Rattle.lp_world.specs.declared.objects.ObjectState.{ObjectState}
 use Rattle.lp_world.specs.declared.objects.ObjectState.TheVariants as objects_of
 use Rattle.lp_world.proofs.Keeping.{get_set, get_set_here, same_or_not}
+use Rattle.lp_world.proofs.Numbering.{numbered_filter}
 use Rattle.lp_residence.specs.Ending.{timing_without, without_number}
 use Rattle.lp_residence.specs.Entering.{AreTakenWithout}
 use Rattle.lp_residence.specs.Owners.{ticket_of_state}
@@ -283,8 +284,8 @@ still_taken live o row r (objects_of.Swapped u shared own) e h g t =
     (t (extents_of (slice_set live.objects o.0 None) live.versions) (extents_without live o row None u h g (ap object_ticket e) refl))
 
 pub closed_destroyed : (live : Live) (o : ObjId) (row : Object) (n : Objects) (p : Places) (a : Actions) (k : Option ℕ) (r : Room)
-    → IsClosed live → row_at live.objects o.0 ≡ Some row → AreTakenWithout (ticket_of_state (state_in (row_at live.objects o.0))) live.swapper r → IsClosed (ended live o n p a k r)
-closed_destroyed live o row n p a k r h e t = record {
+    → IsClosed live → ArePlaced p → row_at live.objects o.0 ≡ Some row → AreTakenWithout (ticket_of_state (state_in (row_at live.objects o.0))) live.swapper r → IsClosed (ended live o n p a k r)
+closed_destroyed live o row n p a k r h left e t = record {
   clock = h.clock;
   cells = h.cells;
   objects = each;
@@ -292,6 +293,8 @@ closed_destroyed live o row n p a k r h e t = record {
   versions = h.versions;
   call_outs = all_filter (λ (c : CallOut). All (IsThere live.cells) c.arguments) (λ c. not (nat_eq c.object.0 o.0)) live.timers.call_outs h.call_outs;
   waiting = waiting_closed live k h.waiting;
+  placed = left;
+  numbered = numbered_filter (λ c. not (nat_eq c.object.0 o.0)) live.timers (timing_without live.timers o) refl refl h.numbered;
   room = subst (λ x. AreTaken (extents_of (slice_set live.objects o.0 (row_after_death x)) live.versions) r) (sym e)
       (still_taken live o row r row.state refl h there (subst (λ x. AreTakenWithout (ticket_of_state (state_in x)) live.swapper r) e t));
 }

@@ -95,6 +95,7 @@ stands_still old new programs live w taken written h = record {
     each = λ n v e. let is = h.versions.each n v e in record {
       version = is.version;
       there = is.there;
+      path = is.path;
       latest = is.latest;
       parents = is.parents;
       program = is.program;

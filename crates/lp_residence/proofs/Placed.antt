@@ -7,7 +7,8 @@ use Rattle.lp_values.specs.declared.id.ObjId.{ObjId}
 use Rattle.lp_places.specs.Places.{Lying, Shadowing, environment, in_reach}
 use Rattle.lp_places.specs.Stands.{Stands}
 use Rattle.lp_places.specs.declared.places.Places.{Places}
-use Rattle.lp_residence.specs.Ending.{ArePlaced, place_in, reached_in, reaches_by}
+use Rattle.lp_world.specs.Closed.{ArePlaced}
+use Rattle.lp_residence.specs.Ending.{place_in, reached_in, reaches_by}
 
 -- two objects that there may be are one in one way
 pub option_object_set : (a b : Option ObjId) → IsProp (a ≡ b)

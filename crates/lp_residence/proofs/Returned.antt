@@ -139,6 +139,7 @@ stands_returned told programs live w p raw t e is h =
     (stands_with_version told programs live w p.0 r.0 (back_version r.0 raw) h there (record {
       version = was.version;
       there = was.there;
+      path = was.path;
       latest = was.latest;
       parents = was.parents;
       program = was.program;

@@ -83,6 +83,8 @@ closed_with_row live n row new room h e c taken = record {
   versions = h.versions;
   call_outs = h.call_outs;
   waiting = h.waiting;
+  placed = h.placed;
+  numbered = h.numbered;
   room = taken;
 }
   where

@@ -129,6 +129,8 @@ closed_with_version live n v new room h e o c taken = record {
   ];
   call_outs = h.call_outs;
   waiting = h.waiting;
+  placed = h.placed;
+  numbered = h.numbered;
   room = taken;
 }
   where

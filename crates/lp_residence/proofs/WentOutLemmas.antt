@@ -190,6 +190,7 @@ stands_out_version told programs live w n v p encoding t h e r encodes out =
     stands_with_version told programs live w n v (out_version v t) h e (record {
       version = is.version;
       there = is.there;
+      path = is.path;
       latest = is.latest;
       parents = is.parents;
       program = is.program;
@@ -288,7 +289,7 @@ stands_after_put who old new told0 told (Err e) programs w p f c is h = subst (�
 
 -- a closed state in another room
 closed_in_room : (live : Live) (r : Room) → IsClosed live → AreTaken (extents_of live.objects live.versions) r → IsClosed (with_room live r)
-closed_in_room live r h t = record { clock = h.clock; cells = h.cells; objects = h.objects; apart = h.apart; versions = h.versions; call_outs = h.call_outs; waiting = h.waiting; room = t }
+closed_in_room live r h t = record { clock = h.clock; cells = h.cells; objects = h.objects; apart = h.apart; versions = h.versions; call_outs = h.call_outs; waiting = h.waiting; placed = h.placed; numbered = h.numbered; room = t }
 
 -- and it is closed
 pub closed_after_put : (who : Owner) (old new : Live) (told : Option Bytes) (r : Result PutOut AllocError)

@@ -17,10 +17,11 @@ use Rattle.lp_world.specs.Rows.{row_at}
 use Rattle.lp_world.specs.declared.live.Live.{Live}
 use Rattle.lp_world.specs.declared.versions.Version.{Version}
 
--- A version of a program comes behind the others, made at the state's clock, and all else is as it was.
-pub record IsNewVersion (old new : Live) (p : RawProgram) : Type 0 where
+-- A version of a program that was compiled from a file comes behind the others, made at the state's clock, and all else is as
+-- it was.
+pub record IsNewVersion (old new : Live) (file : List ℕ) (p : RawProgram) : Type 0 where
   pub version : Version
-  pub is : IsVersionOf old.clock p version
+  pub is : IsVersionOf old.clock file p version
   pub after : new ≡ with_new_version old version
 
 -- a version that is there is closed

@@ -1,25 +1,13 @@
 -- The end of an object.
-use Rattle.std.specs.Prelude.{◌≢◌, ℕ, List, [], ◌∷◌, Bool, false, ⊤, ◌||◌, All, Option, Some, None, filter, nat_eq, not}
+use Rattle.std.specs.Prelude.{ℕ, Bool, false, ◌||◌, Option, Some, None, filter, nat_eq, not}
 use Rattle.std.specs.Ordering.{nat_cmp}
 use Rattle.std.specs.BTreeMap.{get}
 use Rattle.lp_values.specs.declared.id.ObjId.{ObjId}
-use Rattle.lp_places.specs.Places.{Lying, Shadowing, is_at, is_object}
-use Rattle.lp_places.specs.Stands as places
+use Rattle.lp_places.specs.Places.{is_at, is_object}
 use Rattle.lp_places.specs.declared.places.Places.{Places}
-use Rattle.lp_timers.specs.Timers.{CallOut, beat_off, call_outs_without, watches_without}
+use Rattle.lp_timers.specs.Timers.{beat_off, call_outs_without, watches_without}
 use Rattle.lp_timers.specs.Timing.{Timing}
 use Rattle.lp_world.specs.Connecting.{Connecting}
-
--- the places stand for what lies where, and for what shadows what
-pub record ArePlaced (t : Places) : Type 0 where
-  pub lyings : List Lying
-  pub shadowings : List Shadowing
-  pub stands : places.Stands t lyings shadowings
-
--- No two call-outs have one number.
-abbrev pub AreNumberedOnce : List CallOut → Type 0
-AreNumberedOnce [] = ⊤
-AreNumberedOnce (c ∷ cs) = All (λ (d : CallOut). d.number ≢ c.number) cs × AreNumberedOnce cs
 
 -- what is to come without what is of an object
 abbrev pub timing_without : Timing → ObjId → Timing

@@ -18,6 +18,7 @@ use crate::unpacking::are_fit;
 use lp_cells::content::Items;
 use lp_objects::fault::ObjectFault;
 use lp_values::id::{ObjId, ProgId};
+use lp_values::text::Text;
 use lp_values::value::Value;
 use lp_world::live::Live;
 use lp_world::shared::SharedProgram;
@@ -192,18 +193,22 @@ fn keep_right(versions: &mut VersionTable, alloc: Global, p: ProgId) -> Result<P
     }
 }
 
-/// A version of a program in memory comes to the state, with the next number and made at its clock. After want
-/// of memory nothing has changed. It also comes where the program names what is not there: a parent without a
-/// version or with a higher number, a function of a part or a slot of a parent that has none such, other parts
-/// than those of its parents and itself, or fewer variables than they have.
-pub fn add_version(live: &mut Live, program: SharedProgram) -> Result<ProgId, AllocError>
+/// A version of a program in memory that was compiled from the file with a path comes to the state, with the next
+/// number and made at its clock. After want of memory nothing has changed. It also comes where the program names
+/// what is not there: a parent without a version or with a higher number, a function of a part or a slot of a
+/// parent that has none such, other parts than those of its parents and itself, or fewer variables than they have.
+pub fn add_version(
+    live: &mut Live,
+    path: Text,
+    program: SharedProgram,
+) -> Result<ProgId, AllocError>
     requires closed { IsClosed live.old }
     ensures number { IfOk result (λ p. p.0 ≡ length live.old.versions) }
-    ensures ok { OnOk result (IsNewVersion live.old live.new program) }
+    ensures ok { OnOk result (IsNewVersion live.old live.new path program) }
     ensures err { OnErr result (live.new ≡ live.old) }
     ensures closed { IsClosed live.new }
 {
-    let number = live.versions.add(live.alloc, live.clock, program)?;
+    let number = live.versions.add(live.alloc, live.clock, path, program)?;
     keep_right(&mut live.versions, live.alloc, number)
 }
 

@@ -8,10 +8,10 @@ ghost use Rattle.lp_meaning.specs.WorldSteps.{connection_of, destructed};
 ghost use Rattle.lp_places.specs.Places.{Lying, Shadowing, places_without, shadows_without};
 ghost use Rattle.lp_places.specs.Stands.{Stands as Place};
 ghost use Rattle.lp_swapfile.specs.Device.{Bytes};
-ghost use Rattle.lp_world.specs.Closed.{IsClosed};
+ghost use Rattle.lp_world.specs.Closed.{AreNumberedOnce, ArePlaced, IsClosed};
 ghost use Rattle.lp_world.specs.Rows.{live_in, row_after_death, row_at, state_in};
 ghost use Rattle.lp_world.specs.Stands.{Stands};
-ghost use Rattle.lp_residence.specs.Ending.{AreNumberedOnce, ArePlaced, timing_without, without_number};
+ghost use Rattle.lp_residence.specs.Ending.{timing_without, without_number};
 ghost use Rattle.lp_residence.specs.Entering.{AreTakenWithout, CanGiveBack, room_back};
 ghost use Rattle.lp_residence.specs.Owners.{ticket_at, ticket_of_state};
 ghost use Rattle.lp_residence.specs.declared.owner.Owner.TheVariants as owners;
@@ -83,13 +83,9 @@ fn free_room(swapper: &mut Swapper, objects: &ObjectTable, ob: ObjId)
 /// object that is out is free.
 pub fn destroy(live: &mut Live, ob: ObjId) -> Option<u32>
     requires closed { IsClosed live.old }
-    requires placed { ArePlaced live.old.places }
-    requires numbered { AreNumberedOnce live.old.timers.call_outs }
     requires live { live_in live.old.objects ob ≡ true }
     ensures stands { (told : Option Bytes) (programs : List Raw) (w : World) → Stands told programs live.old w → Stands told programs live.new (destructed w ob) × (result ≡ connection_of w ob) }
     ensures closed { IsClosed live.new }
-    ensures placed { ArePlaced live.new.places }
-    ensures numbered { AreNumberedOnce live.new.timers.call_outs }
     ensures room { live.new.swapper ≡ room_back (ticket_at live.old (owners.Object ob)) live.old.swapper }
     ensures row { live.new.objects ≡ slice_set live.old.objects ob.0 (row_after_death (row_at live.old.objects ob.0)) }
     ensures cells { live.new.cells ≡ live.old.cells }

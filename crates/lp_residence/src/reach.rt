@@ -1,7 +1,8 @@
 //! Who is in reach of whom, by the places.
 ghost use Rattle.std.specs.Prelude.{◌≡◌};
 ghost use Rattle.lp_places.specs.Places.{is_at, is_object};
-ghost use Rattle.lp_residence.specs.Ending.{ArePlaced, is_beside, place_in, reaches_by};
+ghost use Rattle.lp_residence.specs.Ending.{is_beside, place_in, reaches_by};
+ghost use Rattle.lp_world.specs.Closed.{ArePlaced};
 
 use lp_actions::reach::Reach;
 use lp_places::places::Places;

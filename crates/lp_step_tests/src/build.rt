@@ -1,57 +1,22 @@
-//! A state without objects, and a function on it.
-ghost use Rattle.lp_world.specs.Closed.{IsClosed};
-
-use lp_actions::actions::Actions;
-use lp_cells::cells::Cells;
+//! Programs of one function.
 use lp_code::listed::Listed;
 use lp_code::name::Name;
 use lp_code::program::{FunRow, Program, RawProgram, SwitchRow};
 use lp_code::slots::Slots;
-use lp_code::tables::Tables;
-use lp_events::out::Outs;
-use lp_files::store::Store;
+use lp_code::tables::{Slot, Tables};
 use lp_instr::instr::{Case, Instr};
-use lp_objects::objects::Objects;
-use lp_places::places::Places;
 use lp_step::fault::StepFault;
-use lp_swapper::Swapper;
-use lp_timers::timers::Timers;
+use lp_tree::keyword::Base;
 use lp_tree::path::FilePath;
 use lp_tree::pragma::Pragmas;
+use lp_tree::types::TypeName;
 use lp_values::id::{ObjId, ProgId};
 use lp_values::text::Text;
 use lp_verify::fault::VerifyFault;
 use lp_verify::verify::verify;
-use lp_world::connections::Connections;
 use lp_world::frame::Frame;
-use lp_world::live::Live;
-use lp_world::objects::ObjectTable;
 use lp_world::shared::SharedProgram;
-use lp_world::versions::VersionTable;
 use std::alloc::{AllocError, Global};
-
-/// A state without objects. It names nothing.
-pub fn empty_state(alloc: Global) -> Live
-    ensures { IsClosed result }
-{
-    Live {
-        alloc,
-        names: Objects::new(alloc),
-        objects: ObjectTable::new(alloc),
-        versions: VersionTable::new(alloc),
-        cells: Cells::new(alloc),
-        store: Store::new(alloc),
-        places: Places::new(alloc),
-        actions: Actions::new(alloc),
-        timers: Timers::new(alloc),
-        connections: Connections::new(alloc),
-        simul: None,
-        outputs: Outs::new(alloc),
-        clock: 0,
-        generator: 0,
-        swapper: Swapper::new(alloc),
-    }
-}
 
 /// The switches of a program: one where its code has one. From 1 to 3 it goes on at 3, at the second text at 5,
 /// and else at 7.
@@ -76,6 +41,33 @@ fn texts(alloc: Global) -> Result<Vec<Text>, AllocError> {
     ]?)
 }
 
+/// The row of the function in the table of names.
+fn slot(alloc: Global) -> Result<Slot, AllocError> {
+    Ok(Slot {
+        name: Name::from_str(alloc, "f")?,
+        part: 0,
+        fun: 0,
+        mods: 4,
+        answer: TypeName {
+            base: Base::Mixed,
+            stars: 0,
+        },
+        params: Listed::from_vec(Vec::new(alloc)),
+    })
+}
+
+/// Tables of one name and one parent.
+fn tables(alloc: Global) -> Result<Tables, AllocError> {
+    Ok(Tables {
+        path: FilePath::from_str(alloc, "/a")?,
+        parents: Listed::from_vec(vec![in alloc; ProgId(0)]?),
+        parts: Listed::from_vec(vec![in alloc; ProgId(0), ProgId(1)]?),
+        slots: Slots::from_vec(alloc, vec![in alloc; slot(alloc)?]?)?,
+        vars: Listed::from_vec(Vec::new(alloc)),
+        pragmas: Pragmas::new(),
+    })
+}
+
 /// A program of one function with three locals, which begins with the first of these instructions.
 fn raw_program(alloc: Global, instrs: &[Instr]) -> Result<RawProgram, AllocError> {
     let function = FunRow {
@@ -89,14 +81,7 @@ fn raw_program(alloc: Global, instrs: &[Instr]) -> Result<RawProgram, AllocError
         consts: Listed::from_vec(texts(alloc)?),
         switches: Listed::from_vec(switches(alloc, instrs)?),
         funs: Listed::from_vec(vec![in alloc; function]?),
-        tables: Tables {
-            path: FilePath::from_str(alloc, "/a")?,
-            parents: Listed::from_vec(Vec::new(alloc)),
-            parts: Listed::from_vec(vec![in alloc; ProgId(1)]?),
-            slots: Slots::from_vec(alloc, Vec::new(alloc))?,
-            vars: Listed::from_vec(Vec::new(alloc)),
-            pragmas: Pragmas::new(),
-        },
+        tables: tables(alloc)?,
         max_height: 25000,
     })
 }

@@ -4,13 +4,14 @@ ghost use Rattle.lp_cells.specs.Cells.{IsThere, Store};
 ghost use Rattle.lp_instr.specs.Sound as sound;
 ghost use Rattle.lp_step.specs.Steps.{CanStep, Finds, IsFit, instr_at};
 
-use crate::build::{empty_state, frame};
+use crate::build::frame;
 use lp_instr::instr::{EndKind, Instr};
 use lp_step::fault::StepFault;
-use lp_step::next::Next;
+use lp_step::next::{CallOf, EfunCall, Next};
 use lp_step::step::step;
 use lp_values::error::ErrorKind;
 use lp_values::value::Value;
+use lp_world::additions::empty_state;
 use lp_world::frame::Frame;
 use lp_world::live::Live;
 use std::alloc::{AllocError, Global};
@@ -25,7 +26,9 @@ pub enum Course {
     /// An error.
     Error(ErrorKind),
     /// A call.
-    Calls,
+    Calls(CallOf),
+    /// A call of an efun.
+    Efun(EfunCall),
     /// The budget is spent.
     Spent,
     /// It is unsound, does not find its operands, or comes to no end in thirty thousand instructions.
@@ -145,8 +148,8 @@ fn advance(
         Next::Done(v) => Ok(Some(course_of(&v))),
         Next::Error(e) => Ok(Some(Course::Error(e.kind))),
         Next::Spent => Ok(Some(Course::Spent)),
-        Next::Call(_) => Ok(Some(Course::Calls)),
-        Next::Back(_) => Ok(Some(Course::Calls)),
+        Next::Call(c) => Ok(Some(Course::Calls(c))),
+        Next::Back(c) => Ok(Some(Course::Efun(c))),
     }
 }
 
@@ -180,7 +183,7 @@ pub fn run_alone(alloc: Global, instrs: &[Instr], budget: u64) -> Result<(Course
         return Ok((Course::Stuck, budget));
     };
     let mut frame = frame;
-    let mut live = empty_state(alloc);
+    let mut live = empty_state(alloc, 0, 0);
     let mut stack = locals(alloc)?;
     let mut left = budget;
     let course = run(&mut live, &mut stack, &mut frame, &mut left)?;

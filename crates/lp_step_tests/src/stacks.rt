@@ -1,6 +1,8 @@
 //! Values on the stack, jumps, turns, catches and operators.
 use crate::running::{Course, run_alone};
+use lp_instr::efun::Efun;
 use lp_instr::instr::Instr;
+use lp_step::next::{CallOf, EfunCall, Target};
 use lp_tree::operator::{BinOp, Step as Count, UnOp};
 use lp_values::error::ErrorKind;
 use std::alloc::Global;
@@ -185,10 +187,67 @@ fn jumps(rt: HostRuntime) -> Result<(), Fail> {
                 30,
             ),
             (&[LoopTurn, Jump(0)], Course::Spent, 1000),
-            (&[CallOther(0), Return], Course::Stuck, 0),
+        ],
+    )
+}
+
+// A call with so many arguments.
+fn call(target: Target, args: u32) -> Course {
+    Course::Calls(CallOf { target, args })
+}
+
+// A call of an efun with so many arguments.
+fn efun(efun: Efun, args: u32) -> Course {
+    Course::Efun(EfunCall { efun, args })
+}
+
+#[test]
+fn calls(rt: HostRuntime) -> Result<(), Fail> {
+    use Instr::*;
+    come_to(
+        &rt,
+        rt.alloc(),
+        &[
+            (&[CallSlot(0, 0), Return], call(Target::Slot(0), 0), 0),
+            (
+                &[PushInt(1), PushInt(2), CallSlot(0, 2), Return],
+                call(Target::Slot(0), 2),
+                0,
+            ),
+            (&[CallSlot(1, 0), Return], Course::Stuck, 0),
+            (&[CallSlot(0, 1), Return], Course::Stuck, 0),
+            (
+                &[PushInt(1), CallFixed(0, 5, 1), Return],
+                call(Target::Fixed(0, 5), 1),
+                0,
+            ),
+            (&[CallFixed(1, 0, 0), Return], Course::Stuck, 0),
             (
                 &[PushInt(0), PushInt(0), CallOther(0), Return],
-                Course::Calls,
+                call(Target::Other, 0),
+                0,
+            ),
+            (
+                &[PushInt(0), PushInt(0), PushInt(3), CallOther(1), Return],
+                call(Target::Other, 1),
+                0,
+            ),
+            (&[PushInt(0), CallOther(0), Return], Course::Stuck, 0),
+            (
+                &[PushInt(1), CallSimul(3, 1), Return],
+                call(Target::Simul(3), 1),
+                0,
+            ),
+            (&[CallSimul(4, 0), Return], Course::Stuck, 0),
+            (&[CallEfun(Efun::Time, 0), Return], efun(Efun::Time, 0), 0),
+            (
+                &[PushInt(3), CallEfun(Efun::Random, 1), Return],
+                efun(Efun::Random, 1),
+                0,
+            ),
+            (
+                &[PushInt(3), CallEfun(Efun::Time, 1), Return],
+                Course::Stuck,
                 0,
             ),
         ],
@@ -257,6 +316,58 @@ fn operators(rt: HostRuntime) -> Result<(), Fail> {
             ),
         ],
     )
+}
+
+// What an operator gives on two integers.
+fn binary(alloc: Global, a: i64, op: BinOp, b: i64) -> Result<Course, Fail> {
+    let instrs = [
+        Instr::PushInt(a),
+        Instr::PushInt(b),
+        Instr::Binary(op),
+        Instr::Return,
+    ];
+    let (found, _) = run_alone(alloc, &instrs, 1)?;
+    Ok(found)
+}
+
+#[test]
+fn integers(rt: HostRuntime) -> Result<(), Fail> {
+    let rows = [
+        (7, BinOp::Add, -9, Course::Int(-2)),
+        (i64::MIN, BinOp::Sub, 1, Course::Error(ErrorKind::Overflow)),
+        (3, BinOp::Mul, -4, Course::Int(-12)),
+        (
+            3037000500,
+            BinOp::Mul,
+            3037000500,
+            Course::Error(ErrorKind::Overflow),
+        ),
+        (-7, BinOp::Div, 2, Course::Int(-3)),
+        (7, BinOp::Div, 0, Course::Error(ErrorKind::ZeroDivisor)),
+        (i64::MIN, BinOp::Div, -1, Course::Error(ErrorKind::Overflow)),
+        (-7, BinOp::Rem, 2, Course::Int(-1)),
+        (i64::MIN, BinOp::Rem, -1, Course::Int(0)),
+        (12, BinOp::And, 10, Course::Int(8)),
+        (12, BinOp::Or, 10, Course::Int(14)),
+        (-1, BinOp::Xor, 10, Course::Int(-11)),
+        (1, BinOp::Shl, 63, Course::Int(i64::MIN)),
+        (1, BinOp::Shl, 64, Course::Int(0)),
+        (1, BinOp::Shl, -1, Course::Error(ErrorKind::BadOperands)),
+        (-8, BinOp::Shr, 1, Course::Int(-4)),
+        (-8, BinOp::Shr, 64, Course::Int(-1)),
+        (8, BinOp::Shr, -1, Course::Error(ErrorKind::BadOperands)),
+        (2, BinOp::Lt, 2, Course::Int(0)),
+        (2, BinOp::Le, 2, Course::Int(1)),
+        (2, BinOp::Gt, 1, Course::Int(1)),
+        (2, BinOp::Ge, 3, Course::Int(0)),
+        (2, BinOp::Eq, 3, Course::Int(0)),
+        (2, BinOp::Ne, 3, Course::Int(1)),
+    ];
+    for (a, op, b, want) in rows {
+        let found = binary(rt.alloc(), a, op, b)?;
+        assert!(rt; found == want, "{a} {op:?} {b} comes to {found:?}");
+    }
+    Ok(())
 }
 
 #[test]

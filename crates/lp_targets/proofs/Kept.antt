@@ -105,6 +105,7 @@ kept_stands told programs live w new p part slot answer h k is =
     (stands_with_version told programs live w p.0 v (record v { targets = k.targets }) h k.there (record {
       version = was.version;
       there = was.there;
+      path = was.path;
       latest = was.latest;
       parents = was.parents;
       program = was.program;

@@ -67,7 +67,7 @@ seen_below parts n (r ∷ rs) w k e = go (is_seen parts r) (seen_below parts (su
     go true ih f = here (last_number (seen parts (suc n) rs) w) (is_name r.name w) ih f
     go false ih f = let q = ih k f in omega (arith, q)
 
-counted : (hs : Heritages) → variables_before hs ≡ variables_in (tables hs)
+pub counted : (hs : Heritages) → variables_before hs ≡ variables_in (tables hs)
 counted NoParent = refl
 counted (OneParent h hs) = ap (λ n. n + variables_before hs) (sym (count_variables h)) ∙ ap (λ n. length (table h).vars + n) (counted hs)
 

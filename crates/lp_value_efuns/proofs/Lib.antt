@@ -1,6 +1,7 @@
 pub mod ArgumentLemmas
 pub mod FitLemmas
 pub mod FormatLemmas
+pub mod LeadingLemmas
 pub mod ListLemmas
 pub mod MeaningLemmas
 pub mod PriceLemmas

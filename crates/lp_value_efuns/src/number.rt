@@ -6,7 +6,8 @@ ghost use Rattle.lp_values.specs.declared.id.ObjId.{ObjId};
 ghost use Rattle.lp_cells.specs.Cells.{IsThere, Store};
 ghost use Rattle.lp_ops.specs.Integers.{int, whole};
 ghost use Rattle.lp_ops.specs.Operands.{opened};
-ghost use Rattle.lp_meaning.specs.ComputingEfuns.{leading_int, leading_number, sign_len, sizeof, to_int};
+ghost use Rattle.lp_meaning.specs.ComputingEfuns.{leading_digits, leading_int, leading_number, sign_len, sizeof, to_int};
+ghost use Rattle.lp_text.specs.Scans.{digits_number};
 
 use crate::argument::bad;
 use lp_cells::cells::Cells;
@@ -14,7 +15,6 @@ use lp_instr::efun::Efun;
 use lp_ops::effect::Effect;
 use lp_ops::int::{int, whole};
 use lp_text::form::{point, rest_of};
-use lp_text::scan::{digit_count, magnitude};
 use lp_values::value::{Living, Value};
 use std::alloc::{AllocError, Global};
 
@@ -84,8 +84,28 @@ fn leading_int(s: &[char]) -> Option<i64>
 fn leading_number(s: &[char]) -> Option<u64>
     ensures { SomeIff result (leading_number s.now ≤ 2 ^ 63) (leading_number s.now) }
 {
-    let rest = rest_of(s, sign_len(s));
-    magnitude(&rest[..digit_count(rest)])
+    leading_magnitude(rest_of(s, sign_len(s)))
+}
+
+/// The number that the digits write with which a text begins, if it is at most 2^63. Looks at no digit behind the one
+/// with which the number passes that, so at 20 at most behind leading zeros.
+fn leading_magnitude(s: &[char]) -> Option<u64>
+    ensures { SomeIff result (digits_number (leading_digits s.now) ≤ 2 ^ 63) (digits_number (leading_digits s.now)) }
+{
+    let mut n: u64 = 0;
+    for c in s {
+        if !c.is_ascii_digit() {
+            return Some(n);
+        }
+        if n > 922337203685477580 {
+            return None;
+        }
+        n = n * 10 + (*c as u64).saturating_sub(48);
+        if n > 9223372036854775808 {
+            return None;
+        }
+    }
+    Some(n)
 }
 
 /// A number as an integer, if it fits.

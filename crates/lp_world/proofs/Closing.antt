@@ -2,7 +2,7 @@
 use Rattle.std.proofs.Common.{◌≡◌, ◌++◌, ℕ, suc, zero, List, [], ◌∷◌, Option, Some, None, refl, ap, ◌∙◌, sym, subst, inl, inr, slice_get, unwrap_or, length, IsSome, All, option_map, option_to_list}
 use Rattle.std.specs.Prelude.{slice_set}
 use Rattle.std.specs.List.{flat_map}
-use Rattle.std.proofs.lemmas.List.Elements.{All-nil, All-set, All-weaker}
+use Rattle.std.proofs.lemmas.List.Elements.{All-append, All-cons, All-nil, All-set, All-weaker}
 use Rattle.std.proofs.Math.ListN.{length-set}
 use Rattle.lp_values.specs.declared.id.CellId.{CellId}
 use Rattle.lp_values.specs.declared.value.Value.{Value}
@@ -11,15 +11,18 @@ use Rattle.lp_cells.specs.Cells.{IsThere, KeepsThere, Store, as_items, as_pairs,
 use Rattle.lp_cells.specs.declared.content.Content.{Content}
 use Rattle.lp_cells.specs.declared.content.Content.TheVariants.{Array, Mapping}
 use Rattle.lp_timers.specs.Timers.{CallOut}
+use Rattle.lp_timers.specs.Timing.{Timing}
 use Rattle.lp_swapfile.specs.Room.{AreTaken}
 use Rattle.lp_swapper.specs.Swap.{extent_of}
 use Rattle.lp_world.specs.declared.connections.Waiting.{Waiting}
+use Rattle.lp_world.specs.declared.live.Live.{Live}
 use Rattle.lp_world.specs.declared.objects.Object.{Object}
 use Rattle.lp_world.specs.declared.objects.ObjectState.TheVariants as objects_of
-use Rattle.lp_world.specs.Closed.{IsObjectClosed, object_extents, version_extents}
-use Rattle.lp_world.specs.Laws.{CellsStayClosed, VariablesStayClosed}
+use Rattle.lp_world.specs.Closed.{AreNumbered, IsClosed, IsObjectClosed, object_extents, version_extents}
+use Rattle.lp_world.specs.Laws.{CallOutStaysClosed, CellsStayClosed, PlacesStayClosed, VariablesStayClosed, with_call_out}
 use Rattle.lp_world.specs.Rows.{object_ticket, own_in, own_of, row_at, shared_of, variables_of, with_value}
 use Rattle.lp_world.proofs.Keeping.{get_set, get_set_here, same_or_not}
+use Rattle.lp_world.proofs.Numbering.{numbered_more}
 
 some_items : (o : Option Content) → IsSome (as_items o) → IsSome o
 some_items None h = cc
@@ -49,6 +52,8 @@ closed_with_cells live part h k closed = record {
   versions = h.versions;
   call_outs = All-weaker (λ (c : CallOut). All (IsThere live.cells) c.arguments) (λ (c : CallOut). All (IsThere part) c.arguments) (λ c a. All-weaker (IsThere live.cells) (IsThere part) k c.arguments a) live.timers.call_outs h.call_outs;
   waiting = All-weaker (λ (x : Waiting). All (IsThere live.cells) x.arguments) (λ (x : Waiting). All (IsThere part) x.arguments) (λ x a. All-weaker (IsThere live.cells) (IsThere part) k x.arguments a) live.connections.waiting h.waiting;
+  placed = h.placed;
+  numbered = h.numbered;
   room = h.room;
 }
 
@@ -74,6 +79,8 @@ closed_with_variable live o row vs k v h e r t = record {
   versions = h.versions;
   call_outs = h.call_outs;
   waiting = h.waiting;
+  placed = h.placed;
+  numbered = h.numbered;
   room = subst (λ l. AreTaken (l ++ flat_map version_extents live.versions) live.swapper)
       (sym (extents_set live.objects o.0 (Some row) (Some new) e (sym (ap (λ s. option_to_list (option_map extent_of (object_ticket s))) r)))) h.room;
 }
@@ -107,3 +114,39 @@ closed_with_variable live o row vs k v h e r t = record {
           ∙ sym (ap own_of r) ∙ ap (λ o. own_in (unwrap_or o None)) (sym e) ∙ ap (λ n. own_in (row_at live.objects n)) q
       | inr d ↦ ap (λ o. own_in (unwrap_or o None)) (get_set live.objects o.0 n (Some new) d)
     ]
+
+pub closed_with_places : PlacesStayClosed
+closed_with_places live t h p = record {
+  clock = h.clock;
+  cells = h.cells;
+  objects = h.objects;
+  apart = h.apart;
+  versions = h.versions;
+  call_outs = h.call_outs;
+  waiting = h.waiting;
+  placed = p;
+  numbered = h.numbered;
+  room = h.room;
+}
+
+pub closed_with_timers : (live : Live) (t : Timing) → IsClosed live → All (λ (c : CallOut). All (IsThere live.cells) c.arguments) t.call_outs → AreNumbered t → IsClosed (record live { timers = t })
+closed_with_timers live t h a n = record {
+  clock = h.clock;
+  cells = h.cells;
+  objects = h.objects;
+  apart = h.apart;
+  versions = h.versions;
+  call_outs = a;
+  waiting = h.waiting;
+  placed = h.placed;
+  numbered = n;
+  room = h.room;
+}
+
+pub closed_with_call_out : CallOutStaysClosed
+closed_with_call_out live o function due vs h a =
+    let c : CallOut = record { number = live.timers.next; object = o; function = function; due = due; arguments = vs } in
+    closed_with_timers live (with_call_out live.timers o function due vs) h
+    (All-append (λ (x : CallOut). All (IsThere live.cells) x.arguments) live.timers.call_outs (c ∷ []) h.call_outs
+    (All-cons (λ (x : CallOut). All (IsThere live.cells) x.arguments) c [] a (All-nil (λ (x : CallOut). All (IsThere live.cells) x.arguments))))
+    (numbered_more live.timers (with_call_out live.timers o function due vs) c refl refl refl h.numbered)

@@ -105,6 +105,8 @@ closed_with_new_version live v p h e c = record {
   ];
   call_outs = h.call_outs;
   waiting = h.waiting;
+  placed = h.placed;
+  numbered = h.numbered;
   room = subst (λ l. AreTaken (flat_map object_extents live.objects ++ l) live.swapper)
       (sym (extents_kept version_extents live.versions (Some v) (ap (λ s. option_to_list (option_map extent_of (program_ticket s))) e))) h.room;
 }
@@ -130,6 +132,8 @@ closed_with_new_object live p time vs version h there count values = record {
   versions = h.versions;
   call_outs = h.call_outs;
   waiting = h.waiting;
+  placed = h.placed;
+  numbered = h.numbered;
   room = subst (λ l. AreTaken (l ++ flat_map version_extents live.versions) live.swapper) (sym (extents_kept object_extents live.objects (Some new) refl)) h.room;
 }
   where

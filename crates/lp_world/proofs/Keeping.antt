@@ -224,7 +224,7 @@ named_set (z ∷ xs) zero x y e q =
 named_set (z ∷ xs) (suc n) x y e q = ap (λ l. named_of z ∷ l) (named_set xs n x y e q)
 
 -- the object of the world behind a row that is there
-object_behind : (told : Option Bytes) (part whole : Store) (n : ℕ) (row : Object) (o : Option world.Object) → ObjectIs told part whole n (Some (Some row)) o → (x : world.Object) × (o ≡ Some x) × IsObject told part whole n row x
+pub object_behind : (told : Option Bytes) (part whole : Store) (n : ℕ) (row : Object) (o : Option world.Object) → ObjectIs told part whole n (Some (Some row)) o → (x : world.Object) × (o ≡ Some x) × IsObject told part whole n row x
 object_behind told part whole n row None h = absurd h
 object_behind told part whole n row (Some x) h = (x, refl, h)
 

@@ -14,18 +14,19 @@ use Rattle.lp_world.specs.Rows.{row_at}
 use Rattle.lp_world.specs.Stands.{IsOutline}
 use Rattle.lp_world.specs.Targets.{answer_at}
 
--- a version of a program in memory, with the outline of its tables and without kept answers
-pub record IsVersionOf (time : ℕ) (p : RawProgram) (v : Version) : Type 0 where
+-- a version of a program in memory that was compiled from a file, with the outline of its tables and without kept answers
+pub record IsVersionOf (time : ℕ) (file : List ℕ) (p : RawProgram) (v : Version) : Type 0 where
+  pub path : v.path ≡ file
   pub latest : v.latest ≡ time
   pub outline : IsOutline p v.outline
   pub state : v.state ≡ programs_of.Resident p
   pub targets : (part slot : ℕ) → answer_at v.targets part slot ≡ None
 
 -- it comes behind the others
-pub record IsVersionAdded (old new : List (Option Version)) (time : ℕ) (p : RawProgram) : Type 0 where
+pub record IsVersionAdded (old new : List (Option Version)) (time : ℕ) (file : List ℕ) (p : RawProgram) : Type 0 where
   pub version : Version
   pub after : new ≡ old ++ Some version ∷ []
-  pub is : IsVersionOf time p version
+  pub is : IsVersionOf time file p version
 
 -- a live object in memory, which is not living
 abbrev pub new_object : ProgId → ℕ → List Value → Object

@@ -1,5 +1,5 @@
 -- Closed states: what a state names is there. This speaks of the state alone.
-use Rattle.std.specs.Prelude.{◌≡◌, ℕ, ◌+◌, ◌^◌, ◌<◌, ◌≤◌, ◌⊎◌, List, [], ◌∷◌, ◌++◌, Option, Some, None, IsSome, All, length, slice_get, option_map}
+use Rattle.std.specs.Prelude.{◌≡◌, ◌≢◌, ℕ, ◌+◌, ◌^◌, ◌<◌, ◌≤◌, ◌⊎◌, ⊤, List, [], ◌∷◌, ◌++◌, Option, Some, None, IsSome, All, length, slice_get, option_map}
 use Rattle.std.specs.List.{flat_map}
 use Rattle.std.specs.Option.{option_to_list}
 use Rattle.lp_values.specs.declared.id.CellId.{CellId}
@@ -7,7 +7,11 @@ use Rattle.lp_values.specs.declared.id.ProgId.{ProgId}
 use Rattle.lp_values.specs.declared.value.Value.{Value}
 use Rattle.lp_cells.specs.Cells as cells
 use Rattle.lp_cells.specs.Cells.{Store, IsThere, content_at}
+use Rattle.lp_places.specs.Places.{Lying, Shadowing}
+use Rattle.lp_places.specs.Stands as places
+use Rattle.lp_places.specs.declared.places.Places.{Places}
 use Rattle.lp_timers.specs.Timers.{CallOut}
+use Rattle.lp_timers.specs.Timing.{Timing}
 use Rattle.lp_swapfile.specs.Room.{AreTaken}
 use Rattle.lp_swapfile.specs.declared.extent.Extent.{Extent}
 use Rattle.lp_swapper.specs.Swap.{extent_of}
@@ -105,6 +109,22 @@ pub record IsVersionClosed (versions : List (Option Version)) (n : ℕ) (v : Ver
   pub variables : variables_together versions v.outline.parents ≤ v.outline.variables
   pub program : (p : RawProgram) → v.state ≡ programs_of.Resident p → IsProgramClosed versions v p
 
+-- The places stand for what lies where, and for what shadows what.
+pub record ArePlaced (t : Places) : Type 0 where
+  pub lyings : List Lying
+  pub shadowings : List Shadowing
+  pub stands : places.Stands t lyings shadowings
+
+-- No two call-outs have one number, ..
+abbrev pub AreNumberedOnce : List CallOut → Type 0
+AreNumberedOnce [] = ⊤
+AreNumberedOnce (c ∷ cs) = All (λ (d : CallOut). d.number ≢ c.number) cs × AreNumberedOnce cs
+
+-- .. and each has one below the next number.
+pub record AreNumbered (t : Timing) : Type 0 where
+  pub once : AreNumberedOnce t.call_outs
+  pub below : All (λ (c : CallOut). c.number < t.next) t.call_outs
+
 pub record IsClosed (live : Live) : Type 0 where
   pub clock : live.clock ≤ 10 ^ 12
   pub cells : cells.IsClosed live.cells
@@ -113,4 +133,6 @@ pub record IsClosed (live : Live) : Type 0 where
   pub versions : (n : ℕ) (v : Version) → slice_get live.versions n ≡ Some (Some v) → IsVersionClosed live.versions n v
   pub call_outs : All (λ (c : CallOut). All (IsThere live.cells) c.arguments) live.timers.call_outs
   pub waiting : All (λ (x : Waiting). All (IsThere live.cells) x.arguments) live.connections.waiting
+  pub placed : ArePlaced live.places
+  pub numbered : AreNumbered live.timers
   pub room : AreTaken (extents_of live.objects live.versions) live.swapper

@@ -1,21 +1,26 @@
 -- What the state still stands for where cells or a variable change in it and in the world alike.
-use Rattle.std.specs.Prelude.{◌≡◌, ℕ, Bool, List, Option, Some, slice_get, slice_set}
+use Rattle.std.specs.Prelude.{◌≡◌, ◌+◌, ◌++◌, ℕ, All, Bool, List, [], ◌∷◌, Option, Some, slice_get, slice_set}
 use Rattle.lp_values.specs.declared.id.CellId.{CellId}
 use Rattle.lp_values.specs.declared.id.ObjId.{ObjId}
+use Rattle.lp_values.specs.declared.id.ProgId.{ProgId}
 use Rattle.lp_values.specs.declared.value.Value.{Value}
 use Rattle.lp_cells.specs.Cells as cells
 use Rattle.lp_cells.specs.Cells.{IsThere, KeepsThere, Store, content_set, with_cell}
 use Rattle.lp_cells.specs.declared.content.Content.{Content}
 use Rattle.lp_ops.specs.Operands.{operand}
+use Rattle.lp_places.specs.declared.places.Places.{Places}
+use Rattle.lp_timers.specs.Timing.{Timing}
 use Rattle.lp_code.specs.declared.program.RawProgram.{RawProgram}
 use Rattle.lp_swapfile.specs.Device.{Bytes}
-use Rattle.lp_language.specs.World.{World, is_live, object_at, with_cells, with_object}
+use Rattle.lp_language.specs.World.{World, is_live, object_at, version_at, with_cells, with_object}
 use Rattle.lp_language.specs.Operations.{with_variable}
+use Rattle.lp_meaning.specs.WorldSteps.{version_of_object}
 use Rattle.lp_world.specs.declared.live.Live.{Live}
 use Rattle.lp_world.specs.declared.objects.Object.{Object}
 use Rattle.lp_world.specs.declared.objects.ObjectState.TheVariants as objects_of
-use Rattle.lp_world.specs.Closed.{IsClosed}
-use Rattle.lp_world.specs.Rows.{live_in, with_value}
+use Rattle.lp_world.specs.declared.versions.Version.{Version}
+use Rattle.lp_world.specs.Closed.{ArePlaced, IsClosed}
+use Rattle.lp_world.specs.Rows.{live_in, row_at, version_path, with_value}
 use Rattle.lp_world.specs.Stands.{IsPart, Stands}
 
 -- the same objects are live
@@ -51,3 +56,27 @@ abbrev pub VariablesStayClosed : Type 0
 VariablesStayClosed = (live : Live) (o : ObjId) (row : Object) (vs : List Value) (k : ℕ) (v : Value)
     → IsClosed live → slice_get live.objects o.0 ≡ Some (Some row) → row.state ≡ objects_of.Resident vs → IsThere live.cells v
     → IsClosed (record live { objects = slice_set live.objects o.0 (Some (with_value row vs k v)) })
+
+-- Closed states stay closed where other places come that stand for something, ..
+abbrev pub PlacesStayClosed : Type 0
+PlacesStayClosed = (live : Live) (t : Places) → IsClosed live → ArePlaced t → IsClosed (record live { places = t })
+
+-- what is to come with a call-out more, which has the next number
+abbrev pub with_call_out : Timing → ObjId → List ℕ → ℕ → List Value → Timing
+with_call_out t o function due vs =
+    record { next = t.next + 1; call_outs = t.call_outs ++ record { number = t.next; object = o; function = function; due = due; arguments = vs } ∷ []; beats = t.beats; watches = t.watches }
+
+-- .. and where a call-out comes whose arguments are there.
+abbrev pub CallOutStaysClosed : Type 0
+CallOutStaysClosed = (live : Live) (o : ObjId) (function : List ℕ) (due : ℕ) (vs : List Value)
+    → IsClosed live → All (IsThere live.cells) vs → IsClosed (record live { timers = with_call_out live.timers o function due vs })
+
+-- The path of a version is that of the world's, ..
+abbrev pub VersionsHavePaths : Type 0
+VersionsHavePaths = (told : Option Bytes) (programs : List RawProgram) (live : Live) (w : World) (p : ProgId) (v : Version)
+    → Stands told programs live w → row_at live.versions p.0 ≡ Some v → v.path ≡ (version_at w p).path
+
+-- .. and the state has that of each object's version.
+abbrev pub ObjectsHavePaths : Type 0
+ObjectsHavePaths = (told : Option Bytes) (programs : List RawProgram) (live : Live) (w : World) (o : ObjId) (row : Object)
+    → Stands told programs live w → IsClosed live → row_at live.objects o.0 ≡ Some row → version_path (row_at live.versions row.program.0) ≡ Some (version_of_object w o).path

@@ -81,6 +81,11 @@ abbrev pub version_state : Option Version → Option ProgramState
 version_state None = None
 version_state (Some v) = Some v.state
 
+-- the path of the file that a version was compiled from
+abbrev pub version_path : Option Version → Option (List ℕ)
+version_path None = None
+version_path (Some v) = Some v.path
+
 -- a row with another state
 abbrev pub row_with_state : Option Object → ObjectState → Option Object
 row_with_state None s = None

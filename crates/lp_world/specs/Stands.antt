@@ -148,6 +148,7 @@ AreTargets programs h kept =
 pub record IsVersion (told : Option Bytes) (programs : List RawProgram) (versions : List world.Version) (n : ℕ) (v : Version) : Type 0 where
   pub version : world.Version
   pub there : slice_get versions n ≡ Some version
+  pub path : v.path ≡ version.path
   pub latest : v.latest ≡ version.latest
   pub parents : v.outline.parents ≡ version.parents
   pub program : RawProgram

@@ -1,5 +1,5 @@
 //! Laws of what a state stands for. Each has a clause and nothing to do.
-ghost use Rattle.lp_world.specs.Laws.{CellsStayClosed, NewCellStands, TheSameLive, TheSameOperands, VariableStands, VariablesStayClosed, WriteStands};
+ghost use Rattle.lp_world.specs.Laws.{CallOutStaysClosed, CellsStayClosed, NewCellStands, ObjectsHavePaths, PlacesStayClosed, TheSameLive, TheSameOperands, VariableStands, VariablesStayClosed, VersionsHavePaths, WriteStands};
 
 /// The same objects are live in a state and in a world for which it stands.
 pub fn same_live()
@@ -34,4 +34,24 @@ pub fn cells_stay_closed()
 /// It does where a variable of an object in memory gets a value that is there.
 pub fn variables_stay_closed()
     ensures { VariablesStayClosed }
+{}
+
+/// It does where other places come that stand for something.
+pub fn places_stay_closed()
+    ensures { PlacesStayClosed }
+{}
+
+/// It does where a call-out comes, with the next number, whose arguments are there.
+pub fn call_out_stays_closed()
+    ensures { CallOutStaysClosed }
+{}
+
+/// The path of a version of the state is that of the world's version with its number.
+pub fn versions_have_paths()
+    ensures { VersionsHavePaths }
+{}
+
+/// A closed state has the path of each object's version, and it is the one that the world has.
+pub fn objects_have_paths()
+    ensures { ObjectsHavePaths }
 {}

@@ -2,7 +2,7 @@
 ghost use Rattle.std.specs.Prelude.{◌≡◌, ◌∷◌, ◌++◌, [], IfOk, IsSome, List, OnErr, OnOk, Option, Some, length, slice_set, ℕ};
 ghost use Rattle.std.specs.Option.{option_copied};
 ghost use Rattle.lp_world.specs.Additions.{IsVersionAdded, IsVersionOf};
-ghost use Rattle.lp_world.specs.Rows.{row_at, version_aged, version_state, version_with_state};
+ghost use Rattle.lp_world.specs.Rows.{row_at, version_aged, version_path, version_state, version_with_state};
 ghost use Rattle.lp_world.specs.Stands.{IsOutline};
 ghost use Rattle.lp_world.specs.declared.versions.Version.{Version as V};
 ghost use Rattle.lp_world.specs.Targets.{HasAnswer, HasAnswerIn, HasSameAnswers, HasSameAnswersIn};
@@ -13,6 +13,7 @@ use lp_code::listed::Listed;
 use lp_code::program::RawProgram;
 use lp_swapper::Ticket;
 use lp_values::id::ProgId;
+use lp_values::text::Text;
 use std::alloc::{AllocError, Global};
 use std::marker::Model;
 use std::mem;
@@ -44,6 +45,8 @@ pub struct Outline {
 /// A version of a program.
 #[derive(Drop)]
 pub struct Version {
+    /// The path of the file that it was compiled from.
+    pub path: Text,
     /// When it was made, or the latest entry of a function counted for it.
     pub latest: u64,
     /// What stays in memory.
@@ -131,12 +134,18 @@ fn outline_of(alloc: Global, raw: &RawProgram) -> Result<Outline, AllocError>
     })
 }
 
-/// A version of a program in memory.
-fn version_of(alloc: Global, latest: u64, program: SharedProgram) -> Result<Version, AllocError>
-    ensures { IfOk result (λ v. IsVersionOf latest program v) }
+/// A version of a program in memory that was compiled from the file with a path.
+fn version_of(
+    alloc: Global,
+    latest: u64,
+    path: Text,
+    program: SharedProgram,
+) -> Result<Version, AllocError>
+    ensures { IfOk result (λ v. IsVersionOf latest path program v) }
 {
     let outline = outline_of(alloc, program.raw())?;
     Ok(Version {
+        path,
         latest,
         outline,
         state: ProgramState::Resident(program),
@@ -170,6 +179,17 @@ impl VersionTable {
         }
         match &self.rows[p.0 as usize] {
             Some(v) => Some(v),
+            None => None,
+        }
+    }
+
+    /// The path of the file that a version was compiled from, where the state has the version, also while its program
+    /// is out. Takes no memory.
+    pub fn path(&self, p: ProgId) -> Option<&Text>
+        ensures { option_copied result ≡ version_path (row_at self.now p.0) }
+    {
+        match self.get(p) {
+            Some(v) => Some(&v.path),
             None => None,
         }
     }
@@ -209,21 +229,23 @@ impl VersionTable {
         keep_in(&mut self.rows[p.0 as usize], alloc, part, slot, answer)
     }
 
-    /// A version of a program in memory comes behind the others and has the next number. Its outline is that of
-    /// the program, and no answer of an internal call is kept yet. `latest` is a clock, in seconds. After want of
-    /// memory all is as it was; it also comes where a table of the program has 2^32 rows.
+    /// A version of a program in memory that was compiled from the file with a path comes behind the others and has
+    /// the next number. Its outline is that of the program, and no answer of an internal call is kept yet. `latest`
+    /// is a clock, in seconds. After want of memory all is as it was; it also comes where a table of the program has
+    /// 2^32 rows.
     pub fn add(
         &mut self,
         alloc: Global,
         latest: u64,
+        path: Text,
         program: SharedProgram,
     ) -> Result<ProgId, AllocError>
         ensures number { IfOk result (λ p. p.0 ≡ length self.old) }
-        ensures ok { OnOk result (IsVersionAdded self.old self.new latest program) }
+        ensures ok { OnOk result (IsVersionAdded self.old self.new latest path program) }
         ensures err { OnErr result (self.new ≡ self.old) }
     {
         let number = self.rows.len() as u64;
-        let version = version_of(alloc, latest, program)?;
+        let version = version_of(alloc, latest, path, program)?;
         self.rows.push(Some(version))?;
         Ok(ProgId(number))
     }

@@ -6,4 +6,12 @@
 #[cfg(test)]
 mod causes;
 #[cfg(test)]
+mod idling;
+#[cfg(test)]
+mod programs;
+#[cfg(test)]
 mod records;
+#[cfg(test)]
+mod state;
+#[cfg(test)]
+mod states;

@@ -1,8 +1,8 @@
 use Rattle.lp_making.proofs.Reloaded.{closed_with_store, on_err, reload_stands, same_files}
 use Rattle.lp_making.proofs.files.reload.Goals as goal
 
-pub destruct_if-requires-clause-closed : goal.destruct_if-requires-clause-closed
-destruct_if-requires-clause-closed c = closed_with_store c.args.live.now c.write.new.self c.requires.closed
+pub destruct_if-requires : goal.destruct_if-requires
+destruct_if-requires c = record { closed = closed_with_store c.args.live.now c.write.new.self c.requires.closed }
 
 pub returns-clause-stands : goal.returns-clause-stands
 returns-clause-stands c =

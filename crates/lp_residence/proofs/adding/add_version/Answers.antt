@@ -8,10 +8,10 @@ returns-in_err-number-clause-closed c = subst (λ vs. IsClosed (record c.args.li
 
 pub returns-clause-ok : goal.returns-clause-ok
 returns-clause-ok c =
-    version_new c.args.live.now c.args.program c.in_ok-number.number c.add.new.self c.keep_right.new.versions c.in_ok-number.ensures.number c.in_ok-number.ensures.ok
+    version_new c.args.live.now c.args.path c.args.program c.in_ok-number.number c.add.new.self c.keep_right.new.versions c.in_ok-number.ensures.number c.in_ok-number.ensures.ok
     c.keep_right.result c.keep_right.ensures.same
 
 pub returns-clause-closed : goal.returns-clause-closed
 returns-clause-closed c =
-    version_closed c.args.live.now c.args.program c.in_ok-number.number c.add.new.self c.keep_right.new.versions c.in_ok-number.ensures.number c.in_ok-number.ensures.ok
+    version_closed c.args.live.now c.args.path c.args.program c.in_ok-number.number c.add.new.self c.keep_right.new.versions c.in_ok-number.ensures.number c.in_ok-number.ensures.ok
     c.keep_right.result c.requires.closed c.keep_right.ensures.same c.keep_right.ensures.right c.keep_right.ensures.err

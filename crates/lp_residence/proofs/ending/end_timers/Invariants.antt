@@ -1,6 +1,6 @@
 use Rattle.std.proofs.Common.{◌≡◌, length}
 use Rattle.lp_timers.specs.Timers.{call_outs_without}
-use Rattle.lp_residence.specs.Ending.{AreNumberedOnce}
+use Rattle.lp_world.specs.Closed.{AreNumberedOnce}
 use Rattle.lp_residence.proofs.ending.end_timers.Given as goal
 
 abbrev pub invariant-loop : goal.invariant-loop

@@ -1,0 +1,10 @@
+pub mod Lists
+pub mod Courses
+pub mod Ending
+pub mod Calling
+pub mod Rounds
+pub mod Telling
+pub mod Writing
+pub mod Beginnings
+pub mod Taking
+pub mod Waiting

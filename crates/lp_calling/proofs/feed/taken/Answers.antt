@@ -1,0 +1,26 @@
+use Rattle.std.proofs.Common.{refl, subst, sym}
+use Rattle.std.proofs.lemmas.Result.{IfOk-weaker}
+use Rattle.lp_world.specs.Rows.{live_in}
+use Rattle.lp_calling.specs.declared.job.Stage.TheVariants as stages
+use Rattle.lp_calling.specs.Going.{StageTakes}
+use Rattle.lp_calling.specs.Jobs.{IsStageAsking}
+use Rattle.lp_calling.proofs.Calling.{zero_takes}
+use Rattle.lp_calling.proofs.feed.taken.Goals as goal
+
+pub returns-in-Call-clause-takes : goal.returns-in-Call-clause-takes
+returns-in-Call-clause-takes c =
+    IfOk-weaker c.take_value.result _ _
+    (λ t k. subst (λ s. StageTakes s c.args.v (live_in c.args.objects.now) c.args.low c.args.stack.now.items t c.take_value.new.stack.items) (sym c.in-Call.is) (k c.in-Call.field-0 c.in-Call.field-1 (live_in c.args.objects.now))) c.take_value.ensures.takes
+
+pub returns-in-Tell-clause-takes : goal.returns-in-Tell-clause-takes
+returns-in-Tell-clause-takes c =
+    subst (λ s. StageTakes s c.args.v (live_in c.args.objects.now) c.args.low c.args.stack.now.items stages.Zero c.args.stack.now.items) (sym c.in-Tell.is)
+    (zero_takes (stages.Tell c.in-Tell.field-0 c.in-Tell.field-1) c.args.v (live_in c.args.objects.now) c.args.low c.args.stack.now.items (λ e own by s. refl))
+
+pub returns-in-Write-clause-takes : goal.returns-in-Write-clause-takes
+returns-in-Write-clause-takes c =
+    subst (λ s. StageTakes s c.args.v (live_in c.args.objects.now) c.args.low c.args.stack.now.items stages.Zero c.args.stack.now.items) (sym c.in-Write.is)
+    (zero_takes (stages.Write c.in-Write.field-0) c.args.v (live_in c.args.objects.now) c.args.low c.args.stack.now.items (λ e own by s. refl))
+
+pub returns-in-Value-clause-takes : goal.returns-in-Value-clause-takes
+returns-in-Value-clause-takes c = absurd (subst (λ s. IsStageAsking s) c.in-Value.is c.requires.asking)

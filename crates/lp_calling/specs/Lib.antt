@@ -1,0 +1,4 @@
+pub mod Targets
+pub mod Jobs
+pub mod Beginning
+pub mod Going

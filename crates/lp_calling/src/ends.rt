@@ -1,0 +1,124 @@
+//! Ends of efuns.
+ghost use Rattle.std.specs.Prelude.{◌≡◌, ◌<◌, ◌≤◌, IfErr, IfOk, OnOk, length, take};
+ghost use Rattle.lp_values.specs.Errors.{bad_arg, plain};
+ghost use Rattle.lp_cells.specs.Cells.{Store};
+ghost use Rattle.lp_instr.specs.EfunList.{efun_name};
+ghost use Rattle.lp_efuns.specs.declared.answer.Answer.{Answer as A};
+ghost use Rattle.lp_efuns.specs.declared.caller.Turn.{Turn};
+ghost use Rattle.lp_step.specs.Steps.{IsFit};
+ghost use Rattle.lp_calling.specs.Beginning.{IsBegunThere};
+ghost use Rattle.lp_calling.specs.Going.{IsStepThere, StageGoes};
+ghost use Rattle.lp_calling.specs.declared.job.Begun.{Begun as B};
+ghost use Rattle.lp_calling.specs.declared.job.Step.{Step as S};
+
+use crate::job::{Begun, CallingFault, Stage, Step};
+use crate::laying::{cut, take_at};
+use crate::shared::{bad_of, finish};
+use lp_efuns::answer::{Answer, Did};
+use lp_instr::efun::Efun;
+use lp_values::error::{ErrorKind, RunError};
+use lp_values::value::Value;
+use lp_world::live::Live;
+use std::alloc::{AllocError, Global};
+
+/// An efun ends before it asks. Its arguments are taken from the stack.
+pub(crate) fn begin_end(stack: &mut Vec<Value>, low: usize, answer: Answer) -> Begun
+    ensures answer { result ≡ B.Ends answer }
+    ensures stack { stack.new.items ≡ take low stack.old.items }
+    ensures keeps { (live : _) → IsFit live stack.old.items → IsFit live stack.new.items }
+{
+    cut(stack, low);
+    Begun::Ends(answer)
+}
+
+/// An efun ends with an error of this kind before it asks.
+pub(crate) fn begin_error(
+    alloc: Global,
+    stack: &mut Vec<Value>,
+    low: usize,
+    kind: ErrorKind,
+) -> Result<Begun, CallingFault>
+    ensures ends { IfOk result (λ r. (r ≡ B.Ends (A.Error (plain kind))) × (stack.new.items ≡ take low stack.old.items)) }
+    ensures there { IfOk result (λ r. (cells : Store) → IsBegunThere cells r) }
+    ensures keeps { OnOk result ((live : _) → IsFit live stack.old.items → IsFit live stack.new.items) }
+    ensures fault { IfErr result (λ f. f ≡ CallingFault.NoMemory) }
+{
+    let error = RunError::plain(alloc, kind)?;
+    Ok(begin_end(stack, low, Answer::Error(error)))
+}
+
+/// An efun ends with a refusal of an argument before it asks. Arguments count from 1.
+pub(crate) fn begin_bad(
+    alloc: Global,
+    stack: &mut Vec<Value>,
+    low: usize,
+    efun: Efun,
+    number: u64,
+) -> Result<Begun, CallingFault>
+    ensures ends { IfOk result (λ r. (r ≡ B.Ends (A.Error (bad_arg number (efun_name efun)))) × (stack.new.items ≡ take low stack.old.items)) }
+    ensures there { IfOk result (λ r. (cells : Store) → IsBegunThere cells r) }
+    ensures keeps { OnOk result ((live : _) → IsFit live stack.old.items → IsFit live stack.new.items) }
+    ensures fault { IfErr result (λ f. f ≡ CallingFault.NoMemory) }
+{
+    let error = bad_of(alloc, efun, number)?;
+    Ok(begin_end(stack, low, Answer::Error(error)))
+}
+
+/// A job ends with the first of its values, once the price of that is paid.
+pub(crate) fn end_value(
+    efun: Efun,
+    live: &Live,
+    stack: &mut Vec<Value>,
+    low: usize,
+    budget: &mut u64,
+) -> Step
+    requires low { low < length stack.old.items }
+    requires fit { IsFit live.now stack.old.items }
+    ensures goes { (turn : Turn) → StageGoes result efun Stage.Value low live.now turn stack.old.items budget.old live.now stack.new.items budget.new }
+    ensures fit { IsFit live.now stack.new.items }
+    ensures there { IsStepThere live.now.cells result }
+    ensures spends { budget.new ≤ budget.old }
+{
+    let v = take_at(stack, low);
+    Step::Ends(finish(efun, Did::Value(v), &live.cells, &live.objects, budget))
+}
+
+/// A job ends with 0, once the price of that is paid.
+pub(crate) fn end_zero(
+    efun: Efun,
+    live: &Live,
+    stack: &mut Vec<Value>,
+    low: usize,
+    budget: &mut u64,
+) -> Step
+    requires fit { IsFit live.now stack.old.items }
+    ensures goes { (turn : Turn) → StageGoes result efun Stage.Zero low live.now turn stack.old.items budget.old live.now stack.new.items budget.new }
+    ensures fit { IsFit live.now stack.new.items }
+    ensures there { IsStepThere live.now.cells result }
+    ensures spends { budget.new ≤ budget.old }
+{
+    cut(stack, low);
+    Step::Ends(finish(
+        efun,
+        Did::Value(Value::Int(0)),
+        &live.cells,
+        &live.objects,
+        budget,
+    ))
+}
+
+/// A job ends with an error of this kind.
+pub(crate) fn end_error(
+    alloc: Global,
+    stack: &mut Vec<Value>,
+    low: usize,
+    kind: ErrorKind,
+) -> Result<Step, AllocError>
+    ensures ends { IfOk result (λ r. (r ≡ S.Ends (A.Error (plain kind))) × (stack.new.items ≡ take low stack.old.items)) }
+    ensures there { IfOk result (λ r. (cells : Store) → IsStepThere cells r) }
+    ensures keeps { OnOk result ((live : _) → IsFit live stack.old.items → IsFit live stack.new.items) }
+{
+    let error = RunError::plain(alloc, kind)?;
+    cut(stack, low);
+    Ok(Step::Ends(Answer::Error(error)))
+}

@@ -1,0 +1,73 @@
+//! Jobs are told what was answered.
+ghost use Rattle.std.specs.Prelude.{◌≡◌, ◌<◌, ◌≤◌, IfOk, OnOk, length};
+ghost use Rattle.lp_cells.specs.Cells.{IsThere};
+ghost use Rattle.lp_world.specs.Rows.{live_in};
+ghost use Rattle.lp_step.specs.Steps.{IsFit};
+ghost use Rattle.lp_calling.specs.Going.{StageTakes, Takes};
+ghost use Rattle.lp_calling.specs.Jobs.{IsAsking, IsJobOn, IsStageAsking, IsStageOn, questions_left, stage_left};
+
+use crate::items::take_item;
+use crate::job::{Job, Stage};
+use crate::laying::put_at;
+use lp_values::value::Value;
+use lp_world::live::Live;
+use lp_world::objects::ObjectTable;
+use std::alloc::AllocError;
+use std::mem;
+
+/// The answer of the one question of a job is its value.
+fn take_value(stack: &mut Vec<Value>, low: usize, v: Value) -> Result<Stage, AllocError>
+    requires { low ≤ length stack.old.items }
+    ensures takes { IfOk result (λ t. (o : _) (name : _) (live : _) → StageTakes (Stage.Call o name) v live low stack.old.items t stack.new.items) }
+    ensures on { IfOk result (λ t. IsStageOn t low (length stack.new.items)) }
+    ensures less { IfOk result (λ t. stage_left t < 1) }
+    ensures fit { OnOk result ((l : _) → IsThere l.cells v → IsFit l stack.old.items → IsFit l stack.new.items) }
+{
+    put_at(stack, low, v)?;
+    Ok(Stage::Value)
+}
+
+/// The stage behind an answer.
+fn taken(
+    stage: Stage,
+    objects: &ObjectTable,
+    stack: &mut Vec<Value>,
+    low: usize,
+    v: Value,
+) -> Result<Stage, AllocError>
+    requires on { IsStageOn stage low (length stack.old.items) }
+    requires asking { IsStageAsking stage }
+    ensures takes { IfOk result (λ t. StageTakes stage v (live_in objects.now) low stack.old.items t stack.new.items) }
+    ensures on { IfOk result (λ t. IsStageOn t low (length stack.new.items)) }
+    ensures less { IfOk result (λ t. stage_left t < stage_left stage) }
+    ensures fit { OnOk result ((l : _) → IsThere l.cells v → IsFit l stack.old.items → IsFit l stack.new.items) }
+{
+    match stage {
+        Stage::Call(_, _) => take_value(stack, low, v),
+        Stage::Items(round) => take_item(round, objects, stack, low, v),
+        Stage::Tell(_, _) => Ok(Stage::Zero),
+        Stage::Write(_) => Ok(Stage::Zero),
+        Stage::Value => Ok(Stage::Zero),
+        Stage::Zero => Ok(Stage::Zero),
+    }
+}
+
+/// A job is told the value that its question was answered with. The arguments of the question are gone from the stack, and the
+/// job's own values lie there as they did below them.
+///
+/// # Errors
+/// Where memory runs out; the job is of no use then, but to be stopped.
+pub fn feed(job: &mut Job, live: &Live, stack: &mut Vec<Value>, v: Value) -> Result<(), AllocError>
+    requires on { IsJobOn job.old stack.old.items }
+    requires asking { IsAsking job.old }
+    requires fit { IsFit live.now stack.old.items }
+    requires there { IsThere live.now.cells v }
+    ensures takes { OnOk result (Takes job.old v live.now stack.old.items job.new stack.new.items) }
+    ensures on { OnOk result (IsJobOn job.new stack.new.items) }
+    ensures less { OnOk result (questions_left job.new < questions_left job.old) }
+    ensures fit { OnOk result (IsFit live.now stack.new.items) }
+{
+    let stage = mem::replace(&mut job.stage, Stage::Zero);
+    job.stage = taken(stage, &live.objects, stack, job.low, v)?;
+    Ok(())
+}

@@ -1,0 +1,119 @@
+//! Jobs: efuns that call LPC, as they stand between their questions.
+ghost use Rattle.std.specs.Prelude.{◌≡◌};
+ghost use Rattle.lp_calling.specs.declared.job.CallingFault.TheVariants.{NoMemory};
+
+use lp_efuns::answer::{Answer, EfunFault};
+use lp_instr::efun::Efun;
+use lp_values::id::ObjId;
+use lp_values::text::Text;
+use std::alloc::{AllocError, AllocFailed};
+use thiserror::Error;
+
+/// What a job asks.
+#[derive(Drop)]
+pub enum Question {
+    /// A function of an object, by its name, as another object calls it.
+    Other(ObjId, Text),
+    /// `catch_tell` of an object, as the driver applies it.
+    CatchTell(ObjId),
+}
+
+/// A function of an object is called for items, one after another. On the stack lie the arguments of the efun, the items of
+/// the array as it stood, and what was taken so far.
+#[derive(Drop)]
+pub struct Round {
+    /// The object.
+    pub object: ObjId,
+    /// The name of the function.
+    pub function: Text,
+    /// How many arguments the efun has.
+    pub arguments: usize,
+    /// How many items there are.
+    pub count: usize,
+    /// How many of them are done.
+    pub done: usize,
+    /// Whether an item is taken where the answer is not 0. Else the answer is taken.
+    pub is_filter: bool,
+}
+
+/// Where a job stands.
+#[derive(Drop)]
+pub enum Stage {
+    /// It calls a function of an object, by its name. Its values on the stack are the arguments of the efun.
+    Call(ObjId, Text),
+    /// It calls a function for the items that are left.
+    Items(Round),
+    /// It gives an object a text.
+    Tell(ObjId, Text),
+    /// It gives `this_player()` a text.
+    Write(Text),
+    /// It has come to the first of its values on the stack.
+    Value,
+    /// It has come to 0.
+    Zero,
+}
+
+/// An efun that calls LPC.
+#[derive(Drop)]
+pub struct Job {
+    /// The efun.
+    pub efun: Efun,
+    /// How many values lie on the stack below its own.
+    pub low: usize,
+    /// Where it stands.
+    pub stage: Stage,
+}
+
+/// How an efun begins.
+#[derive(Drop)]
+pub enum Begun {
+    /// It asks nothing, and ends.
+    Ends(Answer),
+    /// It goes on as this job.
+    Runs(Job),
+}
+
+/// What a job does next.
+#[derive(Drop)]
+pub enum Step {
+    /// It ends.
+    Ends(Answer),
+    /// It asks, with so many arguments on top of the stack.
+    Asks(Question, usize),
+}
+
+/// Why an efun is not carried out.
+#[derive(Debug, PartialEq, Eq, Drop, Error)]
+pub enum CallingFault {
+    /// Memory ran out.
+    #[error("out of memory")]
+    NoMemory,
+    /// The target of `call_other` is a text, whose object would be loaded. That comes once the price before is paid and the
+    /// arguments are of their kinds, and with no other efun or target.
+    #[error("not carried out yet")]
+    NotYet,
+}
+
+impl From<AllocError> for CallingFault {
+    ghost from_gives = { λ _ e. e ≡ NoMemory };
+
+    fn from(_e: AllocError) -> CallingFault {
+        CallingFault::NoMemory
+    }
+}
+
+impl<T: Drop> From<AllocFailed<T>> for CallingFault {
+    ghost from_gives = { λ _ e. e ≡ NoMemory };
+
+    fn from(_e: AllocFailed<T>) -> CallingFault {
+        CallingFault::NoMemory
+    }
+}
+
+impl From<EfunFault> for CallingFault {
+    ghost from_gives = { λ _ e. e ≡ NoMemory };
+
+    fn from(_e: EfunFault) -> CallingFault {
+        CallingFault::NoMemory
+    }
+}

@@ -1,0 +1,15 @@
+//! Efuns that call LPC. Each is a job that tells what it asks, and is told what was answered; its values lie on the one stack.
+#![tactic(auto)]
+
+pub mod begin;
+mod call;
+mod ends;
+pub mod feed;
+mod items;
+pub mod job;
+mod known;
+mod laying;
+mod messages;
+pub mod next;
+mod shared;
+mod target;

@@ -1,0 +1,7 @@
+pub mod Memory
+pub mod Later
+pub mod Names
+pub mod Callees
+pub mod Leads
+pub mod Chains
+pub mod Entries

@@ -1,0 +1,10 @@
+//! What a question reaches on the live state, with all that it needs brought into memory; and what an entry counts.
+//!
+//! Where the device does not tell the truth the answer is want of memory, so that a state always stands for its world.
+#![tactic(auto)]
+
+pub mod applying;
+pub mod finding;
+pub mod marking;
+pub mod outside;
+pub mod reached;

@@ -1,0 +1,9 @@
+pub mod Doing
+pub mod Carried
+pub mod Turning
+pub mod Beginnings
+pub mod Enterings
+pub mod Startings
+pub mod Askings
+pub mod Cycling
+pub mod Applied

@@ -1,0 +1,39 @@
+use Rattle.std.proofs.Common.{◌≡◌, ◌∙◌, All, ap, sym, subst}
+use Rattle.lp_cells.specs.Cells.{IsThere}
+use Rattle.lp_step.specs.Steps.{IsFit}
+use Rattle.lp_asking.specs.declared.advance.Halt.TheVariants as halts
+use Rattle.lp_asking.specs.Stopping.{Advances, IsHaltThere}
+use Rattle.lp_vm.proofs.Askings.{calls, can_ask, ended_finishes, halt_runs, object_asks}
+use Rattle.lp_vm.proofs.halting.run_to_halt.Goals as goal
+
+pub advance-requires : goal.advance-requires
+advance-requires g c = halt_runs (g.W.SwapFile.content c.args.swap.now) c.args.live.now c.args.stack.now.items c.args.frame.now c.args.budget.now c.requires
+
+pub returns-in-Ended : goal.returns-in-Ended
+returns-in-Ended g c =
+    ended_finishes (g.W.SwapFile.content c.args.swap.now) c.args.live.now c.advance.new.live c.args.stack.now.items c.advance.new.stack.items c.args.frame.now c.advance.new.frame c.args.budget.now c.advance.new.budget c.in-Ended.ending
+    (subst (λ h. Advances h c.args.live.now c.args.stack.now.items c.args.frame.now c.args.budget.now c.advance.new.live c.advance.new.stack.items c.advance.new.frame c.advance.new.budget) c.in-Ended.is c.in_ok-ending.ensures.advances)
+    (subst (IsHaltThere c.advance.new.live.cells) c.in-Ended.is c.in_ok-ending.ensures.there) c.in_ok-ending.ensures.home c.in_ok-ending.ensures.spends c.in_ok-ending.ensures.fit
+
+pub find-requires-clause-closed : goal.find-requires-clause-closed
+find-requires-clause-closed g c = c.in_ok-ending.ensures.fit.closed
+
+pub find-requires-clause-object : goal.find-requires-clause-object
+find-requires-clause-object g c =
+    object_asks (g.W.SwapFile.content c.args.swap.now) c.args.live.now c.advance.new.live c.args.stack.now.items c.advance.new.stack.items c.args.frame.now c.advance.new.frame c.args.budget.now c.advance.new.budget c.in-Call.call c.requires
+    (subst (λ h. Advances h c.args.live.now c.args.stack.now.items c.args.frame.now c.args.budget.now c.advance.new.live c.advance.new.stack.items c.advance.new.frame c.advance.new.budget) c.in-Call.is c.in_ok-ending.ensures.advances)
+
+pub find-requires-clause-can : goal.find-requires-clause-can
+find-requires-clause-can g c =
+    can_ask (g.W.SwapFile.content c.args.swap.now) c.args.live.now c.advance.new.live c.args.stack.now.items c.advance.new.stack.items c.args.frame.now c.advance.new.frame c.args.budget.now c.advance.new.budget c.in-Call.call c.in-Some.question c.requires
+    (subst (λ h. Advances h c.args.live.now c.args.stack.now.items c.args.frame.now c.args.budget.now c.advance.new.live c.advance.new.stack.items c.advance.new.frame c.advance.new.budget) c.in-Call.is c.in_ok-ending.ensures.advances)
+    (sym c.question_of.ensures ∙ c.in-Some.is)
+
+pub returns-in_ok-reached-in-Some : goal.returns-in_ok-reached-in-Some
+returns-in_ok-reached-in-Some g c =
+    let fit : IsFit c.find.new.live c.advance.new.stack.items =
+    record { closed = c.in_ok-reached-in-Some.ensures.closed; there = subst (λ cells. All (IsThere cells) c.advance.new.stack.items) (sym c.in_ok-reached-in-Some.ensures.cells) c.in_ok-ending.ensures.fit.there } in
+    calls (g.W.SwapFile.content c.args.swap.now) (g.W.SwapFile.content c.find.new.swap) c.args.live.now c.advance.new.live c.find.new.live c.args.stack.now.items c.advance.new.stack.items c.args.frame.now c.advance.new.frame c.args.budget.now c.advance.new.budget
+    c.in-Call.call c.in-Some.question c.in_ok-reached-in-Some.reached
+    (subst (λ h. Advances h c.args.live.now c.args.stack.now.items c.args.frame.now c.args.budget.now c.advance.new.live c.advance.new.stack.items c.advance.new.frame c.advance.new.budget) c.in-Call.is c.in_ok-ending.ensures.advances)
+    (sym c.question_of.ensures ∙ c.in-Some.is) c.in_ok-reached-in-Some.ensures.found c.in_ok-reached-in-Some.ensures.outputs c.in_ok-reached-in-Some.ensures.there c.in_ok-ending.ensures.home c.in_ok-reached-in-Some.ensures.home c.in_ok-ending.ensures.spends fit
