@@ -9,7 +9,7 @@ use Rattle.lp_step.specs.Steps.{IsFit}
 use Rattle.lp_efuns.specs.declared.answer.Answer.{Answer}
 use Rattle.lp_efuns.specs.declared.answer.Answer.TheVariants as answers
 use Rattle.lp_calling.specs.declared.job.Job.{Job}
-use Rattle.lp_calling.specs.Jobs.{IsJobOn}
+use Rattle.lp_calling.specs.Jobs.{IsJobOn, IsReady}
 use Rattle.lp_asking.specs.declared.asker.Asker.{Asker}
 use Rattle.lp_asking.specs.declared.ending.Cause.{Cause}
 use Rattle.lp_asking.specs.declared.ending.Cause.TheVariants as causes
@@ -38,6 +38,7 @@ pub record HasBegunEfun (this : ObjId) (efun : Efun) (args : ℕ) (live0 : Live)
   pub spends : budget1 ≤ budget0
   pub fit : IsFit live1 stack1
   pub on : IsJobOn job stack1
+  pub ready : IsReady live1.objects job
   pub can : (told : Option Bytes) → CanServe told live0 stack0 asker0 budget0 (requests.Efun this efun) args → CanWork this job told live1 stack1 asker1 budget1
   pub answers : (told0 told1 : Option Bytes) (live2 : Live) (stack2 : List Value) (asker2 : Asker) (budget2 : ℕ) (e : Ending)
       → Works this job told0 live1 stack1 asker1 budget1 told1 live2 stack2 asker2 budget2 e → Answers (requests.Efun this efun) args told0 live0 stack0 asker0 budget0 told1 live2 stack2 asker2 budget2 e

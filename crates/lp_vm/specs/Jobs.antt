@@ -4,10 +4,11 @@ use Rattle.lp_values.specs.declared.id.ObjId.{ObjId}
 use Rattle.lp_values.specs.declared.value.Value.{Value}
 use Rattle.lp_swapfile.specs.Device.{Bytes}
 use Rattle.lp_world.specs.declared.live.Live.{Live}
+use Rattle.lp_world.specs.declared.objects.Object.{Object}
 use Rattle.lp_step.specs.Steps.{IsFit, KeepsVariables}
 use Rattle.lp_calling.specs.declared.job.Job.{Job}
 use Rattle.lp_calling.specs.Going.{Takes}
-use Rattle.lp_calling.specs.Jobs.{IsAsking, IsJobOn, questions_left}
+use Rattle.lp_calling.specs.Jobs.{IsAsking, IsJobOn, IsReady, questions_left}
 use Rattle.lp_asking.specs.declared.asker.Asker.{Asker}
 use Rattle.lp_asking.specs.declared.ending.Ending.{Ending}
 use Rattle.lp_asking.specs.declared.ending.Ending.TheVariants as endings
@@ -26,9 +27,9 @@ Feeds None (endings.Stopped s) job0 live stack0 job1 stack1 = ⊥
 Feeds (Some e) (endings.Value v) job0 live stack0 job1 stack1 = ⊥
 Feeds (Some e) (endings.Stopped s) job0 live stack0 job1 stack1 = (e ≡ endings.Stopped s) × (stack1 ≡ take job0.low stack0)
 
--- where it goes on, it finds its values on the stack, and asks less from now on
+-- where it goes on, it finds its values on the stack, is ready whatever the objects are, and asks less from now on
 abbrev pub FedOn : Option Ending → Job → Job → List Value → Type 0
-FedOn None job0 job1 stack1 = IsJobOn job1 stack1 × (questions_left job1 < questions_left job0)
+FedOn None job0 job1 stack1 = IsJobOn job1 stack1 × ((objects : List (Option Object)) → IsReady objects job1) × (questions_left job1 < questions_left job0)
 FedOn (Some e) job0 job1 stack1 = ⊤
 
 -- A job asks what reaches this. It can be answered; and whatever is answered, the job goes on with that, or ends.

@@ -32,11 +32,6 @@ abbrev pub IsAskedSo : Question → Asker → ObjId → Ask → Type 0
 IsAskedSo (questions.Other ob name) asker this a = AsksOutside asker this ob name a
 IsAskedSo (questions.CatchTell ob) asker this a = Applies asker (Some this) ob (codes "catch_tell") a
 
--- the object that is asked
-abbrev pub asked_object : Question → ObjId
-asked_object (questions.Other ob name) = ob
-asked_object (questions.CatchTell ob) = ob
-
 -- in some world it asks so
 pub record CanReach (this : ObjId) (question : Question) (told : Option Bytes) (live : Live) : Type 0 where
   pub programs : List RawProgram

@@ -1,11 +1,12 @@
 //! What a question of a job reaches.
-ghost use Rattle.std.specs.Prelude.{◌≡◌, IfOk, IfSome, IsSome, List, Option, OnOk, codes};
+ghost use Rattle.std.specs.Prelude.{◌≡◌, IfOk, IfSome, IsSome};
 ghost use Rattle.lp_calling.specs.declared.job.Question.TheVariants as questions;
+ghost use Rattle.lp_calling.specs.Jobs.{object_of};
 ghost use Rattle.lp_step.specs.Steps.{KeepsVariables};
 ghost use Rattle.lp_world.specs.Closed.{IsClosed};
 ghost use Rattle.lp_world.specs.Rows.{row_at};
-ghost use Rattle.lp_reaching.specs.Reaching.{CanApply, FindsApplied, IsInMemory};
-ghost use Rattle.lp_vm.specs.Working.{CanReach, FindsAsked, asked_object};
+ghost use Rattle.lp_reaching.specs.Reaching.{IsInMemory};
+ghost use Rattle.lp_vm.specs.Working.{CanReach, FindsAsked};
 
 use crate::fault::VmFault;
 use crate::naming::name_of;
@@ -74,7 +75,7 @@ pub fn reach<W: Truthful>(
     question: &Question,
 ) -> Result<Option<Reached>, VmFault>
     requires closed { IsClosed live.old }
-    requires object { IsSome (row_at live.old.objects (asked_object question.now).0) }
+    requires object { IsSome (row_at live.old.objects (object_of question.now).0) }
     requires can { CanReach this question.now (W.content swap.old) live.old }
     ensures found { IfOk result (λ r. FindsAsked this question.now (W.content swap.old) live.old (W.content swap.new) live.new r) }
     ensures there { IfOk result (λ r. IfSome r (λ x. IsInMemory live.new x.callee x.code)) }

@@ -1,6 +1,6 @@
 //! What is asked is answered: functions run, and efuns work.
 ghost use Rattle.std.specs.Prelude.{IfOk};
-ghost use Rattle.lp_calling.specs.Jobs.{IsJobOn};
+ghost use Rattle.lp_calling.specs.Jobs.{IsJobOn, IsReady};
 ghost use Rattle.lp_step.specs.Steps.{IsFit};
 ghost use Rattle.lp_vm.specs.declared.request.Request.TheVariants as requests;
 ghost use Rattle.lp_vm.specs.Answering.{CanServe};
@@ -68,6 +68,7 @@ fn work<W: Truthful>(
     budget: &mut u64,
 ) -> Result<Ending, VmFault>
     requires on { IsJobOn job stack.old.items }
+    requires ready { IsReady live.old.objects job }
     requires fit { IsFit live.old stack.old.items }
     requires can { CanWork this job (W.content swap.old) live.old stack.old.items asker.old budget.old }
     ensures { IfOk result (λ e. Works this job (W.content swap.old) live.old stack.old.items asker.old budget.old (W.content swap.new) live.new stack.new.items asker.new budget.new e) }

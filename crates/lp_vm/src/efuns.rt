@@ -117,7 +117,7 @@ fn calling(
 /// answered, or goes on as a job.
 ///
 /// # Errors
-/// `NoMemory`; `NotYet` of an efun that is not carried out yet, and of `call_other` of a text.
+/// `NoMemory`; `NotYet` of an efun that is not carried out yet, and where an object would have to be loaded.
 pub fn begin_efun(
     live: &mut Live,
     stack: &mut Vec<Value>,

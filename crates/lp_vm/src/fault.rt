@@ -19,7 +19,8 @@ pub enum VmFault {
     /// The swap file failed, or gave bytes of another digest.
     #[error("the swap file did not give what was written")]
     Swap(SwapCause),
-    /// An efun that is not carried out yet was called; or `call_other` of a text, or with the name of a function that is not of ASCII.
+    /// An efun was called that is not carried out yet; or an object would have to be loaded; or the name of a function that is
+    /// called is not of ASCII.
     #[error("not carried out yet")]
     NotYet,
 }

@@ -1,6 +1,6 @@
 //! Jobs of efuns go on by one question after another.
-ghost use Rattle.std.specs.Prelude.{◌≡◌, ◌≤◌, IfOk, IfSome, OnOk};
-ghost use Rattle.lp_calling.specs.Jobs.{IsAsking, IsJobOn};
+ghost use Rattle.std.specs.Prelude.{◌≡◌, IfOk, IfSome, OnOk};
+ghost use Rattle.lp_calling.specs.Jobs.{IsAsking, IsJobOn, IsReady};
 ghost use Rattle.lp_step.specs.Steps.{IsFit};
 ghost use Rattle.lp_asking.specs.Endings.{IsEndingThere};
 ghost use Rattle.lp_vm.specs.Jobs.{FedOn, Feeds, StepsTo};
@@ -56,6 +56,7 @@ pub fn step_job<W: Truthful>(
     budget: &mut u64,
 ) -> Result<Stepped, VmFault>
     requires on { IsJobOn job.old stack.old.items }
+    requires ready { IsReady live.old.objects job.old }
     requires fit { IsFit live.old stack.old.items }
     requires can { CanWork this job.old (W.content swap.old) live.old stack.old.items asker.now budget.old }
     ensures { IfOk result (λ r. StepsTo r this job.old (W.content swap.old) live.old stack.old.items asker.now budget.old job.new (W.content swap.new) live.new stack.new.items budget.new) }
