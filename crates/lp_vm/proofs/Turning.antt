@@ -69,7 +69,7 @@ top_of below locals ops stack e = e ∙ laid_above (below ++ locals) ops ∙ app
 
 -- The end
 
-no_places : (programs : List RawProgram) (w : World) (at : Option Place) (x : Option course.Place) → at ≡ None → x ≡ None → IsPlaceIf programs w at x
+pub no_places : (programs : List RawProgram) (w : World) (at : Option Place) (x : Option course.Place) → at ≡ None → x ≡ None → IsPlaceIf programs w at x
 no_places programs w None None e f = tt
 no_places programs w None (Some x) e f = absurd (cc)
 no_places programs w (Some at) x e f = absurd (cc)
@@ -176,7 +176,7 @@ module _ (p : RawProgram) (k : ℕ) (row : FunRow) (f : IsFunction p k row) (a :
 
 -- What an answer leads to
 
-end_for : (programs : List RawProgram) (w : World) (e : Ending) (x : Answer) (s : State) → IsAnswer programs w e x → IsEndFor e (end_of_answer x s) s
+pub end_for : (programs : List RawProgram) (w : World) (e : Ending) (x : Answer) (s : State) → IsAnswer programs w e x → IsEndFor e (end_of_answer x s) s
 end_for programs w (endings.Value v) (Returned r) s h = of_reply r h
   where
     of_reply : (r : Reply) → IsReply v r → end_of_answer (Returned r) s ≡ Gives v s
@@ -200,7 +200,7 @@ push_state (Returned r) place catches stack s at e = sym (ap (state_or s) e)
 push_state (Stopped x) place catches stack s at e = stop_state (caught x.cause) x catches stack s at e
 
 -- an outcome as the end of the function that asked
-outcome_end : (told : Option Bytes) (programs : List RawProgram) (before before2 : List Out) (live : Live) (asker : Asker) (budget : ℕ) (e : Ending) (o : Outcome) (s : State) → before2 ≡ before ++ s.outputs
+pub outcome_end : (told : Option Bytes) (programs : List RawProgram) (before before2 : List Out) (live : Live) (asker : Asker) (budget : ℕ) (e : Ending) (o : Outcome) (s : State) → before2 ≡ before ++ s.outputs
     → IsOutcome told programs before2 live asker budget e o → IsOutcome told programs before live asker budget e (outcome_of (plain_end (end_of_outcome s o)))
 outcome_end told programs before before2 live asker budget e o s b h = by o.answer h.answer
   where
