@@ -1,5 +1,5 @@
 -- `call_other`.
-use Rattle.std.proofs.Common.{◌≡◌, ◌∙◌, ◌≤◌, ◌++◌, ◌∷◌, [], ℕ, pos, Bool, true, false, List, Some, None, refl, ap, sym, subst, drop, length, map, take, arith, length-append, append_assoc, unwrap_or, if◌then◌else◌}
+use Rattle.std.proofs.Common.{◌≡◌, ◌∙◌, ◌≤◌, ◌++◌, ◌∷◌, [], ℕ, pos, Bool, true, false, List, Option, Some, None, refl, ap, sym, subst, drop, length, map, take, arith, length-append, append_assoc, unwrap_or, if◌then◌else◌}
 use Rattle.std.proofs.lemmas.List.{take_at, drop_at, take-append-drop}
 use Rattle.std.proofs.lemmas.List.Elements.{All-push, All-take}
 use Rattle.lp_values.specs.declared.error.ErrorKind.TheVariants.{BadTarget}
@@ -132,15 +132,15 @@ pub named_is : (live : Live) (vs : List Value) (name : List ℕ) (o : ObjId) →
     → FoundBy live name (Some o) → IsNamed live vs o
 named_is live vs name o e m f =
     let n = named_text (live_in live.objects) [] vs (e []) in
-    subst (λ vs. IsNamed live vs o) (sym n.2.1)
-    (named_first live n.0 n.2.0 name o (m (live_in live.objects) [] ∙ ap (λ ws. as_name (text_arg (map (operand (live_in live.objects) []) ws) 0)) n.2.1) f)
+    subst (λ vs. IsNamed live vs o) (sym n.2)
+    (named_first live n.0 n.1 name o (m (live_in live.objects) [] ∙ ap (λ ws. as_name (text_arg (map (operand (live_in live.objects) []) ws) 0)) n.2) f)
 
 pub unnamed_is : (live : Live) (vs : List Value) (name : List ℕ) → ((cells : Store) → targets.Named ≡ target_of (arg (map (operand (live_in live.objects) cells) vs) 0)) → MeansName vs name
     → FoundBy live name None → IsUnnamedTarget live vs name
 unnamed_is live vs name e m f =
     let n = named_text (live_in live.objects) [] vs (e []) in
-    subst (λ vs. IsUnnamedTarget live vs name) (sym n.2.1)
-    (m (live_in live.objects) [] ∙ ap (λ ws. as_name (text_arg (map (operand (live_in live.objects) []) ws) 0)) n.2.1, λ g turn b s h. sym (found_same g live turn b s name name None h f refl))
+    subst (λ vs. IsUnnamedTarget live vs name) (sym n.2)
+    (m (live_in live.objects) [] ∙ ap (λ ws. as_name (text_arg (map (operand (live_in live.objects) []) ws) 0)) n.2, λ g turn b s h. sym (found_same g live turn b s name name None h f refl))
 
 -- no live object has the name of a clone
 pub clone_unnamed : (live : Live) (vs : List Value) (name : List ℕ) → IsUnnamedTarget live vs name → is_clone_name name ≡ true → HasNoTarget live vs

@@ -1,5 +1,5 @@
 -- The world of a state that a step leads to settles from the one before.
-use Rattle.std.proofs.Common.{refl}
+use Rattle.std.proofs.Common.{ℕ}
 use Rattle.lp_values.specs.declared.value.Value.{Value}
 use Rattle.lp_instr.specs.declared.efun.Efun.{Efun}
 use Rattle.lp_ops.specs.Operands.{size_of}

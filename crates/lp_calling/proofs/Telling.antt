@@ -20,6 +20,7 @@ use Rattle.lp_meaning.specs.WorldSteps.{connection_of}
 use Rattle.lp_world.specs.Closed.{IsClosed}
 use Rattle.lp_world.specs.Rows.{live_in}
 use Rattle.lp_world.specs.declared.live.Live.{Live}
+use Rattle.lp_world.specs.declared.objects.Object.{Object}
 use Rattle.lp_world.proofs.Keeping.{live_same}
 use Rattle.lp_efuns.specs.declared.caller.Caller.{Caller}
 use Rattle.lp_efuns.specs.declared.caller.Turn.{Turn}
@@ -35,7 +36,7 @@ use Rattle.lp_calling.specs.declared.job.Step.TheVariants as steps
 use Rattle.lp_settling.proofs.Still.{still}
 use Rattle.lp_calling.specs.Beginning.{Settled, Starts}
 use Rattle.lp_calling.specs.Going.{StageGoes}
-use Rattle.lp_calling.specs.Jobs.{IsStageOn, ended, stage_course}
+use Rattle.lp_calling.specs.Jobs.{IsStageOn, IsStageReady, ended, stage_course}
 use Rattle.lp_calling.specs.Targets.{reader, told_stage}
 use Rattle.lp_calling.proofs.Courses.{asked_on}
 use Rattle.lp_calling.proofs.Settled.{over_onward, settled_here}
@@ -205,6 +206,10 @@ told_begun (Some o) t own by s = refl
 told_on : (o : Option ObjId) (t : List ℕ) (low n : ℕ) → low ≤ n → IsStageOn (told_stage o t) low n
 told_on None t low n l = l
 told_on (Some o) t low n l = l
+
+pub told_ready : (objects : List (Option Object)) (o : Option ObjId) (t : List ℕ) → IsStageReady objects (told_stage o t)
+told_ready objects None t = tt
+told_ready objects (Some o) t = tt
 
 -- which object an argument is does not hang on cells
 read_any : (l : ObjId → Bool) (a b : Store) (o : ObjId) (x : Bool)
