@@ -88,11 +88,7 @@ fn begin_unnamed(
 }
 
 /// `call_other` begins whose target is a text: the live object with the name that it means.
-fn begin_named(
-    live: &Live,
-    stack: &mut Vec<Value>,
-    low: usize,
-) -> Result<Begun, CallingFault>
+fn begin_named(live: &Live, stack: &mut Vec<Value>, low: usize) -> Result<Begun, CallingFault>
     requires low { low ≤ length stack.old.items }
     requires target { (cells : Store) → targets.Named ≡ target_of (arg (map (operand (live_in live.now.objects) cells) (drop low stack.old.items)) 0) }
     ensures starts { IfOk result (λ r. (caller : _) → Starts r Efun.CallOther caller live.now low stack.old.items stack.new.items) }
