@@ -58,7 +58,7 @@ abbrev pub ask_of : {shapes : Shapes} (a : Around) {m : Moment} {live : Live} {s
 ask_of a c = asking c.what c.given a.scene c.moment.state
 
 -- what was told is a question
-waits_so : (shapes : Shapes) (a : Around) (m : Moment) (n : Led) (live : Live) (stack0 stack1 low rest given : List Value) (frame : Frame) (budget args : ℕ) (what : Asked) (c : Came shapes a m n live stack0 frame budget) → within n (work_of a.code m) ≡ work_of a.code m
+abbrev waits_so : (shapes : Shapes) (a : Around) (m : Moment) (n : Led) (live : Live) (stack0 stack1 low rest given : List Value) (frame : Frame) (budget args : ℕ) (what : Asked) (c : Came shapes a m n live stack0 frame budget) → within n (work_of a.code m) ≡ work_of a.code m
     → told_by n a c.moment ≡ awaits what given a.scene c.moment.state c.moment.place c.moment.catches rest
     → Sits a low frame (record { place = c.moment.place; stack = rest; catches = c.moment.catches; state = c.moment.state }) → stack1 ≡ low ++ given → length given ≡ args → Waits shapes a m live stack1 frame budget args
 waits_so shapes a m n live stack0 stack1 low rest given frame budget args what c same told sits lies many = record {
@@ -185,8 +185,8 @@ pub call_text : (shapes : Shapes) (a : Around) (m : Moment) (live : Live) (stack
 call_text shapes a m live stack frame budget call c = text_there call.target call.args a stack frame c.moment (parted_of shapes a m live stack frame budget call c)
 
 -- the arguments of `call_other` lie there
-record Laid (low given : List Value) (what : Asked) (stack : List Value) (args : ℕ) : Type 0 where
-  what : what ≡ OfEfun efuns.CallOther
+record Laid (low given : List Value) (asked : Asked) (stack : List Value) (args : ℕ) : Type 0 where
+  what : asked ≡ OfEfun efuns.CallOther
   lies : stack ≡ low ++ given
   many : length given ≡ args
 

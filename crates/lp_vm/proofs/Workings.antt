@@ -3,6 +3,7 @@ use Rattle.std.proofs.Common.{◌≡◌, ◌∙◌, ◌++◌, ◌∷◌, [], ◌
 use Rattle.std.specs.Prelude.{IfSome, reverse}
 use Rattle.std.specs.Option.{option_to_list}
 use Rattle.std.proofs.Math.Nat.{le_trans}
+use Rattle.std.proofs.lemmas.List.{reverse-append}
 use Rattle.std.proofs.Math.Seq.{take-append_seam}
 use Rattle.lp_values.specs.declared.id.ObjId.{ObjId}
 use Rattle.lp_values.specs.declared.value.Value.{Value}
@@ -67,13 +68,13 @@ question_asked (questions.CatchTell ob) asker this by c xs t scene same callers 
 module _ (this : ObjId) (job0 job1 : Job) (told0 told1 : Option Bytes) (live0 live1 live2 : Live) (stack0 stack1 : List Value) (asker0 : Asker) (budget0 budget1 args n : ℕ) (q : Question) (found : Option Reached)
     (goes : Goes (goes_to.Asks q n) job0 live0 asker0.turn stack0 budget0 job1 live1 stack1 budget1) where
   module _ (programs : List RawProgram) (before : List Out) (by : meaning.Asker) (c : Scene) (s : State) (low own : List Value) (w : IsWorking this job0 told0 programs before live0 stack0 asker0 budget0 by c s low own) where
-    pub has : HasAsked q n job0 own live0 asker0.turn budget0 job1 low stack1 live1 budget1
+    abbrev pub has : HasAsked q n job0 own live0 asker0.turn budget0 job1 low stack1 live1 budget1
     has = goes low own w.lies w.height
 
-    came : (t : State) × Settled s.world (setting told0 programs before) live1 asker0.turn budget1 t × (course_of job0 own by s ≡ and_then (ask_value (asked_of q) has.arguments by t) (rest_of job1 has.own by))
+    abbrev came : (t : State) × Settled s.world (setting told0 programs before) live1 asker0.turn budget1 t × (course_of job0 own by s ≡ and_then (ask_value (asked_of q) has.arguments by t) (rest_of job1 has.own by))
     came = has.course (setting told0 programs before) by s w.at
 
-    pub the_ask : Ask
+    abbrev pub the_ask : Ask
     the_ask = question (asked_of q) has.arguments by came.0
 
     asks_so : IsAskedSo q asker0 this the_ask

@@ -1,6 +1,7 @@
 //! What lies below the arguments of a call that goes through `call_other`.
 ghost use Rattle.std.specs.Prelude.{◌≡◌, ◌+◌, ◌-◌, ◌<◌, ◌≤◌, ◌++◌, ◌∷◌, IfOk, OnOk, Some, drop, length, slice_get, take};
 ghost use Rattle.lp_values.specs.declared.value.Value.TheVariants.{Str};
+ghost use Rattle.lp_cells.specs.Cells.{IsThere, Store};
 ghost use Rattle.lp_language.specs.Eval.{name_or_zero};
 ghost use Rattle.lp_step.specs.Steps.{IsFit};
 ghost use Rattle.lp_vm.specs.Laying.{HasText, Lays};
@@ -21,7 +22,8 @@ fn put_two(
     second: Value,
 ) -> Result<(), AllocError>
     requires { low ≤ length stack.old.items }
-    ensures { OnOk result (stack.new.items ≡ take low stack.old.items ++ first ∷ second ∷ drop low stack.old.items) }
+    ensures items { OnOk result (stack.new.items ≡ take low stack.old.items ++ first ∷ second ∷ drop low stack.old.items) }
+    ensures keeps { OnOk result ((l : _) → IsThere l.cells first → IsThere l.cells second → IsFit l stack.old.items → IsFit l stack.new.items) }
 {
     stack.insert(low, second)?;
     stack.insert(low, first)?;
@@ -31,14 +33,16 @@ fn put_two(
 /// A text of a program, in the same memory.
 fn text_at(program: &SharedProgram, k: u32) -> Result<Value, AllocError>
     requires { k < length program.now.consts }
-    ensures { IfOk result (λ v. (name : _) → slice_get program.now.consts k ≡ Some name → v ≡ Str name) }
+    ensures value { IfOk result (λ v. (name : _) → slice_get program.now.consts k ≡ Some name → v ≡ Str name) }
+    ensures there { IfOk result (λ v. (cells : Store) → IsThere cells v) }
 {
     Ok(Value::Str(program.raw().consts.as_slice()[k as usize].copy()?))
 }
 
 /// A name as a value, or 0 where there is none.
 fn name_or_zero(name: &Option<Text>) -> Result<Value, AllocError>
-    ensures { IfOk result (λ v. v ≡ name_or_zero name.now) }
+    ensures value { IfOk result (λ v. v ≡ name_or_zero name.now) }
+    ensures there { IfOk result (λ v. (cells : Store) → IsThere cells v) }
 {
     match name {
         Some(name) => Ok(Value::Str(name.copy()?)),
