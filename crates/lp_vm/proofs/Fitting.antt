@@ -1,12 +1,22 @@
 -- What lies on the stack is there.
-use Rattle.std.proofs.Common.{◌≡◌, ◌++◌, ◌∷◌, ℕ, List, All, Result, Ok, Err, sym, subst, take, drop}
+use Rattle.std.proofs.Common.{◌≡◌, ◌∙◌, ◌++◌, ◌∷◌, ◌≤◌, ℕ, List, All, Result, Ok, Err, ap, sym, subst, length, take, drop}
 use Rattle.std.specs.Prelude.{OnOk}
+use Rattle.std.proofs.Math.Seq.{take-append_seam, drop-append_seam}
+use Rattle.std.proofs.lemmas.List.{length-take-le}
 use Rattle.std.proofs.lemmas.List.Elements.{All-append, All-cons, All-drop, All-take, All-weaker}
 use Rattle.lp_values.specs.declared.value.Value.{Value}
 use Rattle.lp_cells.specs.Cells.{IsThere, KeepsThere, Store}
 use Rattle.lp_world.specs.Closed.{IsClosed}
 use Rattle.lp_world.specs.declared.live.Live.{Live}
 use Rattle.lp_step.specs.Steps.{IsFit}
+
+-- two values that are put in at a place, the second one first
+pub twice_in : (xs ys zs : List Value) (low : ℕ) (x y : Value) → low ≤ length xs → ys ≡ take low xs ++ y ∷ drop low xs → zs ≡ take low ys ++ x ∷ drop low ys → zs ≡ take low xs ++ x ∷ y ∷ drop low xs
+twice_in xs ys zs low x y h first second =
+    let k : low ≡ length (take low xs) = sym (length-take-le low xs h) in
+    let before : take low ys ≡ take low xs = ap (λ j. take j ys) k ∙ ap (λ l. take (length (take low xs)) l) first ∙ take-append_seam (take low xs) (y ∷ drop low xs) in
+    let behind : drop low ys ≡ y ∷ drop low xs = ap (λ j. drop j ys) k ∙ ap (λ l. drop (length (take low xs)) l) first ∙ drop-append_seam (take low xs) (y ∷ drop low xs) in
+    second ∙ ap (λ l. l ++ x ∷ drop low ys) before ∙ ap (λ l. take low xs ++ x ∷ l) behind
 
 -- two values that are there are put in
 pub put_in_fit : (live : Live) (stack0 stack1 : List Value) (low : ℕ) (x y : Value) → stack1 ≡ take low stack0 ++ x ∷ y ∷ drop low stack0 → IsThere live.cells x → IsThere live.cells y → IsFit live stack0 → IsFit live stack1

@@ -1,5 +1,5 @@
 //! Efuns that a running function calls begin.
-ghost use Rattle.std.specs.Prelude.{◌≡◌, ◌≤◌, IfOk, None, drop, length, true};
+ghost use Rattle.std.specs.Prelude.{◌≡◌, ◌-◌, ◌≤◌, IfOk, None, drop, length, true};
 ghost use Rattle.lp_cells.specs.Cells.{Store};
 ghost use Rattle.lp_efuns.specs.Plain.{IsAnswerThere, is_plain};
 ghost use Rattle.lp_calling.specs.Beginning.{is_calling};
@@ -53,11 +53,12 @@ pub fn ending_of(answer: Answer) -> Ending
     }
 }
 
-/// The values from a place on.
-fn above(stack: &Vec<Value>, low: usize) -> &[Value]
-    requires { low ≤ length stack.now.items }
-    ensures { result.now ≡ drop low stack.now.items }
+/// So many values on top, the topmost last.
+fn topmost(stack: &Vec<Value>, n: u32) -> &[Value]
+    requires { n ≤ length stack.now.items }
+    ensures { result.now ≡ drop (length stack.now.items - n) stack.now.items }
 {
+    let low = stack.len() - n as usize;
     &stack[low..]
 }
 
@@ -76,13 +77,12 @@ fn plain(
     requires can { CanStart live.old stack.old.items asker.old budget.old (requests.Efun this efun) args }
     ensures { IfOk result (λ r. StartsEfun r this efun args live.old stack.old.items asker.old budget.old live.new stack.new.items asker.new budget.new) }
 {
-    let low = stack.len() - args as usize;
     let caller = Caller {
         this,
         interactive: asker.interactive,
         callers: asker.callers.as_slice(),
     };
-    let answer = call_plain(live, &mut asker.turn, &caller, efun, above(stack, low), budget)?;
+    let answer = call_plain(live, &mut asker.turn, &caller, efun, topmost(stack, args), budget)?;
     drop_top(stack, args as usize);
     Ok(EfunBegun::Answered(ending_of(answer)))
 }

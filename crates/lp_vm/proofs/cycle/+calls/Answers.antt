@@ -14,6 +14,7 @@ use Rattle.lp_vm.specs.Jobs.{FedOn, Feeds, StepsTo, WorkAsks}
 use Rattle.lp_vm.specs.Turns.{Calls, Halts}
 use Rattle.lp_vm.specs.Working.{CanWork, WorkContinues}
 use Rattle.lp_vm.proofs.Workings.{asked_ends, can_work_on, works_later, works_more, works_same}
+use Rattle.lp_targets.proofs.Lookups.{if_ok}
 use Rattle.lp_vm.proofs.Cycling.{call_can, call_continues, call_finishes, call_home, call_spends, finishes_later}
 use Rattle.lp_vm.proofs.Enterings.{goes_on_more, goes_on_same}
 use Rattle.lp_vm.proofs.Startings.{same_asker, same_later}
@@ -116,7 +117,7 @@ call_efun-work-requires g t c =
     let h : HasBegunEfun c.args.this c.args.efun c.args.args c.args.live.now c.args.stack.now.items c.args.asker.now c.args.budget.now c.in-Works.job c.begin_efun.new.live c.begin_efun.new.stack.items c.begin_efun.new.asker c.begin_efun.new.budget =
     subst (λ r. StartsEfun r c.args.this c.args.efun c.args.args c.args.live.now c.args.stack.now.items c.args.asker.now c.args.budget.now c.begin_efun.new.live c.begin_efun.new.stack.items c.begin_efun.new.asker c.begin_efun.new.budget) c.in-Works.is c.in_ok-ending.ensures in
     let less = h.spends in
-    λ κs within. (omega (arith, less), (within, (h.on, h.ready, h.fit, h.can (g.W.SwapFile.content c.args.swap.now) c.requires.can)))
+    λ κs within. (omega (arith, less), (within, (h.on, (h.ready, (h.fit, h.can (g.W.SwapFile.content c.args.swap.now) c.requires.can)))))
 
 pub call_efun-returns-in-Works : goal.call_efun-returns-in-Works
 call_efun-returns-in-Works g t c =
@@ -151,3 +152,55 @@ work-answer-requires g t c =
     let less = k.spends in
     let more = c.questions.invariant.spends in
     λ κs within. (omega (arith, less, more), (within, (k.fit, k.can c.questions.invariant.can)))
+
+pub work-feed_back-requires-clause-on : goal.work-feed_back-requires-clause-on
+work-feed_back-requires-clause-on g t c =
+    let k : WorkAsks c.in-Asks.reached c.in-Asks.args c.args.this c.questions.job (g.W.SwapFile.content c.questions.swap) c.questions.live c.questions.stack.items c.questions.asker c.questions.budget c.step_job.new.job (g.W.SwapFile.content c.step_job.new.swap) c.step_job.new.live c.step_job.new.stack.items c.step_job.new.budget =
+    subst (λ x. StepsTo x c.args.this c.questions.job (g.W.SwapFile.content c.questions.swap) c.questions.live c.questions.stack.items c.questions.asker c.questions.budget c.step_job.new.job (g.W.SwapFile.content c.step_job.new.swap) c.step_job.new.live c.step_job.new.stack.items c.step_job.new.budget) c.in-Asks.is c.in_ok-ending.ensures in
+    k.on (g.W.SwapFile.content c.answer.new.swap) c.answer.new.live c.answer.new.stack.items c.answer.new.asker c.answer.new.budget c.in_ok-ending-in-Asks.ending c.questions.invariant.can c.in_ok-ending-in-Asks.ensures
+
+pub work-feed_back-requires-clause-asking : goal.work-feed_back-requires-clause-asking
+work-feed_back-requires-clause-asking g t c =
+    let k : WorkAsks c.in-Asks.reached c.in-Asks.args c.args.this c.questions.job (g.W.SwapFile.content c.questions.swap) c.questions.live c.questions.stack.items c.questions.asker c.questions.budget c.step_job.new.job (g.W.SwapFile.content c.step_job.new.swap) c.step_job.new.live c.step_job.new.stack.items c.step_job.new.budget =
+    subst (λ x. StepsTo x c.args.this c.questions.job (g.W.SwapFile.content c.questions.swap) c.questions.live c.questions.stack.items c.questions.asker c.questions.budget c.step_job.new.job (g.W.SwapFile.content c.step_job.new.swap) c.step_job.new.live c.step_job.new.stack.items c.step_job.new.budget) c.in-Asks.is c.in_ok-ending.ensures in
+    k.asking
+
+pub work-returns-in-Some : goal.work-returns-in-Some
+work-returns-in-Some g t c =
+    let k : WorkAsks c.in-Asks.reached c.in-Asks.args c.args.this c.questions.job (g.W.SwapFile.content c.questions.swap) c.questions.live c.questions.stack.items c.questions.asker c.questions.budget c.step_job.new.job (g.W.SwapFile.content c.step_job.new.swap) c.step_job.new.live c.step_job.new.stack.items c.step_job.new.budget =
+    subst (λ x. StepsTo x c.args.this c.questions.job (g.W.SwapFile.content c.questions.swap) c.questions.live c.questions.stack.items c.questions.asker c.questions.budget c.step_job.new.job (g.W.SwapFile.content c.step_job.new.swap) c.step_job.new.live c.step_job.new.stack.items c.step_job.new.budget) c.in-Asks.is c.in_ok-ending.ensures in
+    works_later c.args.this c.args.job c.questions.job (g.W.SwapFile.content c.args.swap.now) (g.W.SwapFile.content c.questions.swap) (g.W.SwapFile.content c.answer.new.swap) c.args.live.now c.questions.live c.answer.new.live c.args.stack.now.items c.questions.stack.items c.feed_back.new.stack.items
+    c.args.asker.now c.questions.asker c.answer.new.asker c.args.budget.now c.questions.budget c.answer.new.budget c.in-Some.ending c.questions.invariant.goes c.questions.invariant.same c.questions.invariant.spends c.questions.invariant.home
+    (asked_ends c.args.this c.questions.job c.step_job.new.job c.feed_back.new.job c.in-Asks.reached c.in-Asks.args (g.W.SwapFile.content c.questions.swap) (g.W.SwapFile.content c.step_job.new.swap) (g.W.SwapFile.content c.answer.new.swap) c.questions.live c.step_job.new.live c.answer.new.live
+    c.questions.stack.items c.step_job.new.stack.items c.answer.new.stack.items c.feed_back.new.stack.items c.questions.asker c.answer.new.asker c.questions.budget c.step_job.new.budget c.answer.new.budget c.in_ok-ending-in-Asks.ending c.in-Some.ending k c.in_ok-ending-in-Asks.ensures
+    (subst (λ r. Feeds r c.in_ok-ending-in-Asks.ending c.step_job.new.job c.answer.new.live c.answer.new.stack.items c.feed_back.new.job c.feed_back.new.stack.items) c.in-Some.is c.in_ok-ending-in-Asks-2.ensures.feeds)
+    (subst (λ r. IfSome r (λ e. e ≡ c.in_ok-ending-in-Asks.ending)) c.in-Some.is c.in_ok-ending-in-Asks-2.ensures.same) c.in_ok-ending-in-Asks-2.ensures.fit)
+
+pub work-questions-smaller : goal.work-questions-smaller
+work-questions-smaller g t c =
+    let k : WorkAsks c.in-Asks.reached c.in-Asks.args c.args.this c.questions.job (g.W.SwapFile.content c.questions.swap) c.questions.live c.questions.stack.items c.questions.asker c.questions.budget c.step_job.new.job (g.W.SwapFile.content c.step_job.new.swap) c.step_job.new.live c.step_job.new.stack.items c.step_job.new.budget =
+    subst (λ x. StepsTo x c.args.this c.questions.job (g.W.SwapFile.content c.questions.swap) c.questions.live c.questions.stack.items c.questions.asker c.questions.budget c.step_job.new.job (g.W.SwapFile.content c.step_job.new.swap) c.step_job.new.live c.step_job.new.stack.items c.step_job.new.budget) c.in-Asks.is c.in_ok-ending.ensures in
+    let on : FedOn None c.step_job.new.job c.feed_back.new.job c.feed_back.new.stack.items = subst (λ r. FedOn r c.step_job.new.job c.feed_back.new.job c.feed_back.new.stack.items) c.in_default.is c.in_ok-ending-in-Asks-2.ensures.on in
+    let less = on.2 in
+    let left = k.left in
+    omega (arith, less, left)
+
+pub work-questions-preserved : goal.work-questions-preserved
+work-questions-preserved g t c =
+    let k : WorkAsks c.in-Asks.reached c.in-Asks.args c.args.this c.questions.job (g.W.SwapFile.content c.questions.swap) c.questions.live c.questions.stack.items c.questions.asker c.questions.budget c.step_job.new.job (g.W.SwapFile.content c.step_job.new.swap) c.step_job.new.live c.step_job.new.stack.items c.step_job.new.budget =
+    subst (λ x. StepsTo x c.args.this c.questions.job (g.W.SwapFile.content c.questions.swap) c.questions.live c.questions.stack.items c.questions.asker c.questions.budget c.step_job.new.job (g.W.SwapFile.content c.step_job.new.swap) c.step_job.new.live c.step_job.new.stack.items c.step_job.new.budget) c.in-Asks.is c.in_ok-ending.ensures in
+    let on : FedOn None c.step_job.new.job c.feed_back.new.job c.feed_back.new.stack.items = subst (λ r. FedOn r c.step_job.new.job c.feed_back.new.job c.feed_back.new.stack.items) c.in_default.is c.in_ok-ending-in-Asks-2.ensures.on in
+    let more : WorkContinues c.args.this c.questions.job (g.W.SwapFile.content c.questions.swap) c.questions.live c.questions.stack.items c.questions.asker c.questions.budget c.feed_back.new.job (g.W.SwapFile.content c.answer.new.swap) c.answer.new.live c.feed_back.new.stack.items c.answer.new.asker c.answer.new.budget =
+    k.turns c.feed_back.new.job (g.W.SwapFile.content c.answer.new.swap) c.answer.new.live c.answer.new.stack.items c.feed_back.new.stack.items c.answer.new.asker c.answer.new.budget c.in_ok-ending-in-Asks.ending None c.in_ok-ending-in-Asks.ensures
+    (subst (λ r. Feeds r c.in_ok-ending-in-Asks.ending c.step_job.new.job c.answer.new.live c.answer.new.stack.items c.feed_back.new.job c.feed_back.new.stack.items) c.in_default.is c.in_ok-ending-in-Asks-2.ensures.feeds) in
+    record {
+      can = can_work_on c.args.this c.questions.job c.feed_back.new.job (g.W.SwapFile.content c.questions.swap) (g.W.SwapFile.content c.answer.new.swap) c.questions.live c.answer.new.live c.questions.stack.items c.feed_back.new.stack.items c.questions.asker c.answer.new.asker c.questions.budget c.answer.new.budget c.questions.invariant.can more;
+      on = on.0;
+      ready = on.1 c.answer.new.live.objects;
+      fit = c.in_ok-ending-in-Asks-2.ensures.fit;
+      same = same_later c.args.asker.now c.questions.asker c.answer.new.asker c.questions.invariant.same c.in_ok-ending-in-Asks.ensures.same;
+      spends = le_trans (le_trans c.in_ok-ending-in-Asks.ensures.spends k.spends) c.questions.invariant.spends;
+      home = home_later c.args.live.now.objects c.questions.live.objects c.answer.new.live.objects c.questions.invariant.home (home_later c.questions.live.objects c.step_job.new.live.objects c.answer.new.live.objects k.home c.in_ok-ending-in-Asks.ensures.home);
+      goes = works_more c.args.this c.args.job c.questions.job c.feed_back.new.job (g.W.SwapFile.content c.args.swap.now) (g.W.SwapFile.content c.questions.swap) (g.W.SwapFile.content c.answer.new.swap) c.args.live.now c.questions.live c.answer.new.live c.args.stack.now.items c.questions.stack.items c.feed_back.new.stack.items
+          c.args.asker.now c.questions.asker c.answer.new.asker c.args.budget.now c.questions.budget c.answer.new.budget c.questions.invariant.goes more;
+    }
