@@ -177,7 +177,7 @@ module _ (this : ObjId) (efun : Efun) (live0 live1 : Live) (stack0 stack1 : List
       let r = begins asker0.turn below a.arguments lies many in (
         r.stack,
         subst (λ l. IsOver x (Settled a.world g l asker1.turn budget1) (efun_in efun (asker_of a) c a.arguments (state_of a))) (sym same)
-        (subst (λ w. IsOver x (Settled a.world g live0 w.turn budget1) (efun_in efun (asker_of a) c a.arguments (state_of a))) (sym who) (r.course g (asker_of a) c (state_of a) scene at)),
+            (subst (λ w. IsOver x (Settled a.world g live0 w.turn budget1) (efun_in efun (asker_of a) c a.arguments (state_of a))) (sym who) (r.course g (asker_of a) c (state_of a) scene at)),
       )
 
 -- AN EFUN GOES ON AS A JOB

@@ -131,9 +131,9 @@ asks_at : (told : Option Bytes) (live0 live1 : Live) (stack0 stack1 : List Value
 asks_at told live0 live1 stack0 stack1 frame0 frame1 budget0 budget1 args e p k row f a m course asker0 g d = record {
   waits = d.waits;
   is = (
-      asks_efun p k row f a m course told live0 live1 stack0 stack1 frame0 frame1 asker0 budget0 budget1 args g d.waits e d.what,
-      world_now p k row f a m course told live0 live1 stack0 stack1 frame0 frame1 asker0 budget0 budget1 args g d.waits,
-    );
+    asks_efun p k row f a m course told live0 live1 stack0 stack1 frame0 frame1 asker0 budget0 budget1 args g d.waits e d.what,
+    world_now p k row f a m course told live0 live1 stack0 stack1 frame0 frame1 asker0 budget0 budget1 args g d.waits,
+  );
 }
 
 -- an efun

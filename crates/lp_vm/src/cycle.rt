@@ -126,8 +126,12 @@ fn serve<W: Truthful>(
     ensures { IfOk result (λ e. Answers request args (W.content swap.old) live.old stack.old.items asker.old budget.old (W.content swap.new) live.new stack.new.items asker.new budget.new e) }
 {
     match request {
-        Request::Function(reached) => answer(alloc, live, swap, stack, asker, reached, args, budget),
-        Request::Efun(this, efun) => call_efun(alloc, live, swap, stack, asker, this, efun, args, budget),
+        Request::Function(reached) => answer(
+            alloc, live, swap, stack, asker, reached, args, budget,
+        ),
+        Request::Efun(this, efun) => call_efun(
+            alloc, live, swap, stack, asker, this, efun, args, budget,
+        ),
     }
 }
 

@@ -82,7 +82,14 @@ fn plain(
         interactive: asker.interactive,
         callers: asker.callers.as_slice(),
     };
-    let answer = call_plain(live, &mut asker.turn, &caller, efun, topmost(stack, args), budget)?;
+    let answer = call_plain(
+        live,
+        &mut asker.turn,
+        &caller,
+        efun,
+        topmost(stack, args),
+        budget,
+    )?;
     drop_top(stack, args as usize);
     Ok(EfunBegun::Answered(ending_of(answer)))
 }
