@@ -8,26 +8,23 @@ use Rattle.lp_instr.specs.Code.{Code, parent_row}
 use Rattle.lp_language.specs.Course as course
 use Rattle.lp_language.specs.Course.{Ask, Asked, Scene, Internal, Parent}
 use Rattle.lp_meaning.specs.FunctionCalls.{depth_behind}
+use Rattle.lp_efuns.specs.Turns.{commands_of}
 use Rattle.lp_step.specs.declared.next.Target.{Target}
 use Rattle.lp_step.specs.declared.next.Target.TheVariants as targets
 use Rattle.lp_asking.specs.declared.asker.Asker.{Asker}
 use Rattle.lp_asking.specs.declared.asker.Loading.{Loading}
-use Rattle.lp_asking.specs.declared.asker.Typed.{Typed}
 use Rattle.lp_asking.specs.declared.question.Question.{Question}
 use Rattle.lp_asking.specs.declared.question.Question.TheVariants as questions
 
--- running commands and loads under way, as the meaning has them
-abbrev pub typed_of : Typed → course.Typed
-typed_of t = record { verb = t.verb; fail = t.fail }
-
+-- loads under way, as the meaning has them
 abbrev pub loading_of : Loading → course.Loading
 loading_of l = record { name = l.name; nested = l.nested }
 
 -- The state has the player, the commands, what was handed down, and the depth of who asks. It has the innermost command and
 -- load last, and the latest caller.
 pub record IsBy (asker : Asker) (a : Ask) : Type 0 where
-  pub player : a.player ≡ asker.player
-  pub commands : a.commands ≡ map typed_of (reverse asker.commands.items)
+  pub player : a.player ≡ asker.turn.player
+  pub commands : a.commands ≡ commands_of asker.turn.commands.items
   pub interactive : a.interactive ≡ asker.interactive
   pub loads : a.loads ≡ map loading_of (reverse asker.loads.items)
   pub depth : depth_behind a.scene ≡ asker.depth + 1

@@ -15,17 +15,15 @@ IsPaid false old new = (old ≡ 0) × (new ≡ 0)
 
 -- one deeper, with one caller more if one is given
 pub record HasCaller (caller : Option ObjId) (old new : Asker) : Type 0 where
-  pub player : new.player ≡ old.player
-  pub commands : new.commands ≡ old.commands
+  pub turn : new.turn ≡ old.turn
   pub interactive : new.interactive ≡ old.interactive
   pub loads : new.loads ≡ old.loads
   pub callers : new.callers.items ≡ old.callers.items ++ option_to_list caller
   pub depth : new.depth ≡ old.depth + 1
 
--- as it was before that, but for player and commands, which are those of now
+-- as it was before that, but for the turn, which is that of now
 pub record HasNoCaller (is_called : Bool) (caller : Option ObjId) (was old new : Asker) : Type 0 where
-  pub player : new.player ≡ old.player
-  pub commands : new.commands ≡ old.commands
+  pub turn : new.turn ≡ old.turn
   pub interactive : new.interactive ≡ old.interactive
   pub loads : new.loads ≡ old.loads
   pub callers : is_called ≡ is_some caller → new.callers.items ≡ was.callers.items

@@ -1,15 +1,7 @@
 //! Who asks.
+use lp_efuns::caller::Turn;
 use lp_values::id::ObjId;
 use lp_values::text::Text;
-
-/// A running command.
-#[derive(Drop)]
-pub struct Typed {
-    /// Its verb.
-    pub verb: Text,
-    /// What it shows where no action did it.
-    pub fail: Option<Text>,
-}
 
 /// A load under way.
 #[derive(Drop)]
@@ -23,10 +15,8 @@ pub struct Loading {
 /// Who asks, beside the function that does: what the driver's calls hand down, and give back.
 #[derive(Drop)]
 pub struct Asker {
-    /// `this_player()`.
-    pub player: Option<ObjId>,
-    /// The running commands, the innermost last.
-    pub commands: Vec<Typed>,
+    /// `this_player()` and the running commands, which efuns change too.
+    pub turn: Turn,
     /// `this_interactive()`.
     pub interactive: Option<ObjId>,
     /// The loads under way, the innermost last.

@@ -14,6 +14,7 @@ use Rattle.lp_asking.specs.declared.asker.Asker.{Asker}
 use Rattle.lp_asking.specs.declared.ending.Ending.{Ending}
 use Rattle.lp_reaching.specs.declared.reached.Reached.{Reached}
 use Rattle.lp_reaching.specs.Reaching.{Applies, CanApply, FindsApplied, IsInMemory, ReachesIf}
+use Rattle.lp_vm.specs.declared.request.Request.TheVariants as requests
 use Rattle.lp_vm.specs.Answering.{CanServe, IsAsked, Served, Serves}
 use Rattle.lp_vm.specs.Applying.{CallIsMeant, CanCall}
 use Rattle.lp_vm.proofs.Turning.{world_reached}
@@ -26,7 +27,7 @@ asked_still : (told0 told1 : Option Bytes) (programs : List RawProgram) (live0 l
 asked_still told0 told1 programs live0 live1 stack below asker args budget a w h = record { by = h.by; world = w; left = h.left; lies = h.lies; many = h.many }
 
 pub can_answer : (caller : Option ObjId) (ob : ObjId) (name : List ℕ) (args : ℕ) (told0 told1 : Option Bytes) (live0 live1 : Live) (stack : List Value) (asker : Asker) (budget : ℕ) (r : Option Reached) → CanCall caller ob name args told0 live0 stack asker budget
-    → FindsApplied caller ob name told0 live0 told1 live1 r → IfSome r (λ x. IsInMemory live1 x.callee x.code) → CanServe told1 live1 stack asker budget r args
+    → FindsApplied caller ob name told0 live0 told1 live1 r → IfSome r (λ x. IsInMemory live1 x.callee x.code) → CanServe told1 live1 stack asker budget (requests.Function r) args
 can_answer caller ob name args told0 told1 live0 live1 stack asker budget r h finds there =
     let reached = finds h.programs asker h.ask h.applies h.asked.world in
     record {
@@ -34,12 +35,12 @@ can_answer caller ob name args told0 told1 live0 live1 stack asker budget r h fi
       ask = h.ask;
       below = h.below;
       asked = asked_still told0 told1 h.programs live0 live1 stack h.below asker args budget h.ask (world_reached told1 h.programs live1 asker h.ask r reached) h.asked;
-      reached = reached;
+      is = reached;
       there = there;
     }
 
 pub call_meant : (caller : Option ObjId) (ob : ObjId) (name : List ℕ) (args : ℕ) (told0 told1 told2 : Option Bytes) (live0 live1 live2 : Live) (stack0 stack1 : List Value) (asker0 asker1 : Asker) (budget0 budget1 : ℕ) (r : Option Reached) (e : Ending)
-    → FindsApplied caller ob name told0 live0 told1 live1 r → live1.outputs ≡ live0.outputs → Served r args told1 live1 stack0 asker0 budget0 told2 live2 stack1 asker1 budget1 e
+    → FindsApplied caller ob name told0 live0 told1 live1 r → live1.outputs ≡ live0.outputs → Served (requests.Function r) args told1 live1 stack0 asker0 budget0 told2 live2 stack1 asker1 budget1 e
     → CallIsMeant caller ob name args told0 live0 stack0 asker0 budget0 told2 live2 stack1 asker1 budget1 e
 call_meant caller ob name args told0 told1 told2 live0 live1 live2 stack0 stack1 asker0 asker1 budget0 budget1 r e finds outs served front programs a below h applies =
     let reached = finds programs asker0 a applies h.world in

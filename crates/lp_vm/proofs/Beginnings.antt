@@ -49,7 +49,8 @@ use Rattle.lp_asking.specs.declared.ending.Stop.{Stop}
 use Rattle.lp_targets.specs.Callees.{IsWorldOf}
 use Rattle.lp_reaching.specs.Compiled.{IsCallee, IsCaller}
 use Rattle.lp_reaching.specs.Reaching.{HasSameVariables, IsInMemory, Marks}
-use Rattle.lp_asking.specs.Asking.{code_in, loading_of, rows_in, typed_of}
+use Rattle.lp_efuns.specs.Turns.{commands_of}
+use Rattle.lp_asking.specs.Asking.{code_in, loading_of, rows_in}
 use Rattle.lp_asking.specs.Beginning.{HasCaller}
 use Rattle.lp_asking.specs.Endings.{IsPlaceIf, cause_of}
 use Rattle.lp_asking.proofs.Courses.{call_ends, entering_deep, entering_spent, over_ends, paid_one}
@@ -157,8 +158,8 @@ begins_runs live0 live2 stack0 stack1 frame asker0 asker1 callee code caller arg
       locals = c.row.locals;
       variables = length code.tables.vars;
       before = live0.outputs;
-      player = asker1.player;
-      commands = map typed_of (reverse asker1.commands.items);
+      player = asker1.turn.player;
+      commands = commands_of asker1.turn.commands.items;
     } in
     let is_around : IsAround around callee code c.row = record {
       found = found;
@@ -180,8 +181,8 @@ begins_runs live0 live2 stack0 stack1 frame asker0 asker1 callee code caller arg
       stands = marked.world.stands;
       left = omega (arith, paid, h.left);
       outputs = outs ∙ sym (append-nil live0.outputs);
-      player = h.by.player ∙ sym has.player;
-      commands = h.by.commands ∙ ap (λ cs. map typed_of (reverse cs.items)) (sym has.commands);
+      player = h.by.player ∙ ap (λ t. t.player) (sym has.turn);
+      commands = h.by.commands ∙ ap (λ t. commands_of t.commands.items) (sym has.turn);
     } in
     let fun : IsFunction code callee.fun c.row = subst (λ q. IsFunction q callee.fun c.row) same (c.sound.functions callee.fun c.row c.found) in
     let locals : begun_locals c.row.params c.row.locals a.arguments ≡ first_locals f.function a.arguments = begins_as_written f.function c.row a.arguments c.params c.locals in

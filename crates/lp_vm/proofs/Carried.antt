@@ -19,6 +19,8 @@ use Rattle.lp_step.specs.Steps.{KeepsVariables}
 use Rattle.lp_step_laws.specs.Running.{HasVariables}
 use Rattle.lp_run.specs.Kept.{IsStill}
 use Rattle.lp_part_laws.specs.Versions.{AreCompiled}
+use Rattle.lp_settling.specs.Settling.{Settles}
+use Rattle.lp_targets.specs.Callees.{IsWorldOf}
 use Rattle.lp_reaching.specs.Compiled.{IsCaller}
 
 -- Lists
@@ -81,3 +83,7 @@ all_mapped P Q xs f h = All-weaker P Q f xs h
 pub shadows_still : (u w : World) → IsStill u w → All (λ (s : Shadowing). is_live u s.shadow ≡ true) u.shadows → All (λ (s : Shadowing). is_live w s.shadow ≡ true) w.shadows
 shadows_still u w s h =
     subst (All (λ (x : Shadowing). is_live w x.shadow ≡ true)) (sym s.shadows) (all_mapped (λ (x : Shadowing). is_live u x.shadow ≡ true) (λ (x : Shadowing). is_live w x.shadow ≡ true) u.shadows (λ x l. s.lives x.shadow ∙ l) h)
+
+-- what efuns keep
+pub world_settled : (told : Option Bytes) (programs : List RawProgram) (live0 live1 : Live) (u w : World) → IsWorldOf told programs live0 u → Stands told programs live1 w → Settles u w → IsWorldOf told programs live1 w
+world_settled told programs live0 live1 u w h stands s = record { stands = stands; compiled = subst (AreCompiled programs) (sym s.versions) h.compiled; shadows = s.shadows h.shadows }

@@ -12,7 +12,7 @@ use Rattle.lp_asking.specs.declared.asker.Asker.{Asker}
 use Rattle.lp_asking.specs.declared.ending.Ending.{Ending}
 use Rattle.lp_asking.specs.Endings.{IsEndingThere}
 use Rattle.lp_asking.specs.Resuming.{Resumes}
-use Rattle.lp_reaching.specs.declared.reached.Reached.{Reached}
+use Rattle.lp_vm.specs.declared.request.Request.{Request}
 use Rattle.lp_vm.specs.Answering.{IsSameAsker}
 use Rattle.lp_vm.specs.Cycle.{Answers, Finishes}
 use Rattle.lp_vm.specs.Going.{CanGo, Continues}
@@ -33,8 +33,8 @@ finishes_later told0 told1 told2 live0 live1 live2 stack0 stack1 stack2 frame0 f
   there = h.there;
 }
 
-module _ (found : Option Reached) (args : ℕ) (told0 told1 told2 : Option Bytes) (live0 live1 live2 : Live) (stack0 stack1 stack2 stack3 : List Value) (frame0 frame1 frame3 : Frame) (asker0 asker2 : Asker) (budget0 budget1 budget2 : ℕ) (e : Ending)
-    (calls : Calls found args told0 live0 stack0 frame0 budget0 told1 live1 stack1 frame1 budget1) (answers : Answers found args told1 live1 stack1 asker0 budget1 told2 live2 stack2 asker2 budget2 e) (fit : IsFit live2 stack3) where
+module _ (request : Request) (args : ℕ) (told0 told1 told2 : Option Bytes) (live0 live1 live2 : Live) (stack0 stack1 stack2 stack3 : List Value) (frame0 frame1 frame3 : Frame) (asker0 asker2 : Asker) (budget0 budget1 budget2 : ℕ) (e : Ending)
+    (calls : Calls request args told0 live0 stack0 frame0 budget0 told1 live1 stack1 frame1 budget1) (answers : Answers request args told1 live1 stack1 asker0 budget1 told2 live2 stack2 asker2 budget2 e) (fit : IsFit live2 stack3) where
   -- what was answered ends it
   pub call_finishes : (x : Ending) → Resumes (Some x) 0 e stack2 frame1 stack3 frame3 → x ≡ e → Finishes told0 live0 stack0 frame0 asker0 budget0 told2 live2 stack3 asker2 budget2 x
   call_finishes x resumes same = record {

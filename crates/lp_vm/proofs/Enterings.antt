@@ -38,10 +38,11 @@ use Rattle.lp_frames.specs.declared.entry.Callee.{Callee}
 use Rattle.lp_targets.specs.Callees.{IsWorldOf}
 use Rattle.lp_reaching.specs.Compiled.{IsCallee}
 use Rattle.lp_reaching.specs.Reaching.{IsInMemory, Reaches, ReachesIf}
-use Rattle.lp_asking.specs.Asking.{typed_of}
+use Rattle.lp_efuns.specs.Turns.{commands_of}
 use Rattle.lp_asking.specs.Beginning.{IsPlaced}
 use Rattle.lp_asking.specs.Endings.{IsAnswer, IsPlace, IsPlaceIf, IsStop, plain_end}
 use Rattle.lp_asking.proofs.Courses.{has_of, over_ends}
+use Rattle.lp_vm.specs.declared.request.Request.TheVariants as requests
 use Rattle.lp_vm.specs.Answering.{Answered, Began, Begins, CanServe, Entered, IsAsked, IsCalled, Served, Serves}
 use Rattle.lp_vm.specs.Going.{CanGo, Continues, EndsSo, GoesOn, IsGoing, IsLater, IsOutcome, Went}
 use Rattle.lp_vm.proofs.Beginnings.{below_is}
@@ -74,13 +75,13 @@ placed_outcome told programs before live asker budget (endings.Stopped stop) giv
       answer = record { cause = h.answer.cause; place = place_given programs s.world mine its stop.place x.place (place s.world h.world refl) h.answer.place };
     })
 
-other_asker : (told : Option Bytes) (programs : List RawProgram) (before : List Out) (live : Live) (asker0 asker1 : Asker) (budget : ℕ) (e : Ending) (o : course.Outcome) → asker1.player ≡ asker0.player → asker1.commands ≡ asker0.commands
+other_asker : (told : Option Bytes) (programs : List RawProgram) (before : List Out) (live : Live) (asker0 asker1 : Asker) (budget : ℕ) (e : Ending) (o : course.Outcome) → asker1.turn ≡ asker0.turn
     → IsOutcome told programs before live asker0 budget e o → IsOutcome told programs before live asker1 budget e o
-other_asker told programs before live asker0 asker1 budget e o p c h = record {
+other_asker told programs before live asker0 asker1 budget e o same h = record {
   world = h.world;
   left = h.left;
-  player = h.player ∙ sym p;
-  commands = h.commands ∙ ap (λ cs. map typed_of (reverse cs.items)) (sym c);
+  player = h.player ∙ ap (λ t. t.player) (sym same);
+  commands = h.commands ∙ ap (λ t. commands_of t.commands.items) (sym same);
   outputs = h.outputs;
   answer = h.answer;
 }
@@ -110,10 +111,10 @@ place_so told programs live w a stack below asker args budget callee code caller
 -- A function that began, ran and ended was called.
 pub entered_ran : (live0 live1 live2 : Live) (stack0 stack1 stack2 stack3 : List Value) (frame : Frame) (asker0 asker1 asker2 asker3 : Asker) (callee : Callee) (code : RawProgram) (caller : Option ObjId) (args budget0 budget1 budget2 bottom : ℕ) (told0 told1 : Option Bytes) (e given : Ending)
     → Begins (begun.Runs frame) callee code caller args live0 stack0 asker0 budget0 live1 stack1 asker1 budget1 → Went told0 live1 stack1 frame asker1 budget1 told1 live2 stack2 asker2 budget2 e
-    → IsInMemory live0 callee code → bottom ≡ length stack0 - args → stack3 ≡ take bottom stack2 → asker3.player ≡ asker2.player → asker3.commands ≡ asker2.commands
+    → IsInMemory live0 callee code → bottom ≡ length stack0 - args → stack3 ≡ take bottom stack2 → asker3.turn ≡ asker2.turn
     → IsPlaced (record { this = callee.this; program = callee.program; fun = callee.fun }) e given
     → Entered callee code caller args told0 live0 stack0 asker0 budget0 told1 live2 stack3 asker3 budget2 given
-entered_ran live0 live1 live2 stack0 stack1 stack2 stack3 frame asker0 asker1 asker2 asker3 callee code caller args budget0 budget1 budget2 bottom told0 told1 e given begins went memory low cut player commands is front programs a callers f below h called =
+entered_ran live0 live1 live2 stack0 stack1 stack2 stack3 frame asker0 asker1 asker2 asker3 callee code caller args budget0 budget1 budget2 bottom told0 told1 e given begins went memory low cut turn is front programs a callers f below h called =
     let b = begins front told0 programs a callers f below h called in
     let x = went front b.p b.k b.row b.function b.around b.moment b.body b.going in
     let its = place_of a.world (scene_in (asker_of a) callee.this f.part (part_of a.world callee.this f.part) f.function.name callers) in
@@ -123,7 +124,7 @@ entered_ran live0 live1 live2 stack0 stack1 stack2 stack3 frame asker0 asker1 as
     record {
       end = plain_end (placed_end its x.end);
       ends = ends;
-      is = other_asker told1 programs live0.outputs live2 asker2 asker3 budget2 given (outcome_of (plain_end (placed_end its x.end))) player commands
+      is = other_asker told1 programs live0.outputs live2 asker2 asker3 budget2 given (outcome_of (plain_end (placed_end its x.end))) turn
           (placed_outcome told1 programs live0.outputs live2 asker2 budget2 e given (record { this = callee.this; program = callee.program; fun = callee.fun }) its x.end
           (λ w stands same. subst (λ u. IsPlace programs u (record { this = callee.this; program = callee.program; fun = callee.fun }) its) (sym same) (place_so told0 programs live0 (outcome_of (plain_end x.end)).world a stack0 below asker0 args budget0 callee code caller callers f h called memory keeps)) is
           (subst (λ o. IsOutcome told1 programs o live2 asker2 budget2 e (outcome_of (plain_end x.end))) b.before_is (subst (λ ps. IsOutcome told1 ps b.around.before live2 asker2 budget2 e (outcome_of (plain_end x.end))) b.programs_are x.is)));
@@ -132,7 +133,7 @@ entered_ran live0 live1 live2 stack0 stack1 stack2 stack3 frame asker0 asker1 as
 
 -- What reaches nothing is answered 0.
 pub served_none : (told : Option Bytes) (live : Live) (stack0 stack1 : List Value) (asker : Asker) (args budget : ℕ) → stack1 ≡ take (length stack0 - args) stack0
-    → Served None args told live stack0 asker budget told live stack1 asker budget (endings.Value (values.Int (pos 0)))
+    → Served (requests.Function None) args told live stack0 asker budget told live stack1 asker budget (endings.Value (values.Int (pos 0)))
 served_none told live stack0 stack1 asker args budget t front programs a below h reached = record {
   outcome = outcome_of (Gives (Plain zero_value) (state_of a));
   has = has_of front a (nothing_called a) (Gives (Plain zero_value) (state_of a)) reached.0 (over_ends front (Gives (Plain zero_value) (state_of a)));
@@ -146,16 +147,16 @@ called_so told programs live asker a x r = record { means_it = r.means_it; calle
 
 -- What reaches a function is answered as its call.
 pub served_some : (live0 live1 : Live) (stack0 stack1 : List Value) (asker0 asker1 : Asker) (x : Reached) (args budget0 budget1 : ℕ) (told0 told1 : Option Bytes) (e : Ending)
-    → Entered x.callee x.code x.caller args told0 live0 stack0 asker0 budget0 told1 live1 stack1 asker1 budget1 e → Served (Some x) args told0 live0 stack0 asker0 budget0 told1 live1 stack1 asker1 budget1 e
+    → Entered x.callee x.code x.caller args told0 live0 stack0 asker0 budget0 told1 live1 stack1 asker1 budget1 e → Served (requests.Function (Some x)) args told0 live0 stack0 asker0 budget0 told1 live1 stack1 asker1 budget1 e
 served_some live0 live1 stack0 stack1 asker0 asker1 x args budget0 budget1 told0 told1 e entered front programs a below h r =
     let t = entered front programs a r.callers r.found below h (called_so told0 programs live0 asker0 a x r) in
     record { outcome = outcome_of t.end; has = has_of front a (calling a x.callee.this r.callers r.found) t.end r.means_it t.ends; is = t.is; left = t.left }
 
 -- A function that began can go, where its call could be served.
 pub can_go : (front : FrontEnd) (told : Option Bytes) (live0 live1 : Live) (stack0 stack1 : List Value) (frame : Frame) (asker0 asker1 : Asker) (x : Reached) (args budget0 budget1 : ℕ)
-    → CanServe told live0 stack0 asker0 budget0 (Some x) args → Begins (begun.Runs frame) x.callee x.code x.caller args live0 stack0 asker0 budget0 live1 stack1 asker1 budget1 → CanGo told live1 stack1 frame asker1 budget1
+    → CanServe told live0 stack0 asker0 budget0 (requests.Function (Some x)) args → Begins (begun.Runs frame) x.callee x.code x.caller args live0 stack0 asker0 budget0 live1 stack1 asker1 budget1 → CanGo told live1 stack1 frame asker1 budget1
 can_go front told live0 live1 stack0 stack1 frame asker0 asker1 x args budget0 budget1 h begins =
-    let b = begins front told h.programs h.ask h.reached.callers h.reached.found h.below h.asked (called_so told h.programs live0 asker0 h.ask x h.reached) in
+    let b = begins front told h.programs h.ask h.is.callers h.is.found h.below h.asked (called_so told h.programs live0 asker0 h.ask x h.is) in
     record { p = b.p; k = b.k; row = b.row; function = b.function; around = b.around; moment = b.moment; course = b.body; going = b.going }
 
 -- One turn after another

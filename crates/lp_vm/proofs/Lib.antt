@@ -1,9 +1,14 @@
-pub mod Doing
 pub mod Carried
-pub mod Turning
+pub mod Doing
 pub mod Beginnings
 pub mod Enterings
 pub mod Startings
+pub mod Fitting
+pub mod Waiting
+pub mod Turning
 pub mod Askings
+pub mod Reachings
+pub mod Answered
+pub mod Workings
 pub mod Cycling
 pub mod Applied

@@ -25,6 +25,8 @@ use Rattle.lp_reaching.specs.Reaching.{IsInMemory}
 use Rattle.lp_vm.specs.declared.entering.Begun.TheVariants as begun
 use Rattle.lp_vm.specs.declared.entering.Left.{Left}
 use Rattle.lp_reaching.specs.declared.reached.Reached.{Reached}
+use Rattle.lp_vm.specs.declared.request.Request.{Request}
+use Rattle.lp_vm.specs.declared.request.Request.TheVariants as requests
 use Rattle.lp_vm.specs.Answering.{Begins, CanServe, IsSameAsker}
 use Rattle.lp_vm.specs.Beginning.{CanStart, HasEntered, IsBegun, left_behind}
 use Rattle.lp_vm.specs.Cycle.{Answers, Finishes}
@@ -36,13 +38,13 @@ pub any_front : FrontEnd
 any_front = record { read = λ files path. Declares [] no_pragmas; check = λ w path items pragmas parents simuls. [] }
 
 -- so many arguments are there
-pub enough : (live : Live) (stack : List Value) (asker : Asker) (budget args : ℕ) (found : Option Reached) → CanStart live stack asker budget found args → args ≤ length stack
-enough live stack asker budget args found h =
+pub enough : (live : Live) (stack : List Value) (asker : Asker) (budget args : ℕ) (request : Request) → CanStart live stack asker budget request args → args ≤ length stack
+enough live stack asker budget args request h =
     let s = h.1 in
     let i = s.asked in
     omega (arith, ap length i.lies, length-append s.below s.ask.arguments, i.many)
 
-pub memory_there : (live : Live) (stack : List Value) (asker : Asker) (budget args : ℕ) (x : Reached) → CanStart live stack asker budget (Some x) args → IsInMemory live x.callee x.code
+pub memory_there : (live : Live) (stack : List Value) (asker : Asker) (budget args : ℕ) (x : Reached) → CanStart live stack asker budget (requests.Function (Some x)) args → IsInMemory live x.callee x.code
 memory_there live stack asker budget args x h = h.1.there
 
 pub same_asker : (a : Asker) → IsSameAsker a a
@@ -56,7 +58,7 @@ same_later a b c h k = record { interactive = k.interactive ∙ h.interactive; l
 
 -- What reaches nothing is answered 0.
 pub none_answers : (live : Live) (stack0 stack1 : List Value) (asker : Asker) (args budget : ℕ) → stack1 ≡ take (length stack0 - args) stack0 → IsFit live stack1 → (told : Option Bytes)
-    → Answers None args told live stack0 asker budget told live stack1 asker budget (endings.Value (values.Int (pos 0)))
+    → Answers (requests.Function None) args told live stack0 asker budget told live stack1 asker budget (endings.Value (values.Int (pos 0)))
 none_answers live stack0 stack1 asker args budget t fit told = record {
   served = served_none told live stack0 stack1 asker args budget t;
   same = same_asker asker;
@@ -69,7 +71,7 @@ none_answers live stack0 stack1 asker args budget t fit told = record {
 -- What does not begin is answered by what stops it.
 pub stopped_answers : (live0 live1 : Live) (stack0 stack1 : List Value) (asker0 asker1 : Asker) (x : Reached) (args budget0 budget1 : ℕ) (s : Stop) → Begins (begun.Stopped s) x.callee x.code x.caller args live0 stack0 asker0 budget0 live1 stack1 asker1 budget1
     → IsBegun (begun.Stopped s) x.caller live1 stack1 asker0 budget0 asker1 budget1 → KeepsVariables live0.objects live1.objects → (told : Option Bytes)
-    → Answers (Some x) args told live0 stack0 asker0 budget0 told live1 stack1 asker1 budget1 (endings.Stopped s)
+    → Answers (requests.Function (Some x)) args told live0 stack0 asker0 budget0 told live1 stack1 asker1 budget1 (endings.Stopped s)
 stopped_answers live0 live1 stack0 stack1 asker0 asker1 x args budget0 budget1 s begins is home told = record {
   served = served_some live0 live1 stack0 stack1 asker0 asker1 x args budget0 budget1 told told (endings.Stopped s) (λ front programs a callers f below h called. begins front told programs a callers f below h called);
   same = asker_too asker0 asker1 is.0;
@@ -88,7 +90,7 @@ abbrev asker_before : Asker → Asker → Asker
 asker_before a b = record b { callers = a.callers; depth = a.depth }
 
 caller_came : (caller : Option ObjId) (asker0 asker1 asker2 : Asker) → HasCaller caller asker0 asker1 → IsSameAsker asker1 asker2 → HasCaller caller (asker_before asker0 asker2) asker2
-caller_came caller asker0 asker1 asker2 h same = record { player = refl; commands = refl; interactive = refl; loads = refl; callers = same.callers ∙ h.callers; depth = same.depth ∙ h.depth }
+caller_came caller asker0 asker1 asker2 h same = record { turn = refl; interactive = refl; loads = refl; callers = same.callers ∙ h.callers; depth = same.depth ∙ h.depth }
 
 asker_back : (caller : Option ObjId) (asker0 asker1 asker2 asker3 : Asker) → HasCaller caller asker0 asker1 → IsSameAsker asker1 asker2 → HasNoCaller (is_some caller) caller (asker_before asker0 asker2) asker2 asker3 → IsSameAsker asker0 asker3
 asker_back caller asker0 asker1 asker2 asker3 h same back = record {
@@ -107,14 +109,14 @@ runs_answers live0 live1 stack0 stack1 asker0 asker1 x args budget0 budget1 fram
   can = λ told h. can_go any_front told live0 live1 stack0 stack1 frame asker0 asker1 x args budget0 budget1 h begins;
   depth = λ told0 told1 live2 stack2 asker2 budget2 e fin. omega (arith, fin.same.depth, is.0.depth);
   bottom = λ told0 told1 live2 stack2 asker2 budget2 e h fin.
-      let b = begins any_front told0 h.programs h.ask h.reached.callers h.reached.found h.below h.asked (called_so told0 h.programs live0 asker0 h.ask x h.reached) in
+      let b = begins any_front told0 h.programs h.ask h.is.callers h.is.found h.below h.asked (called_so told0 h.programs live0 asker0 h.ask x h.is) in
       let y = fin.went any_front b.p b.k b.row b.function b.around b.moment b.body b.going in
       omega (arith, ap length h.asked.lies, length-append h.below h.ask.arguments, h.asked.many, ap length y.lies, length-append b.around.below y.top, ap length b.below_is);
   answers = λ told0 told1 live2 stack2 stack3 asker2 asker3 budget2 e given fin cut back placed fit.
       let gone = back (asker_before asker0 asker2) x.caller (caller_came x.caller asker0 asker1 asker2 is.0 fin.same) in
       record {
         served = served_some live0 live2 stack0 stack3 asker0 asker3 x args budget0 budget2 told0 told1 given
-            (entered_ran live0 live1 live2 stack0 stack1 stack2 stack3 frame asker0 asker1 asker2 asker3 x.callee x.code x.caller args budget0 budget1 budget2 (length stack0 - args) told0 told1 e given begins fin.went memory refl cut gone.player gone.commands placed);
+            (entered_ran live0 live1 live2 stack0 stack1 stack2 stack3 frame asker0 asker1 asker2 asker3 x.callee x.code x.caller args budget0 budget1 budget2 (length stack0 - args) told0 told1 e given begins fin.went memory refl cut gone.turn placed);
         same = asker_back x.caller asker0 asker1 asker2 asker3 is.0 fin.same gone;
         spends = omega (arith, is.1, fin.spends);
         home = home_later live0.objects live1.objects live2.objects home fin.home;

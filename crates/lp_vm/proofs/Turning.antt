@@ -6,13 +6,14 @@ use Rattle.lp_values.specs.declared.value.Value.{Value}
 use Rattle.lp_code.specs.declared.program.FunRow.{FunRow}
 use Rattle.lp_code.specs.declared.program.RawProgram.{RawProgram}
 use Rattle.lp_code.specs.Programs.{IsFunction}
+use Rattle.lp_instr.specs.declared.efun.Efun.{Efun}
 use Rattle.lp_instr.specs.Code.{Catching}
 use Rattle.lp_instr.specs.Sound.{Shapes}
 use Rattle.lp_events.specs.declared.out.Out.{Out}
 use Rattle.lp_swapfile.specs.Device.{Bytes}
 use Rattle.lp_language.specs.World.{Keeps, World, is_live}
 use Rattle.lp_language.specs.Course as course
-use Rattle.lp_language.specs.Course.{Answer, Ask, Asked, CanAnswer, Course, Over, Asks, End, Gives, Internal, Outcome, Parent, Plain, Reply, Returned, Scene, State, Stopped, Stops, after, asking, caught, end_of_answer, end_of_outcome, outcome_of, value_in}
+use Rattle.lp_language.specs.Course.{Answer, Ask, CanAnswer, Course, Over, Asks, End, Gives, OfEfun, Outcome, Plain, Reply, Returned, Scene, State, Stopped, Stops, after, asking, caught, end_of_answer, end_of_outcome, outcome_of, value_in}
 use Rattle.lp_isa.specs.Machine.{Moment, Next, Goes, Ended, Awaits, Wrong, awaits, push_end, stop_at}
 use Rattle.lp_isa.specs.SoundCode.{NextMatches}
 use Rattle.lp_isa.specs.Work.{NextLess, work_of}
@@ -24,41 +25,38 @@ use Rattle.lp_world.specs.declared.frame.Frame.{Frame}
 use Rattle.lp_world.specs.declared.live.Live.{Live}
 use Rattle.lp_world.specs.Stands.{Stands}
 use Rattle.lp_world.specs.Matches.{Around, Matches, Sits, laid}
-use Rattle.lp_step.specs.declared.next.Next.TheVariants as nexts
-use Rattle.lp_step.specs.declared.next.CallOf.{CallOf}
-use Rattle.lp_step.specs.declared.next.Target.{Target}
-use Rattle.lp_step.specs.declared.next.Target.TheVariants as targets
-use Rattle.lp_step.specs.Steps.{IsFit, KeepsVariables, asked, told as told_by}
+use Rattle.lp_step.specs.Steps.{IsFit, KeepsVariables}
 use Rattle.lp_step_laws.specs.Running.{IsHome, IsOf, Runs}
 use Rattle.lp_step_laws.proofs.Found.{same_program}
-use Rattle.lp_run.specs.Runs.{CanRun, Came, left_of}
-use Rattle.lp_run.proofs.Keeping.{fine_next}
+use Rattle.lp_run.specs.Runs.{left_of}
 use Rattle.lp_run.proofs.Together.{left_same}
-use Rattle.lp_frames.specs.Calls.{AsksFor, Parted, under_call}
 use Rattle.lp_frames.specs.Returns.{back_in}
-use Rattle.lp_frames.proofs.Parts.{calls_part}
 use Rattle.lp_asking.specs.declared.advance.Halt.TheVariants as halts
 use Rattle.lp_asking.specs.declared.asker.Asker.{Asker}
 use Rattle.lp_asking.specs.declared.ending.Ending.{Ending}
 use Rattle.lp_asking.specs.declared.ending.Ending.TheVariants as endings
 use Rattle.lp_asking.specs.declared.ending.Place.{Place}
 use Rattle.lp_asking.specs.declared.question.Question.{Question}
-use Rattle.lp_asking.specs.declared.question.Question.TheVariants as questions
 use Rattle.lp_reaching.specs.declared.reached.Reached.{Reached}
 use Rattle.lp_part_laws.specs.Versions.{AreCompiled}
 use Rattle.lp_targets.specs.Callees.{IsWorldOf}
 use Rattle.lp_reaching.specs.Compiled.{IsCaller}
-use Rattle.lp_reaching.specs.Reaching.{AsksInside, Finds, ReachesIf}
-use Rattle.lp_asking.specs.Asking.{IsBy, Means, code_in, loading_of, question_of, typed_of}
+use Rattle.lp_reaching.specs.Reaching.{AsksInside, ReachesIf}
+use Rattle.lp_efuns.specs.Turns.{commands_of}
+use Rattle.lp_asking.specs.Asking.{IsBy, Means, code_in, loading_of}
 use Rattle.lp_asking.specs.Endings.{IsAnswer, IsPlaceIf, IsReply, IsStop, plain_end}
 use Rattle.lp_asking.specs.Resuming.{IsEndFor, Resumes, ResumesTo}
 use Rattle.lp_asking.specs.Stopping.{Advances, CameToEnd, IsEndIn}
 use Rattle.lp_asking.proofs.Courses.{asks_ends, over_ends}
 use Rattle.lp_asking.proofs.States.{stop_state}
+use Rattle.lp_vm.specs.declared.request.Request.{Request}
+use Rattle.lp_vm.specs.declared.request.Request.TheVariants as requests
+use Rattle.lp_vm.specs.Requests.{AsksEfun, IsRequest}
 use Rattle.lp_vm.specs.Answering.{CanServe, IsAsked, IsSameAsker, Served, Serves}
 use Rattle.lp_vm.specs.Going.{CanGo, Continues, EndsSo, GoesOn, IsGoing, IsLater, IsOutcome, IsRunner, Turned, Went}
 use Rattle.lp_vm.proofs.Carried.{caller_later, compiled_still, object_there, shadows_still, still_home}
 use Rattle.lp_vm.proofs.Doing.{Awaited, does_comes, does_end, does_wait}
+use Rattle.lp_vm.proofs.Waiting.{Waits, ask_of}
 
 -- The stack
 
@@ -71,14 +69,14 @@ top_of below locals ops stack e = e ∙ laid_above (below ++ locals) ops ∙ app
 
 -- The end
 
-no_places : (programs : List RawProgram) (w : World) (at : Option Place) (x : Option course.Place) → at ≡ None → x ≡ None → IsPlaceIf programs w at x
+pub no_places : (programs : List RawProgram) (w : World) (at : Option Place) (x : Option course.Place) → at ≡ None → x ≡ None → IsPlaceIf programs w at x
 no_places programs w None None e f = tt
 no_places programs w None (Some x) e f = absurd (cc)
 no_places programs w (Some at) x e f = absurd (cc)
 
 -- a function's end as an outcome: what it ended with and in which state
 ended_with : (told : Option Bytes) (programs : List RawProgram) (a : Around) (live : Live) (asker : Asker) (budget : ℕ) (e : Ending) (end : End Value) (s : State)
-    → IsWorldOf told programs live s.world → budget ≡ s.budget → s.player ≡ asker.player → s.commands ≡ map typed_of (reverse asker.commands.items) → live.outputs ≡ a.before ++ s.outputs
+    → IsWorldOf told programs live s.world → budget ≡ s.budget → s.player ≡ asker.turn.player → s.commands ≡ commands_of asker.turn.commands.items → live.outputs ≡ a.before ++ s.outputs
     → IsEndIn e end s → IsOutcome told programs a.before live asker budget e (outcome_of (plain_end end))
 ended_with told programs a live asker budget (endings.Value v) end s w l p c o is =
     subst (λ x. IsOutcome told programs a.before live asker budget (endings.Value v) (outcome_of (plain_end x))) (sym is)
@@ -105,73 +103,60 @@ came_to_end front p k row f a m course told live0 live1 stack0 stack1 frame0 ask
       lies = top_of a.below c.moment.state.locals c.moment.stack stack1 c.matches.sits.lies;
     }
 
--- Questions
-
-under_none : (t : Target) (q : Question) → question_of t ≡ Some q → under_call t ≡ 0
-under_none (targets.Slot k) q e = refl
-under_none (targets.Fixed j k) q e = refl
-under_none targets.Other q e = absurd (cc)
-under_none (targets.Simul k) q e = absurd (cc)
-
-given_is : (t : Target) (q : Question) (a : Around) (m : Moment) (taken xs : List Value) (what : Asked) (given : List Value) → question_of t ≡ Some q → AsksFor t a m taken xs what given → given ≡ xs
-given_is (targets.Slot k) q a m taken xs what given e h = h.3
-given_is (targets.Fixed j k) q a m taken xs what given e h = h.3
-given_is targets.Other q a m taken xs what given e h = absurd (cc)
-given_is (targets.Simul k) q a m taken xs what given e h = absurd (cc)
-
-some_question : (q r : Question) → Some q ≡ Some r → q ≡ r
-some_question q r e = ap (λ o. unwrap_or o q) e
-
-means_so : (t : Target) (q : Question) (a : Around) (m : Moment) (taken xs : List Value) (what : Asked) (given : List Value) → question_of t ≡ Some q → AsksFor t a m taken xs what given → Means a.code q what
-means_so (targets.Slot k) q a m taken xs what given e h = subst (λ r. Means a.code r what) (some_question (questions.Internal k) q e) (h.0, h.1, h.2)
-means_so (targets.Fixed j k) q a m taken xs what given e h = subst (λ r. Means a.code r what) (some_question (questions.Parent j k) q e) (h.0, h.1, h.2)
-means_so targets.Other q a m taken xs what given e h = absurd (cc)
-means_so (targets.Simul k) q a m taken xs what given e h = absurd (cc)
+-- Requests
 
 pub world_reached : (told : Option Bytes) (programs : List RawProgram) (live : Live) (asker : Asker) (a : Ask) (x : Option Reached) → ReachesIf told programs live asker a x → IsWorldOf told programs live a.world
 world_reached told programs live asker a None h = h.1
 world_reached told programs live asker a (Some x) h = h.world
 
+pub world_asked : (request : Request) (told : Option Bytes) (programs : List RawProgram) (live : Live) (asker : Asker) (a : Ask) → IsRequest request told programs live asker a → IsWorldOf told programs live a.world
+world_asked (requests.Function found) told programs live asker a h = world_reached told programs live asker a found h
+world_asked (requests.Efun this e) told programs live asker a h = h.1
+
 -- What is known where a function asks.
-module _ (p : RawProgram) (k : ℕ) (row : FunRow) (f : IsFunction p k row) (a : Around) (m : Moment) (course : Course Value) (told0 : Option Bytes) (live0 live1 : Live) (stack0 stack1 : List Value) (frame0 frame1 : Frame) (asker0 : Asker) (budget0 budget1 : ℕ)
-    (call : CallOf) (q : Question) (g : IsGoing p k row f a m course told0 live0 stack0 frame0 asker0 budget0) (c : Came f.shapes a m (nexts.Call call) live1 stack1 frame1 budget1) (stays : question_of call.target ≡ Some q) where
-  pub parted : Parted call.target call.args a stack1 frame1 c.moment
-  parted = calls_part call.target call.args a live1 stack1 frame1 budget1 c.moment c.matches (fine_next f.shapes (told_by (nexts.Call call) a c.moment) c.shaped)
-
-  abbrev pub the_ask : Ask
-  the_ask = asking parted.what parted.given a.scene c.moment.state
-
+module _ (p : RawProgram) (k : ℕ) (row : FunRow) (f : IsFunction p k row) (a : Around) (m : Moment) (course : Course Value) (told0 : Option Bytes) (live0 live1 : Live) (stack0 stack1 : List Value) (frame0 frame1 : Frame) (asker0 : Asker) (budget0 budget1 args : ℕ)
+    (g : IsGoing p k row f a m course told0 live0 stack0 frame0 asker0 budget0) (c : Waits f.shapes a m live1 stack1 frame1 budget1 args) where
   abbrev resume : Outcome → Next
-  resume o = push_end (end_of_outcome c.moment.state o) c.moment.place c.moment.catches parted.rest
+  resume o = push_end (end_of_outcome c.moment.state o) c.moment.place c.moment.catches c.moment.stack
 
-  awaited : Awaited a.code a.scene the_ask resume course
-  awaited = does_wait (subst (λ x. Does a.code a.scene x course) parted.told (does_comes a.code a.scene (Goes m) (told_by (nexts.Call call) a c.moment) course c.comes g.does))
+  pub awaited : Awaited a.code a.scene (ask_of a c) resume course
+  awaited = does_wait (does_comes a.code a.scene (Goes m) (awaits c.what c.given a.scene c.moment.state c.moment.place c.moment.catches c.moment.stack) course c.comes g.does)
 
   code_same : frame1.code ≡ p
-  code_same = same_program a p row live1 stack1 frame1 budget1 c.moment g.of c.matches
+  code_same = same_program a p row live1 c.low frame1 budget1 c.moment g.of c.matches
 
-  caller_now : IsCaller a.programs c.moment.state.world a.scene.this a.scene.part p
+  pub caller_now : IsCaller a.programs c.moment.state.world a.scene.this a.scene.part p
   caller_now = caller_later a.programs m.state.world c.moment.state.world a.scene.this a.scene.part p c.later.after.keeps g.caller
 
-  pub asks_so : AsksInside a.programs asker0 frame1.this frame1.part frame1.code q the_ask
-  asks_so = record {
+  pub asks_inside : (q : Question) → Means a.code q c.what → AsksInside a.programs asker0 frame1.this frame1.part frame1.code q (ask_of a c)
+  asks_inside q means = record {
     scene = a.scene;
     scene_is = refl;
     this_is = sym c.matches.sits.belongs.this;
     part_is = sym c.matches.sits.belongs.part;
     callers = g.by.callers;
     caller = subst (IsCaller a.programs c.moment.state.world a.scene.this a.scene.part) (sym code_same) caller_now;
-    what = subst (λ x. Means x q parted.what) (g.code ∙ ap (code_in a.programs) (sym code_same)) (means_so call.target q a c.moment parted.taken parted.xs parted.what parted.given stays parted.asks);
+    what = subst (λ x. Means x q c.what) (g.code ∙ ap (code_in a.programs) (sym code_same)) means;
   }
 
-  pub world_now : IsWorldOf told0 a.programs live1 the_ask.world
+  pub asks_efun : (e : Efun) → c.what ≡ OfEfun e → AsksEfun asker0 frame1.this e (ask_of a c)
+  asks_efun e what = record {
+    scene = a.scene;
+    scene_is = refl;
+    this_is = sym c.matches.sits.belongs.this;
+    interactive = g.by.interactive;
+    callers = g.by.callers;
+    what = what;
+  }
+
+  pub world_now : IsWorldOf told0 a.programs live1 c.moment.state.world
   world_now = record {
     stands = subst (λ t. Stands t a.programs live1 c.moment.state.world) g.told_is c.matches.stands;
     compiled = compiled_still a.programs m.state.world c.moment.state.world c.later.still g.compiled;
     shadows = shadows_still m.state.world c.moment.state.world c.later.still g.shadows;
   }
 
-  by : IsBy asker0 the_ask
+  by : IsBy asker0 (ask_of a c)
   by = record {
     player = c.matches.player ∙ g.player;
     commands = c.matches.commands ∙ g.commands;
@@ -180,21 +165,18 @@ module _ (p : RawProgram) (k : ℕ) (row : FunRow) (f : IsFunction p k row) (a :
     depth = omega (arith, g.by.depth);
   }
 
-  abbrev pub below : List Value
-  below = parted.low ++ parted.taken
-
-  pub is_asked : (told : Option Bytes) (live2 : Live) → IsWorldOf told a.programs live2 the_ask.world → IsAsked told a.programs live2 stack1 below asker0 call.args budget1 the_ask
+  pub is_asked : (told : Option Bytes) (live2 : Live) → IsWorldOf told a.programs live2 c.moment.state.world → IsAsked told a.programs live2 stack1 c.low asker0 args budget1 (ask_of a c)
   is_asked told live2 w = record {
     by = by;
     world = w;
     left = c.matches.left;
-    lies = parted.lies ∙ ap (λ l. below ++ l) (sym (given_is call.target q a c.moment parted.taken parted.xs parted.what parted.given stays parted.asks));
-    many = ap length (given_is call.target q a c.moment parted.taken parted.xs parted.what parted.given stays parted.asks) ∙ parted.arguments;
+    lies = c.lies;
+    many = c.many;
   }
 
 -- What an answer leads to
 
-end_for : (programs : List RawProgram) (w : World) (e : Ending) (x : Answer) (s : State) → IsAnswer programs w e x → IsEndFor e (end_of_answer x s) s
+pub end_for : (programs : List RawProgram) (w : World) (e : Ending) (x : Answer) (s : State) → IsAnswer programs w e x → IsEndFor e (end_of_answer x s) s
 end_for programs w (endings.Value v) (Returned r) s h = of_reply r h
   where
     of_reply : (r : Reply) → IsReply v r → end_of_answer (Returned r) s ≡ Gives v s
@@ -218,7 +200,7 @@ push_state (Returned r) place catches stack s at e = sym (ap (state_or s) e)
 push_state (Stopped x) place catches stack s at e = stop_state (caught x.cause) x catches stack s at e
 
 -- an outcome as the end of the function that asked
-outcome_end : (told : Option Bytes) (programs : List RawProgram) (before before2 : List Out) (live : Live) (asker : Asker) (budget : ℕ) (e : Ending) (o : Outcome) (s : State) → before2 ≡ before ++ s.outputs
+pub outcome_end : (told : Option Bytes) (programs : List RawProgram) (before before2 : List Out) (live : Live) (asker : Asker) (budget : ℕ) (e : Ending) (o : Outcome) (s : State) → before2 ≡ before ++ s.outputs
     → IsOutcome told programs before2 live asker budget e o → IsOutcome told programs before live asker budget e (outcome_of (plain_end (end_of_outcome s o)))
 outcome_end told programs before before2 live asker budget e o s b h = by o.answer h.answer
   where
@@ -245,30 +227,21 @@ TurnsTo None front p k row f a m course told live stack frame asker budget = Goe
 TurnsTo (Some e) front p k row f a m course told live stack frame asker budget = EndsSo front a course told live stack asker budget e
 
 module _ (front : FrontEnd) (p : RawProgram) (k : ℕ) (row : FunRow) (f : IsFunction p k row) (a : Around) (m : Moment) (course : Course Value) (told0 told1 told2 : Option Bytes) (live0 live1 live2 live3 : Live) (stack0 stack1 stack3 stack4 : List Value) (frame0 frame1 frame4 : Frame) (asker0 asker3 : Asker)
-    (budget0 budget1 budget3 : ℕ) (call : CallOf) (q : Question) (found : Option Reached) (e : Ending) (g : IsGoing p k row f a m course told0 live0 stack0 frame0 asker0 budget0) (c : Came f.shapes a m (nexts.Call call) live1 stack1 frame1 budget1)
-    (stays : question_of call.target ≡ Some q) (finds : Finds frame1.this frame1.part frame1.code q told0 live1 told1 live2 found) (outs : live2.outputs ≡ live1.outputs)
-    (served : Served found call.args told1 live2 stack1 asker0 budget1 told2 live3 stack3 asker3 budget3 e) (same : IsSameAsker asker0 asker3) (home : KeepsVariables live1.objects live3.objects) where
-  abbrev d : Parted call.target call.args a stack1 frame1 c.moment
-  d = parted p k row f a m course told0 live0 live1 stack0 stack1 frame0 frame1 asker0 budget0 budget1 call q g c stays
-
+    (budget0 budget1 budget3 args : ℕ) (request : Request) (e : Ending) (g : IsGoing p k row f a m course told0 live0 stack0 frame0 asker0 budget0) (c : Waits f.shapes a m live1 stack1 frame1 budget1 args)
+    (is : IsRequest request told1 a.programs live2 asker0 (ask_of a c)) (outs : live2.outputs ≡ live1.outputs)
+    (served : Served request args told1 live2 stack1 asker0 budget1 told2 live3 stack3 asker3 budget3 e) (same : IsSameAsker asker0 asker3) (home : KeepsVariables live1.objects live3.objects) where
   abbrev ask : Ask
-  ask = the_ask p k row f a m course told0 live0 live1 stack0 stack1 frame0 frame1 asker0 budget0 budget1 call q g c stays
+  ask = ask_of a c
 
   abbrev s : State
   s = c.moment.state
 
-  w : Awaited a.code a.scene ask (λ o. push_end (end_of_outcome s o) c.moment.place c.moment.catches d.rest) course
-  w = awaited p k row f a m course told0 live0 live1 stack0 stack1 frame0 frame1 asker0 budget0 budget1 call q g c stays
+  w : Awaited a.code a.scene ask (λ o. push_end (end_of_outcome s o) c.moment.place c.moment.catches c.moment.stack) course
+  w = awaited p k row f a m course told0 live0 live1 stack0 stack1 frame0 frame1 asker0 budget0 budget1 args g c
 
-  now : IsWorldOf told0 a.programs live1 ask.world
-  now = world_now p k row f a m course told0 live0 live1 stack0 stack1 frame0 frame1 asker0 budget0 budget1 call q g c stays
-
-  reached : ReachesIf told1 a.programs live2 asker0 ask found
-  reached = finds a.programs asker0 ask (asks_so p k row f a m course told0 live0 live1 stack0 stack1 frame0 frame1 asker0 budget0 budget1 call q g c stays) now
-
-  sv : Serves front told2 a.programs live2.outputs live3 stack3 (d.low ++ d.taken) asker3 budget3 e ask
-  sv = served front a.programs ask (d.low ++ d.taken)
-      (is_asked p k row f a m course told0 live0 live1 stack0 stack1 frame0 frame1 asker0 budget0 budget1 call q g c stays told1 live2 (world_reached told1 a.programs live2 asker0 ask found reached)) reached
+  sv : Serves front told2 a.programs live2.outputs live3 stack3 c.low asker3 budget3 e ask
+  sv = served front a.programs ask c.low
+      (is_asked p k row f a m course told0 live0 live1 stack0 stack1 frame0 frame1 asker0 budget0 budget1 args g c told1 live2 (world_asked request told1 a.programs live2 asker0 ask is)) is
 
   abbrev o : Outcome
   o = sv.outcome
@@ -277,31 +250,31 @@ module _ (front : FrontEnd) (p : RawProgram) (k : ℕ) (row : FunRow) (f : IsFun
   can = outcomes_can_be front ask o sv.has
 
   abbrev a3 : Around
-  a3 = record a { told = told2; player = asker3.player; commands = map typed_of (reverse asker3.commands.items) }
+  a3 = record a { told = told2; player = asker3.turn.player; commands = commands_of asker3.turn.commands.items }
 
   abbrev m3 : Moment
-  m3 = record { place = c.moment.place; stack = d.rest; catches = c.moment.catches; state = after s o }
+  m3 = record { place = c.moment.place; stack = c.moment.stack; catches = c.moment.catches; state = after s o }
 
   outs_before : live2.outputs ≡ a.before ++ s.outputs
   outs_before = outs ∙ c.matches.outputs
 
-  waits : Matches a3 live3 d.low frame1 budget3 m3
+  waits : Matches a3 live3 c.low frame1 budget3 m3
   waits = record {
     stands = sv.is.world.stands;
     sits = record {
-      lies = d.sits.lies;
-      bottom = d.sits.bottom;
-      locals = d.sits.locals;
-      place = d.sits.place;
-      catches = d.sits.catches;
+      lies = c.matches.sits.lies;
+      bottom = c.matches.sits.bottom;
+      locals = c.matches.sits.locals;
+      place = c.matches.sits.place;
+      catches = c.matches.sits.catches;
       belongs = record {
-        this = d.sits.belongs.this;
-        version = d.sits.belongs.version;
-        part = d.sits.belongs.part;
-        base = d.sits.belongs.base;
-        function = d.sits.belongs.function;
-        program = d.sits.belongs.program;
-        code = d.sits.belongs.code;
+        this = c.matches.sits.belongs.this;
+        version = c.matches.sits.belongs.version;
+        part = c.matches.sits.belongs.part;
+        base = c.matches.sits.belongs.base;
+        function = c.matches.sits.belongs.function;
+        program = c.matches.sits.belongs.program;
+        code = c.matches.sits.belongs.code;
       };
     };
     left = sv.is.left;
@@ -313,12 +286,12 @@ module _ (front : FrontEnd) (p : RawProgram) (k : ℕ) (row : FunRow) (f : IsFun
   caller_then : IsCaller a.programs o.world a.scene.this a.scene.part p
   caller_then =
       caller_later a.programs s.world o.world a.scene.this a.scene.part p can.keeps
-      (caller_now p k row f a m course told0 live0 live1 stack0 stack1 frame0 frame1 asker0 budget0 budget1 call q g c stays)
+      (caller_now p k row f a m course told0 live0 live1 stack0 stack1 frame0 frame1 asker0 budget0 budget1 args g c)
 
-  goes : (at : Moment) (stack : List Value) → push_end (end_of_outcome s o) c.moment.place c.moment.catches d.rest ≡ Goes at → Matches a3 live3 stack frame4 budget3 at → IsFit live3 stack
+  goes : (at : Moment) (stack : List Value) → push_end (end_of_outcome s o) c.moment.place c.moment.catches c.moment.stack ≡ Goes at → Matches a3 live3 stack frame4 budget3 at → IsFit live3 stack
       → TurnsTo None front p k row f a m course told2 live3 stack frame4 asker3 budget3
   goes at stack e h fit =
-      let st : at.state ≡ after s o = push_state o.answer c.moment.place c.moment.catches d.rest (after s o) at e in (
+      let st : at.state ≡ after s o = push_state o.answer c.moment.place c.moment.catches c.moment.stack (after s o) at e in (
         record {
           around = a3;
           moment = at;
@@ -328,7 +301,7 @@ module _ (front : FrontEnd) (p : RawProgram) (k : ℕ) (row : FunRow) (f : IsFun
             of = record { program = g.of.program; locals = g.of.locals; variables = g.of.variables; rows = g.of.rows; places = g.of.places; heights = g.of.heights };
             runs = record {
               matches = h;
-              shaped = subst (NextMatches f.shapes) e (subst (NextMatches f.shapes) d.told c.shaped o);
+              shaped = subst (NextMatches f.shapes) e (c.shaped o);
               fit = fit;
               home = still_home live1.objects live3.objects a.scene.this (a.scene.base + a.variables) home c.home;
             };
@@ -344,25 +317,25 @@ module _ (front : FrontEnd) (p : RawProgram) (k : ℕ) (row : FunRow) (f : IsFun
           };
           back = λ end h. subst (λ t. Ends front t end) (sym w.is) (asks_ends front ask w.goes o end sv.has can h);
         },
-        (let less : work_of a.code at < work_of a.code m = subst (NextLess a.code (work_of a.code m)) e (subst (NextLess a.code (work_of a.code m)) d.told c.less o can) in
+        (let less : work_of a.code at < work_of a.code m = subst (NextLess a.code (work_of a.code m)) e (c.less o can) in
             omega (arith, less, left_same a3 live3 stack frame4 budget3 at h)),
       )
 
-  ends : (stack : List Value) → push_end (end_of_outcome s o) c.moment.place c.moment.catches d.rest ≡ Ended (end_of_outcome s o) → stack ≡ d.low → EndsSo front a course told2 live3 stack asker3 budget3 e
+  ends : (stack : List Value) → push_end (end_of_outcome s o) c.moment.place c.moment.catches c.moment.stack ≡ Ended (end_of_outcome s o) → stack ≡ c.low → EndsSo front a course told2 live3 stack asker3 budget3 e
   ends stack eq low =
       let over : w.goes o ≡ Over (end_of_outcome s o) = does_end (subst (λ x. Does a.code a.scene x (w.goes o)) eq (w.does o can)) in
       record {
         end = end_of_outcome s o;
         ends = subst (λ t. Ends front t (end_of_outcome s o)) (sym w.is) (asks_ends front ask w.goes o (end_of_outcome s o) sv.has can (subst (λ t. Ends front t (end_of_outcome s o)) (sym over) (over_ends front (end_of_outcome s o))));
         is = outcome_end told2 a.programs a.before live2.outputs live3 asker3 budget3 e o s outs_before sv.is;
-        top = s.locals ++ laid [] d.rest;
-        lies = top_of a.below s.locals d.rest stack (low ∙ d.sits.lies);
+        top = s.locals ++ laid [] c.moment.stack;
+        lies = top_of a.below s.locals c.moment.stack stack (low ∙ c.matches.sits.lies);
       }
 
-  resumed : (r : Option Ending) → ResumesTo r e a3 live3 d.low stack4 frame4 budget3 m3 (end_of_outcome s o) → IsFit live3 stack4 → TurnsTo r front p k row f a m course told2 live3 stack4 frame4 asker3 budget3
+  resumed : (r : Option Ending) → ResumesTo r e a3 live3 c.low stack4 frame4 budget3 m3 (end_of_outcome s o) → IsFit live3 stack4 → TurnsTo r front p k row f a m course told2 live3 stack4 frame4 asker3 budget3
   resumed None h fit = goes h.0 stack4 h.1 h.2 fit
   resumed (Some x) h fit = subst (EndsSo front a course told2 live3 stack4 asker3 budget3) (sym h.1) (ends stack4 h.0 h.2)
 
   pub turns : (r : Option Ending) → Resumes r 0 e stack3 frame1 stack4 frame4 → IsFit live3 stack4 → TurnsTo r front p k row f a m course told2 live3 stack4 frame4 asker3 budget3
   turns r h fit =
-      resumed r (h d.low d.taken a3 live3 budget3 m3 (end_of_outcome s o) sv.left (d.under ∙ under_none call.target q stays) (end_for a.programs o.world e o.answer (after s o) sv.is.answer) waits) fit
+      resumed r (h c.low [] a3 live3 budget3 m3 (end_of_outcome s o) (sv.left ∙ sym (append-nil c.low)) refl (end_for a.programs o.world e o.answer (after s o) sv.is.answer) waits) fit

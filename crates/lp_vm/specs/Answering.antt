@@ -1,5 +1,5 @@
 -- What a question reaches, how its function begins, and what is answered.
-use Rattle.std.specs.Prelude.{◌≡◌, ◌++◌, ℕ, List, Option, Some, IfSome, length, reverse}
+use Rattle.std.specs.Prelude.{◌≡◌, ◌++◌, ℕ, List, Option, Some, length, reverse}
 use Rattle.std.specs.Option.{option_to_list}
 use Rattle.lp_values.specs.declared.id.ObjId.{ObjId}
 use Rattle.lp_values.specs.declared.value.Value.{Value}
@@ -28,9 +28,9 @@ use Rattle.lp_asking.specs.Asking.{IsBy}
 use Rattle.lp_asking.specs.Endings.{plain_end}
 use Rattle.lp_vm.specs.declared.entering.Begun.{Begun}
 use Rattle.lp_vm.specs.declared.entering.Begun.TheVariants as begins
-use Rattle.lp_reaching.specs.declared.reached.Reached.{Reached}
+use Rattle.lp_vm.specs.declared.request.Request.{Request}
 use Rattle.lp_reaching.specs.Compiled.{IsCallee}
-use Rattle.lp_reaching.specs.Reaching.{IsInMemory, ReachesIf}
+use Rattle.lp_vm.specs.Requests.{IsRequest, IsRequestThere}
 use Rattle.lp_vm.specs.Going.{IsGoing, IsOutcome}
 
 -- How a function begins
@@ -91,27 +91,27 @@ Entered callee code caller args told0 live0 stack0 asker0 budget0 told1 live1 st
     → IsAsked told0 programs live0 stack0 below asker0 args budget0 a → IsCalled programs asker0 a callee code caller callers f
     → Answered front (calling a callee.this callers f) told1 programs live0.outputs live1 stack1 below asker1 budget1 e
 
--- WHAT A QUESTION IS ANSWERED: an outcome that the meaning has
+-- WHAT IS ANSWERED: an outcome that the meaning has
 pub record Serves (front : FrontEnd) (told : Option Bytes) (programs : List RawProgram) (before : List Out) (live : Live) (stack below : List Value) (asker : Asker) (budget : ℕ) (e : Ending) (a : Ask) : Type 0 where
   pub outcome : Outcome
   pub has : Has front a outcome
   pub is : IsOutcome told programs before live asker budget e outcome
   pub left : stack ≡ below
 
--- for every question of the meaning that reaches this
-abbrev pub Served : Option Reached → ℕ → Option Bytes → Live → List Value → Asker → ℕ → Option Bytes → Live → List Value → Asker → ℕ → Ending → Type 0
-Served found args told0 live0 stack0 asker0 budget0 told1 live1 stack1 asker1 budget1 e =
-    (front : FrontEnd) (programs : List RawProgram) (a : Ask) (below : List Value) → IsAsked told0 programs live0 stack0 below asker0 args budget0 a → ReachesIf told0 programs live0 asker0 a found
+-- for every question of the meaning that is this request
+abbrev pub Served : Request → ℕ → Option Bytes → Live → List Value → Asker → ℕ → Option Bytes → Live → List Value → Asker → ℕ → Ending → Type 0
+Served request args told0 live0 stack0 asker0 budget0 told1 live1 stack1 asker1 budget1 e =
+    (front : FrontEnd) (programs : List RawProgram) (a : Ask) (below : List Value) → IsAsked told0 programs live0 stack0 below asker0 args budget0 a → IsRequest request told0 programs live0 asker0 a
     → Serves front told1 programs live0.outputs live1 stack1 below asker1 budget1 e a
 
--- in some world, with the object and the program of what it reaches in memory
-pub record CanServe (told : Option Bytes) (live : Live) (stack : List Value) (asker : Asker) (budget : ℕ) (found : Option Reached) (args : ℕ) : Type 0 where
+-- in some world, with the object and the program of a function in memory
+pub record CanServe (told : Option Bytes) (live : Live) (stack : List Value) (asker : Asker) (budget : ℕ) (request : Request) (args : ℕ) : Type 0 where
   pub programs : List RawProgram
   pub ask : Ask
   pub below : List Value
   pub asked : IsAsked told programs live stack below asker args budget ask
-  pub reached : ReachesIf told programs live asker ask found
-  pub there : IfSome found (λ x. IsInMemory live x.callee x.code)
+  pub is : IsRequest request told programs live asker ask
+  pub there : IsRequestThere live request
 
 -- what a call leaves of who asks as it was
 pub record IsSameAsker (old new : Asker) : Type 0 where

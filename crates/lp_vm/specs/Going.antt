@@ -22,7 +22,8 @@ use Rattle.lp_targets.specs.Callees.{IsWorldOf}
 use Rattle.lp_reaching.specs.Compiled.{IsCaller}
 use Rattle.lp_asking.specs.declared.asker.Asker.{Asker}
 use Rattle.lp_asking.specs.declared.ending.Ending.{Ending}
-use Rattle.lp_asking.specs.Asking.{code_in, loading_of, typed_of}
+use Rattle.lp_efuns.specs.Turns.{commands_of}
+use Rattle.lp_asking.specs.Asking.{code_in, loading_of}
 use Rattle.lp_asking.specs.Endings.{IsAnswer, plain_end}
 
 -- AN OUTCOME: the state stands for its world, budget, player and commands; what it put out follows what was there; and so the
@@ -30,8 +31,8 @@ use Rattle.lp_asking.specs.Endings.{IsAnswer, plain_end}
 pub record IsOutcome (told : Option Bytes) (programs : List RawProgram) (before : List Out) (live : Live) (asker : Asker) (budget : ℕ) (e : Ending) (o : Outcome) : Type 0 where
   pub world : IsWorldOf told programs live o.world
   pub left : budget ≡ o.budget
-  pub player : o.player ≡ asker.player
-  pub commands : o.commands ≡ map typed_of (reverse asker.commands.items)
+  pub player : o.player ≡ asker.turn.player
+  pub commands : o.commands ≡ commands_of asker.turn.commands.items
   pub outputs : live.outputs ≡ before ++ o.outputs
   pub answer : IsAnswer programs o.world e o.answer
 
@@ -49,8 +50,8 @@ pub record IsGoing (p : RawProgram) (k : ℕ) (row : FunRow) (f : IsFunction p k
   pub runs : Runs f.shapes a live stack frame budget m
   pub by : IsRunner asker a.scene
   pub told_is : a.told ≡ told
-  pub player : a.player ≡ asker.player
-  pub commands : a.commands ≡ map typed_of (reverse asker.commands.items)
+  pub player : a.player ≡ asker.turn.player
+  pub commands : a.commands ≡ commands_of asker.turn.commands.items
   pub compiled : AreCompiled a.programs m.state.world.versions
   pub shadows : All (λ s. is_live m.state.world s.shadow ≡ true) m.state.world.shadows
   pub caller : IsCaller a.programs m.state.world a.scene.this a.scene.part p

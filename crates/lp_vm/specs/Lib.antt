@@ -1,7 +1,12 @@
 pub mod Faults
 pub mod Going
+pub mod Requests
 pub mod Answering
+pub mod Working
+pub mod Cycle
+pub mod Laying
+pub mod Efuns
 pub mod Beginning
 pub mod Turns
-pub mod Cycle
+pub mod Jobs
 pub mod Applying

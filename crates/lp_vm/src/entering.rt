@@ -3,6 +3,7 @@ ghost use Rattle.std.specs.Prelude.{◌≡◌, ◌≤◌, IfOk, None, OnOk, Some
 ghost use Rattle.lp_step.specs.Steps.{IsFit, KeepsVariables};
 ghost use Rattle.lp_asking.specs.Beginning.{HasCaller, HasNoCaller, IsPlaced};
 ghost use Rattle.lp_reaching.specs.Reaching.{IsInMemory};
+ghost use Rattle.lp_vm.specs.declared.request.Request.TheVariants as requests;
 ghost use Rattle.lp_vm.specs.Answering.{Begins};
 ghost use Rattle.lp_vm.specs.Beginning.{CanStart, IsBegun, Starts, left_behind};
 
@@ -116,7 +117,7 @@ fn start_function(
     budget: &mut u64,
 ) -> Result<Started, VmFault>
     requires fit { IsFit live.old stack.old.items }
-    requires can { CanStart live.old stack.old.items asker.old budget.old (Some reached) args }
+    requires can { CanStart live.old stack.old.items asker.old budget.old (requests.Function (Some reached)) args }
     ensures { IfOk result (λ r. Starts r (Some reached) args live.old stack.old.items asker.old budget.old live.new stack.new.items asker.new budget.new) }
 {
     let left = left_at(&reached, stack, args);
@@ -140,7 +141,7 @@ pub fn start(
     budget: &mut u64,
 ) -> Result<Started, VmFault>
     requires fit { IsFit live.old stack.old.items }
-    requires can { CanStart live.old stack.old.items asker.old budget.old reached args }
+    requires can { CanStart live.old stack.old.items asker.old budget.old (requests.Function reached) args }
     ensures { IfOk result (λ r. Starts r reached args live.old stack.old.items asker.old budget.old live.new stack.new.items asker.new budget.new) }
 {
     match reached {

@@ -1,8 +1,10 @@
 //! Why a call is not answered.
 ghost use Rattle.std.specs.Prelude.{◌≡◌};
 ghost use Rattle.lp_vm.specs.declared.fault.VmFault.TheVariants.{NoMemory};
-ghost use Rattle.lp_vm.specs.Faults.{fault_of};
+ghost use Rattle.lp_vm.specs.Faults.{calling_fault, fault_of};
 
+use lp_calling::job::CallingFault;
+use lp_efuns::answer::EfunFault;
 use lp_residence::answers::{EnterFault, SwapCause};
 use lp_step::fault::StepFault;
 use std::alloc::{AllocError, AllocFailed};
@@ -17,7 +19,8 @@ pub enum VmFault {
     /// The swap file failed, or gave bytes of another digest.
     #[error("the swap file did not give what was written")]
     Swap(SwapCause),
-    /// A question was asked that is not carried out yet.
+    /// An efun was called that is not carried out yet; or an object would have to be loaded; or the name of a function that is
+    /// called is not of ASCII.
     #[error("not carried out yet")]
     NotYet,
 }
@@ -53,6 +56,25 @@ impl From<EnterFault> for VmFault {
         match e {
             EnterFault::Swap(cause) => VmFault::Swap(cause),
             EnterFault::NoMemory => VmFault::NoMemory,
+        }
+    }
+}
+
+impl From<EfunFault> for VmFault {
+    ghost from_gives = { λ _ e. e ≡ NoMemory };
+
+    fn from(_e: EfunFault) -> VmFault {
+        VmFault::NoMemory
+    }
+}
+
+impl From<CallingFault> for VmFault {
+    ghost from_gives = { λ x e. e ≡ calling_fault x };
+
+    fn from(e: CallingFault) -> VmFault {
+        match e {
+            CallingFault::NoMemory => VmFault::NoMemory,
+            CallingFault::NotYet => VmFault::NotYet,
         }
     }
 }

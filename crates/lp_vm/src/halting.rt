@@ -6,13 +6,15 @@ ghost use Rattle.lp_asking.specs.Resuming.{Resumes};
 ghost use Rattle.lp_vm.specs.Turns.{CanHalt, Halts};
 
 use crate::fault::VmFault;
+use crate::laying::lay_below;
+use crate::request::Request;
 use lp_asking::advance::{Halt, advance};
 use lp_asking::ending::Ending;
 use lp_asking::question::question_of;
 use lp_asking::resume::resume;
 use lp_asking::truth::Truthful;
+use lp_instr::efun::Efun;
 use lp_reaching::finding::find;
-use lp_reaching::reached::Reached;
 use lp_values::value::Value;
 use lp_world::frame::Frame;
 use lp_world::live::Live;
@@ -23,11 +25,11 @@ use std::alloc::Global;
 pub enum Halted {
     /// It ended.
     Ended(Ending),
-    /// It asks what reaches this, with so many arguments on top of the stack.
-    Calls(Option<Reached>, u32),
+    /// It asks this, with so many arguments on top of the stack.
+    Asks(Request, u32),
 }
 
-/// A function runs until it asks or ends.
+/// A function runs until it asks or ends. A call of another object, or of a simul efun, is `call_other`.
 pub fn run_to_halt<W: Truthful>(
     alloc: Global,
     live: &mut Live,
@@ -41,12 +43,15 @@ pub fn run_to_halt<W: Truthful>(
 {
     match advance(alloc, live, stack, frame, budget)? {
         Halt::Ended(ending) => Ok(Halted::Ended(ending)),
-        Halt::Back(_) => Err(VmFault::NotYet),
+        Halt::Back(call) => Ok(Halted::Asks(Request::Efun(frame.this, call.efun), call.args)),
         Halt::Call(call) => match question_of(call.target) {
-            None => Err(VmFault::NotYet),
+            None => {
+                let args = lay_below(live, stack, &frame.code, call.target, call.args)?;
+                Ok(Halted::Asks(Request::Efun(frame.this, Efun::CallOther), args))
+            }
             Some(question) => {
                 let reached = find(live, swap, frame.this, frame.part, &frame.code, question)?;
-                Ok(Halted::Calls(reached, call.args))
+                Ok(Halted::Asks(Request::Function(reached), call.args))
             }
         },
     }

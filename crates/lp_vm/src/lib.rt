@@ -1,11 +1,17 @@
 //! The machine of calls: what is asked is answered on the live state.
 //!
 //! The arguments of a call lie on top of the one stack. A call takes them away and answers how it ended; its caller goes on
-//! with the value, or at its innermost catch.
+//! with the value, or at its innermost catch. An efun that calls LPC is a job, which asks on behalf of the function that called it.
 #![tactic(auto)]
 
+mod asking;
 pub mod calling;
 pub mod cycle;
+mod efuns;
 mod entering;
 pub mod fault;
 mod halting;
+mod laying;
+mod naming;
+pub mod request;
+mod working;

@@ -1,16 +1,27 @@
 use Rattle.std.proofs.Common.{◌≤◌, ◌+◌, ◌*◌, ℕ}
-use Rattle.lp_step.specs.Steps.{KeepsVariables}
+use Rattle.lp_step.specs.Steps.{IsFit, KeepsVariables}
 use Rattle.lp_run.specs.Runs.{left_of}
+use Rattle.lp_calling.specs.Jobs.{IsJobOn, IsReady, questions_left}
 use Rattle.lp_vm.specs.Answering.{IsSameAsker}
 use Rattle.lp_vm.specs.Going.{CanGo, Continues}
+use Rattle.lp_vm.specs.Working.{CanWork, WorkContinues}
 use Rattle.lp_vm.proofs.cycle.+calls.Given as goal
 
--- 1 is paid before a function runs
+-- 1 is paid before a function runs; else each calls those that stand before it
 abbrev pub decreases-answer : goal.decreases-answer
-decreases-answer g l = 2 * l.budget.now
+decreases-answer g l = 5 * l.budget.now
+
+abbrev pub decreases-work : goal.decreases-work
+decreases-work g l = 5 * l.budget.now + 1
+
+abbrev pub decreases-call_efun : goal.decreases-call_efun
+decreases-call_efun g l = 5 * l.budget.now + 2
+
+abbrev pub decreases-serve : goal.decreases-serve
+decreases-serve g l = 5 * l.budget.now + 3
 
 abbrev pub decreases-go : goal.decreases-go
-decreases-go g l = 2 * l.budget.now + 1
+decreases-go g l = 5 * l.budget.now + 4
 
 -- what the rest of the run ends with is what all of it ends with
 abbrev pub invariant-go-turns : goal.invariant-go-turns
@@ -24,3 +35,19 @@ invariant-go-turns g l = record {
 
 abbrev pub decreases-go-turns : goal.decreases-go-turns
 decreases-go-turns g l = left_of l.frame l.budget
+
+-- and likewise of the rest of the work
+abbrev pub invariant-work-questions : goal.invariant-work-questions
+invariant-work-questions g l = record {
+  can : CanWork l.fn.this l.job (g.W.SwapFile.content l.swap) l.live l.stack.items l.asker l.budget;
+  on : IsJobOn l.job l.stack.items;
+  ready : IsReady l.live.objects l.job;
+  fit : IsFit l.live l.stack.items;
+  same : IsSameAsker l.fn.asker l.asker;
+  spends : l.budget ≤ l.fn.budget;
+  home : KeepsVariables l.fn.live.objects l.live.objects;
+  goes : WorkContinues l.fn.this l.fn.job (g.W.SwapFile.content l.fn.swap) l.fn.live l.fn.stack.items l.fn.asker l.fn.budget l.job (g.W.SwapFile.content l.swap) l.live l.stack.items l.asker l.budget;
+}
+
+abbrev pub decreases-work-questions : goal.decreases-work-questions
+decreases-work-questions g l = questions_left l.job

@@ -1,4 +1,5 @@
 use Rattle.std.proofs.Common.{Some, sym, subst}
+use Rattle.lp_vm.specs.declared.request.Request.TheVariants as requests
 use Rattle.lp_vm.specs.declared.entering.Begun.TheVariants as begun
 use Rattle.lp_vm.specs.Answering.{Begins}
 use Rattle.lp_vm.specs.Beginning.{HasEntered, IsBegun}
@@ -6,10 +7,10 @@ use Rattle.lp_vm.proofs.Startings.{enough, memory_there, runs_answers, stopped_a
 use Rattle.lp_vm.proofs.entering.start_function.Goals as goal
 
 pub left_at-left-requires : goal.left_at-left-requires
-left_at-left-requires c = enough c.args.live.now c.args.stack.now.items c.args.asker.now c.args.budget.now c.args.args (Some c.args.reached) c.requires.can
+left_at-left-requires c = enough c.args.live.now c.args.stack.now.items c.args.asker.now c.args.budget.now c.args.args (requests.Function (Some c.args.reached)) c.requires.can
 
 pub begin-requires-clause-arguments : goal.begin-requires-clause-arguments
-begin-requires-clause-arguments c = enough c.args.live.now c.args.stack.now.items c.args.asker.now c.args.budget.now c.args.args (Some c.args.reached) c.requires.can
+begin-requires-clause-arguments c = enough c.args.live.now c.args.stack.now.items c.args.asker.now c.args.budget.now c.args.args (requests.Function (Some c.args.reached)) c.requires.can
 
 pub begin-requires-clause-there : goal.begin-requires-clause-there
 begin-requires-clause-there c = memory_there c.args.live.now c.args.stack.now.items c.args.asker.now c.args.budget.now c.args.args c.args.reached c.requires.can

@@ -1,9 +1,12 @@
-use Rattle.std.proofs.Common.{◌≡◌, ◌∙◌, All, ap, sym, subst}
+use Rattle.std.proofs.Common.{◌≡◌, ◌∙◌, All, refl, sym, subst}
+use Rattle.lp_instr.specs.declared.efun.Efun.TheVariants as efuns
+use Rattle.lp_run.proofs.Together.{home_same}
 use Rattle.lp_cells.specs.Cells.{IsThere}
 use Rattle.lp_step.specs.Steps.{IsFit}
 use Rattle.lp_asking.specs.declared.advance.Halt.TheVariants as halts
 use Rattle.lp_asking.specs.Stopping.{Advances, IsHaltThere}
-use Rattle.lp_vm.proofs.Askings.{calls, can_ask, ended_finishes, halt_runs, object_asks}
+use Rattle.lp_vm.specs.declared.request.Request.TheVariants as requests
+use Rattle.lp_vm.proofs.Askings.{asks_back, asks_function, asks_other, call_there, calls, can_ask, ended_finishes, halt_runs, object_asks}
 use Rattle.lp_vm.proofs.halting.run_to_halt.Goals as goal
 
 pub advance-requires : goal.advance-requires
@@ -29,11 +32,40 @@ find-requires-clause-can g c =
     (subst (λ h. Advances h c.args.live.now c.args.stack.now.items c.args.frame.now c.args.budget.now c.advance.new.live c.advance.new.stack.items c.advance.new.frame c.advance.new.budget) c.in-Call.is c.in_ok-ending.ensures.advances)
     (sym c.question_of.ensures ∙ c.in-Some.is)
 
+pub returns-in-Back : goal.returns-in-Back
+returns-in-Back g c =
+    calls (g.W.SwapFile.content c.args.swap.now) (g.W.SwapFile.content c.args.swap.now) c.args.live.now c.advance.new.live c.advance.new.live c.args.stack.now.items c.advance.new.stack.items c.args.frame.now c.advance.new.frame c.args.budget.now c.advance.new.budget
+    c.in-Back.call.args (requests.Efun c.advance.new.frame.this c.in-Back.call.efun)
+    (asks_back (g.W.SwapFile.content c.args.swap.now) c.args.live.now c.advance.new.live c.args.stack.now.items c.advance.new.stack.items c.args.frame.now c.advance.new.frame c.args.budget.now c.advance.new.budget c.in-Back.call
+    (subst (λ h. Advances h c.args.live.now c.args.stack.now.items c.args.frame.now c.args.budget.now c.advance.new.live c.advance.new.stack.items c.advance.new.frame c.advance.new.budget) c.in-Back.is c.in_ok-ending.ensures.advances))
+    refl tt c.in_ok-ending.ensures.home (home_same c.advance.new.live.objects) c.in_ok-ending.ensures.spends c.in_ok-ending.ensures.fit
+
+pub lay_below-requires-clause-arguments : goal.lay_below-requires-clause-arguments
+lay_below-requires-clause-arguments g c =
+    (call_there (g.W.SwapFile.content c.args.swap.now) c.args.live.now c.advance.new.live c.args.stack.now.items c.advance.new.stack.items c.args.frame.now c.advance.new.frame c.args.budget.now c.advance.new.budget c.in-Call.call c.requires
+    (subst (λ h. Advances h c.args.live.now c.args.stack.now.items c.args.frame.now c.args.budget.now c.advance.new.live c.advance.new.stack.items c.advance.new.frame c.advance.new.budget) c.in-Call.is c.in_ok-ending.ensures.advances)).0
+
+pub lay_below-requires-clause-text : goal.lay_below-requires-clause-text
+lay_below-requires-clause-text g c =
+    (call_there (g.W.SwapFile.content c.args.swap.now) c.args.live.now c.advance.new.live c.args.stack.now.items c.advance.new.stack.items c.args.frame.now c.advance.new.frame c.args.budget.now c.advance.new.budget c.in-Call.call c.requires
+    (subst (λ h. Advances h c.args.live.now c.args.stack.now.items c.args.frame.now c.args.budget.now c.advance.new.live c.advance.new.stack.items c.advance.new.frame c.advance.new.budget) c.in-Call.is c.in_ok-ending.ensures.advances)).1
+
+pub returns-in_ok-args-in-None : goal.returns-in_ok-args-in-None
+returns-in_ok-args-in-None g c =
+    calls (g.W.SwapFile.content c.args.swap.now) (g.W.SwapFile.content c.args.swap.now) c.args.live.now c.advance.new.live c.advance.new.live c.args.stack.now.items c.lay_below.new.stack.items c.args.frame.now c.advance.new.frame c.args.budget.now c.advance.new.budget
+    c.in_ok-args-in-None.args (requests.Efun c.advance.new.frame.this efuns.CallOther)
+    (asks_other (g.W.SwapFile.content c.args.swap.now) c.args.live.now c.advance.new.live c.args.stack.now.items c.advance.new.stack.items c.lay_below.new.stack.items c.args.frame.now c.advance.new.frame c.args.budget.now c.advance.new.budget c.in_ok-args-in-None.args c.in-Call.call
+    (subst (λ h. Advances h c.args.live.now c.args.stack.now.items c.args.frame.now c.args.budget.now c.advance.new.live c.advance.new.stack.items c.advance.new.frame c.advance.new.budget) c.in-Call.is c.in_ok-ending.ensures.advances)
+    (sym c.question_of.ensures ∙ c.in-None.is) c.in_ok-args-in-None.ensures.lays)
+    refl tt c.in_ok-ending.ensures.home (home_same c.advance.new.live.objects) c.in_ok-ending.ensures.spends (c.in_ok-args-in-None.ensures.keeps c.advance.new.live c.in_ok-ending.ensures.fit)
+
 pub returns-in_ok-reached-in-Some : goal.returns-in_ok-reached-in-Some
 returns-in_ok-reached-in-Some g c =
     let fit : IsFit c.find.new.live c.advance.new.stack.items =
     record { closed = c.in_ok-reached-in-Some.ensures.closed; there = subst (λ cells. All (IsThere cells) c.advance.new.stack.items) (sym c.in_ok-reached-in-Some.ensures.cells) c.in_ok-ending.ensures.fit.there } in
     calls (g.W.SwapFile.content c.args.swap.now) (g.W.SwapFile.content c.find.new.swap) c.args.live.now c.advance.new.live c.find.new.live c.args.stack.now.items c.advance.new.stack.items c.args.frame.now c.advance.new.frame c.args.budget.now c.advance.new.budget
-    c.in-Call.call c.in-Some.question c.in_ok-reached-in-Some.reached
+    c.in-Call.call.args (requests.Function c.in_ok-reached-in-Some.reached)
+    (asks_function (g.W.SwapFile.content c.args.swap.now) (g.W.SwapFile.content c.find.new.swap) c.args.live.now c.advance.new.live c.find.new.live c.args.stack.now.items c.advance.new.stack.items c.args.frame.now c.advance.new.frame c.args.budget.now c.advance.new.budget c.in-Call.call c.in-Some.question c.in_ok-reached-in-Some.reached
     (subst (λ h. Advances h c.args.live.now c.args.stack.now.items c.args.frame.now c.args.budget.now c.advance.new.live c.advance.new.stack.items c.advance.new.frame c.advance.new.budget) c.in-Call.is c.in_ok-ending.ensures.advances)
-    (sym c.question_of.ensures ∙ c.in-Some.is) c.in_ok-reached-in-Some.ensures.found c.in_ok-reached-in-Some.ensures.outputs c.in_ok-reached-in-Some.ensures.there c.in_ok-ending.ensures.home c.in_ok-reached-in-Some.ensures.home c.in_ok-ending.ensures.spends fit
+    (sym c.question_of.ensures ∙ c.in-Some.is) c.in_ok-reached-in-Some.ensures.found)
+    c.in_ok-reached-in-Some.ensures.outputs c.in_ok-reached-in-Some.ensures.there c.in_ok-ending.ensures.home c.in_ok-reached-in-Some.ensures.home c.in_ok-ending.ensures.spends fit
