@@ -1,5 +1,5 @@
 -- What `destruct` comes to.
-use Rattle.std.proofs.Common.{◌≡◌, ◌∙◌, ◌++◌, ℕ, List, Option, Some, None, refl, ap, sym, subst, map, pos}
+use Rattle.std.proofs.Common.{◌≡◌, ◌∙◌, ◌++◌, ℕ, List, Some, None, refl, ap, sym, subst, map, pos}
 use Rattle.std.proofs.lemmas.List.{append_assoc}
 use Rattle.lp_values.specs.declared.id.ObjId.{ObjId}
 use Rattle.lp_values.specs.declared.value.Value.{Value}

@@ -1,5 +1,5 @@
 -- What the end of an object leaves.
-use Rattle.std.proofs.Common.{◌≡◌, ◌∙◌, ◌++◌, ◌∷◌, [], ℕ, Bool, true, false, List, Option, Some, None, refl, ap, sym, subst, inl, inr, slice_get, unwrap_or, if◌then◌else◌, length, append-nil}
+use Rattle.std.proofs.Common.{◌≡◌, ◌∙◌, ◌++◌, ◌∷◌, [], ℕ, true, false, List, Option, Some, None, refl, ap, sym, subst, inl, inr, slice_get, unwrap_or, if◌then◌else◌, length, append-nil}
 use Rattle.std.specs.Prelude.{slice_set}
 use Rattle.lp_values.specs.declared.id.ObjId.{ObjId}
 use Rattle.lp_values.specs.declared.value.Value.{Value}
@@ -7,11 +7,11 @@ use Rattle.lp_code.specs.declared.program.RawProgram.{RawProgram}
 use Rattle.lp_events.specs.declared.out.Out.{Out}
 use Rattle.lp_events.specs.declared.out.Out.TheVariants as outs
 use Rattle.lp_swapfile.specs.Device.{Bytes}
-use Rattle.lp_language.specs.World.{World, is_live}
+use Rattle.lp_language.specs.World.{World}
 use Rattle.lp_meaning.specs.WorldSteps.{closing, connection_of, destructed, destruction}
 use Rattle.lp_step.specs.Steps.{KeepsVariables}
 use Rattle.lp_world.specs.Closed.{IsClosed}
-use Rattle.lp_world.specs.Rows.{is_live_row, is_out_state, live_in, row_after_death, row_at, variables_in, variables_of}
+use Rattle.lp_world.specs.Rows.{is_out_state, live_in, row_after_death, row_at, variables_in, variables_of}
 use Rattle.lp_world.specs.Stands.{Stands}
 use Rattle.lp_world.specs.declared.live.Live.{Live}
 use Rattle.lp_world.specs.declared.objects.Object.{Object}
@@ -43,19 +43,21 @@ told_so : (told : Option Bytes) (programs : List RawProgram) (live : Live) (w : 
 told_so told programs live w o l h =
     ap (λ b. if b then closing (connection_of w o) else []) (sym (ap (λ f. f o) (live_same told programs live w h)) ∙ l)
 
-module _ (old new : Live) (o : ObjId) (l : live_in old.objects o ≡ true) (outputs : new.outputs ≡ old.outputs) where
-  pub ends_told : (k : ℕ) → ((told : Option Bytes) (programs : List RawProgram) (w : World) → Stands told programs old w → Stands told programs new (destructed w o) × (Some k ≡ connection_of w o))
-      → EndsObject o old (record new { outputs = new.outputs ++ outs.Close k ∷ [] })
-  ends_told k d told programs w h =
-      let e = d told programs w h in (
-        stands_told told programs new (destructed w o) (new.outputs ++ outs.Close k ∷ []) e.0,
-        ap (λ os. os ++ outs.Close k ∷ []) outputs ∙ ap (λ x. old.outputs ++ closing x) e.1 ∙ ap (λ os. old.outputs ++ os) (sym (told_so told programs old w o l h)),
+module _ (old new : Live) (o : ObjId) (k : Option ℕ) (l : live_in old.objects o ≡ true) (outputs : new.outputs ≡ old.outputs)
+    (d : (told : Option Bytes) (programs : List RawProgram) (w : World) → Stands told programs old w → Stands told programs new (destructed w o) × (k ≡ connection_of w o)) where
+  -- with the connection that it had closed, and that told
+  pub ends_told : (n : ℕ) (os : List Out) → k ≡ Some n → os ≡ new.outputs ++ outs.Close n ∷ [] → EndsObject o old (record new { outputs = os })
+  ends_told n os is e told programs w h =
+      let x = d told programs w h in (
+        stands_told told programs new (destructed w o) os x.0,
+        e ∙ ap (λ os. os ++ outs.Close n ∷ []) outputs ∙ ap (λ c. old.outputs ++ closing c) (sym is ∙ x.1) ∙ ap (λ os. old.outputs ++ os) (sym (told_so told programs old w o l h)),
       )
 
-  pub ends_quietly : ((told : Option Bytes) (programs : List RawProgram) (w : World) → Stands told programs old w → Stands told programs new (destructed w o) × (None ≡ connection_of w o)) → EndsObject o old new
-  ends_quietly d told programs w h =
-      let e = d told programs w h in
-      (e.0, outputs ∙ sym (append-nil old.outputs) ∙ ap (λ x. old.outputs ++ closing x) e.1 ∙ ap (λ os. old.outputs ++ os) (sym (told_so told programs old w o l h)))
+  -- without a connection
+  pub ends_quietly : k ≡ None → EndsObject o old new
+  ends_quietly is told programs w h =
+      let x = d told programs w h in
+      (x.0, outputs ∙ sym (append-nil old.outputs) ∙ ap (λ c. old.outputs ++ closing c) (sym is ∙ x.1) ∙ ap (λ os. old.outputs ++ os) (sym (told_so told programs old w o l h)))
 
 -- Variables in memory stay there.
 
@@ -78,7 +80,7 @@ variables_kept old new o e p vs h = subst (λ rows. (us : List Value) × (variab
       where
         nothing : {A : Type 0} {x : A} → None ≡ Some x → ⊥
         nothing e = cc
-    by (Some r) q = elim same_or_not o.0 p.0 [
+    by (Some r) q = elim (same_or_not o.0 p.0) [
       | inl s ↦ (
         vs,
         ap (λ n. variables_in (unwrap_or (slice_get set n) None)) (sym s)

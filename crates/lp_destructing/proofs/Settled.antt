@@ -1,27 +1,24 @@
 -- The end of an object changes no version, and leaves live shadows.
-use Rattle.std.proofs.Common.{◌≡◌, ◌∙◌, ◌-◌, ℕ, Bool, true, false, cond, List, [], ◌∷◌, Option, Some, None, All, refl, ap, sym, subst, filter, slice_get, slice_set, unwrap_or}
-use Rattle.std.specs.Prelude.{not, nat_eq, nat_lt, ◌||◌}
+use Rattle.std.proofs.Common.{◌≡◌, ◌∙◌, ◌-◌, ℕ, Bool, true, false, cond, List, [], ◌∷◌, Option, Some, None, All, refl, ap, sym, subst, unwrap_or}
+use Rattle.std.specs.Prelude.{not, nat_lt, ◌||◌, if◌then◌else◌}
 use Rattle.std.proofs.lemmas.List.Elements.{All-cons, All-head, All-nil, All-tail}
 use Rattle.std.proofs.lemmas.Bool.Decides.{Decides-eqb}
 use Rattle.lp_values.specs.declared.id.ObjId.{ObjId}
 use Rattle.lp_values.specs.declared.value.Value.{Value}
-use Rattle.lp_values.specs.Errors.{bad_arg}
-use Rattle.lp_ops.specs.Operands.{Opened}
 use Rattle.lp_instr.specs.EfunKinds.{kinds}
-use Rattle.lp_instr.specs.EfunList.{efun_name}
 use Rattle.lp_instr.specs.declared.efun.Efun.TheVariants as efuns
 use Rattle.lp_places.specs.Places.{Shadowing, is_object, shadows_without}
 use Rattle.lp_language.specs.World.{World, is_live, no_object, object_at}
-use Rattle.lp_language.specs.Course.{Asks, Course, End, Failed, Gives, Over, Scene, Spent, State, Stops, here}
+use Rattle.lp_language.specs.Course.{Asks, Course, Gives, Over, Scene, Spent, State, Stops, here, zero_value}
 use Rattle.lp_language.specs.Operations.{with_world}
 use Rattle.lp_meaning.specs.Askers.{Asker, told}
 use Rattle.lp_meaning.specs.EfunArguments.{first_bad, object_arg, opened_args, price_after, price_before}
 use Rattle.lp_meaning.specs.Questions.{deed_end, efun_in, kinds_looked_at}
-use Rattle.lp_meaning.specs.WorldEfuns.{Deed, Yields, deed, of_live, zero}
+use Rattle.lp_meaning.specs.WorldEfuns.{Yields, deed, of_live, zero}
 use Rattle.lp_meaning.specs.WorldSteps.{connection_of, dead, destructed, destruction, without_connection_if, without_object}
 use Rattle.lp_world.proofs.Keeping.{get_set}
-use Rattle.lp_settling.specs.Settling.{AreShadowsLive, EndSettles, Settles}
-use Rattle.lp_settling.proofs.Still.{end_cond, pay_settles, still}
+use Rattle.lp_settling.specs.Settling.{EndSettles, Settles}
+use Rattle.lp_settling.proofs.Still.{pay_settles, still}
 use Rattle.lp_destructing.specs.Ends.{DestructSettles}
 
 differ : false ≡ true → ⊥
@@ -57,10 +54,10 @@ module _ (w : World) (o : ObjId) where
 
 -- the deed
 done_settles : (o : Option ObjId) (s : State) → EndSettles s.world (deed_end efuns.Destruct (of_live o s (λ o. Yields zero (told (destruction s.world o) (with_world s (destructed s.world o))))) s)
-done_settles None s = pay_settles s.world (price_after efuns.Destruct 0) s _ (still s.world) (still s.world)
+done_settles None s = pay_settles s.world (price_after efuns.Destruct 0) s (Gives zero_value) (still s.world) (still s.world)
 done_settles (Some o) s =
     let t : State = told (destruction s.world o) (with_world s (destructed s.world o)) in
-    pay_settles s.world (price_after efuns.Destruct 0) t _ (ended s.world o (is_live s.world o)) (ended s.world o (is_live s.world o))
+    pay_settles s.world (price_after efuns.Destruct 0) t (Gives zero_value) (ended s.world o (is_live s.world o)) (ended s.world o (is_live s.world o))
 
 CourseSettles : World → Course Value → Type 0
 CourseSettles w (Over e) = EndSettles w e

@@ -1,6 +1,6 @@
 //! `destruct`.
-ghost use Rattle.std.specs.Prelude.{◌≡◌, All, IfOk, List, OnOk, true};
-ghost use Rattle.lp_cells.specs.Cells.{IsThere, Store};
+ghost use Rattle.std.specs.Prelude.{◌≡◌, All, IfOk, OnOk, true};
+ghost use Rattle.lp_cells.specs.Cells.{IsThere};
 ghost use Rattle.lp_step.specs.Steps.{KeepsVariables};
 ghost use Rattle.lp_world.specs.Closed.{IsClosed};
 ghost use Rattle.lp_world.specs.Rows.{live_in};
@@ -44,7 +44,7 @@ fn destruct(live: &mut Live, args: &[Value]) -> Result<Did, EfunFault>
     requires closed { IsClosed live.old }
     ensures does { IfOk result (λ d. (caller : C) (turn : T) → Does Efun.Destruct caller args.now live.old turn d live.new turn) }
     ensures closed { IsClosed live.new }
-    ensures there { IfOk result (λ d. (cells : Store) → IsDidThere cells d) }
+    ensures there { IfOk result (IsDidThere live.new.cells) }
     ensures variables { KeepsVariables live.old.objects live.new.objects }
     ensures cells { live.new.cells ≡ live.old.cells }
 {
@@ -76,7 +76,7 @@ pub fn call_destruct(
     requires there { All (IsThere live.old.cells) args.now }
     ensures calls { IfOk result (λ a. CallsEfun Efun.Destruct caller.now args.now live.old turn.now budget.old a live.new turn.now budget.new) }
     ensures closed { IsClosed live.new }
-    ensures there { IfOk result (λ a. (cells : Store) → IsAnswerThere cells a) }
+    ensures there { IfOk result (IsAnswerThere live.new.cells) }
     ensures variables { KeepsVariables live.old.objects live.new.objects }
     ensures cells { live.new.cells ≡ live.old.cells }
 {

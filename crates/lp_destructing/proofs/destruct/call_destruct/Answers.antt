@@ -22,10 +22,10 @@ returns-in-Some-clause-calls c =
     IfOk-weaker c.bad_argument.result (λ x. x ≡ answers.Error (bad_arg c.in-Some.number (efun_name efuns.Destruct))) _
     (λ x e. bad_call efuns.Destruct a.caller.now a.args.now a.live.now a.turn.now a.budget.now tt c.requires.there before c.pay_wide-is_paid.new.budget c.in-Some.number x q.0 q.1 c.price_before-before.ensures c.in-Some.ensures e) c.bad_argument.ensures
 
-pub returns-in_ok-destruct-in-None-clause-calls : goal.returns-in_ok-destruct-in-None-clause-calls
-returns-in_ok-destruct-in-None-clause-calls c =
+pub returns-in_ok-did-in-None-clause-calls : goal.returns-in_ok-did-in-None-clause-calls
+returns-in_ok-did-in-None-clause-calls c =
     let a = c.args in
     let before = c.price_before-before.result in
     let q = paid_is (nat_lt a.budget.now before) c.pay_wide-is_paid.result before a.budget.now c.pay_wide-is_paid.new.budget c.pay_wide-is_paid.ensures c.if-not-is_paid.false in
-    acted_call efuns.Destruct a.caller.now a.args.now a.live.now a.turn.now a.budget.now tt c.requires.there before c.pay_wide-is_paid.new.budget c.finish.new.budget c.in_ok-destruct-in-None.did c.finish.result
-    c.destruct.new.live a.turn.now q.0 q.1 c.price_before-before.ensures c.in-None.ensures (c.in_ok-destruct-in-None.ensures.does a.caller.now a.turn.now) (c.in_ok-destruct-in-None.ensures.there c.destruct.new.live.cells) c.finish.ensures.finishes
+    acted_call efuns.Destruct a.caller.now a.args.now a.live.now a.turn.now a.budget.now tt c.requires.there before c.pay_wide-is_paid.new.budget c.finish.new.budget c.in_ok-did-in-None.did c.finish.result
+    c.destruct.new.live a.turn.now q.0 q.1 c.price_before-before.ensures c.in-None.ensures (c.in_ok-did-in-None.ensures.does a.caller.now a.turn.now) c.in_ok-did-in-None.ensures.there c.finish.ensures.finishes
