@@ -1,5 +1,5 @@
 -- States stay closed, and ready.
-use Rattle.std.proofs.Common.{◌≡◌, ◌-◌, ◌≤◌, arith, drop, length, length-drop, sym, take}
+use Rattle.std.proofs.Common.{◌-◌, ◌≤◌, arith, drop, length, length-drop, sym, take}
 use Rattle.std.proofs.lemmas.List.{take-append-drop}
 use Rattle.lp_values.specs.declared.value.Value.{Value}
 use Rattle.lp_instr.specs.declared.efun.Efun.{Efun}
@@ -20,7 +20,7 @@ use Rattle.lp_world.specs.declared.live.Live.{Live}
 use Rattle.lp_world.proofs.Closing.{closed_with_cells}
 use Rattle.lp_efuns.specs.Names.{AreNamed}
 use Rattle.lp_calling_tests.specs.Whole.{IsWhole}
-use Rattle.std.specs.Prelude.{List, ℕ, Bool, if◌then◌else◌}
+use Rattle.std.specs.Prelude.{List, ℕ}
 
 -- other cells
 pub whole_with_cells : (live : Live) (part : Store) → IsWhole live → KeepsThere live.cells part → cells.IsClosed part → IsWhole (record live { cells = part })

@@ -152,7 +152,7 @@ const ANSWERS: [Row; 3] = [
         Efun::CallOther,
         &[One(Obj(1)), One(Str("f"))],
         &[],
-        "1.f() and waits and leaves values",
+        "1.f() and is stopped",
     ),
 ];
 

@@ -7,7 +7,7 @@ use crate::telling::{say, say_asked, say_end, say_outputs};
 use crate::values::{Arg, has_all, lay};
 use lp_calling::begin::{begin, is_calling};
 use lp_calling::job::{Begun, CallingFault, Job, Step};
-use lp_calling::next::next;
+use lp_calling::next::{next, stop};
 use lp_efuns::caller::{Caller, Turn};
 use lp_instr::efun::Efun;
 use lp_values::id::ObjId;
@@ -83,7 +83,7 @@ fn go_on(
     }
 }
 
-/// A job goes on to its end, where these are the answers to its questions. Where there are too few it is told.
+/// A job goes on to its end, where these are the answers to its questions. Where there are too few it is stopped.
 fn carry(
     rt: &impl Abort,
     live: &mut Live,
@@ -104,7 +104,8 @@ fn carry(
         answer(rt, live, stack, job, *reply)?;
     }
     if go_on(rt, live, turn, stack, job, budget, log)? {
-        say(live.alloc, log, "and waits")?;
+        say(live.alloc, log, "and is stopped")?;
+        stop(job, stack);
     }
     Ok(())
 }
