@@ -1,3 +1,3 @@
 mod Ended
 mod Deed
-mod Settled
+pub mod Settled

@@ -12,6 +12,7 @@ use Rattle.lp_swapfile.specs.Device.{Bytes}
 use Rattle.lp_language.specs.World.{World}
 use Rattle.lp_language.specs.Course as course
 use Rattle.lp_language.specs.Course.{Ask, Course, Over, End, Gives, OfEfun, Reply, Scene, State, Stops, outcome_of}
+use Rattle.lp_meaning.specs.Askers as meaning
 use Rattle.lp_meaning.specs.Askers.{asker_of, plainly, state_of}
 use Rattle.lp_meaning.specs.Closing.{Ends, Has}
 use Rattle.lp_meaning.specs.FrontEnd.{FrontEnd}
@@ -26,6 +27,7 @@ use Rattle.lp_efuns.specs.declared.caller.Caller.{Caller}
 use Rattle.lp_efuns.specs.Names.{AreNamed}
 use Rattle.lp_efuns.specs.Plain.{CallsEfun, IsEnd, is_plain}
 use Rattle.lp_efuns.specs.Turns.{At, IsScene, Setting}
+use Rattle.lp_settling.specs.Settling.{EndSettles}
 use Rattle.lp_settling.proofs.Still.{efuns_settle}
 use Rattle.lp_calling.specs.declared.job.Begun.TheVariants as begun
 use Rattle.lp_calling.specs.declared.job.Job.{Job}
@@ -161,15 +163,20 @@ module _ (this : ObjId) (efun : Efun) (live0 live1 : Live) (stack0 stack1 : List
     there = there;
   }
 
-  -- one that calls no LPC
-  pub plain_ended : (vs : List Value) → is_plain efun ≡ true → vs ≡ drop (length stack0 - args) stack0 → stack1 ≡ take (length stack0 - args) stack0 → CallsEfun efun caller vs live0 asker0.turn budget0 x live1 asker1.turn budget1 → Ended
-  plain_ended vs plain top cut calls g a c below scene at lies many =
+  -- one whose course asks nothing, and which keeps of the world what calls rest on
+  pub whole_ended : (vs : List Value) → ((by : meaning.Asker) (c : Scene) (xs : List Value) (s : State) (end : End Value) → efun_in efun by c xs s ≡ Over end → EndSettles s.world end)
+      → vs ≡ drop (length stack0 - args) stack0 → stack1 ≡ take (length stack0 - args) stack0 → CallsEfun efun caller vs live0 asker0.turn budget0 x live1 asker1.turn budget1 → Ended
+  whole_ended vs settles top cut calls g a c below scene at lies many =
       let are : vs ≡ a.arguments = top ∙ arguments_are stack0 below a.arguments args lies many in
       let r = calls g (asker_of a) c (state_of a) scene at in
       let is : efun_in efun (asker_of a) c a.arguments (state_of a) ≡ Over r.0 = ap (λ xs. efun_in efun (asker_of a) c xs (state_of a)) (sym are) ∙ r.1 in (
         below_is stack0 stack1 below a.arguments args lies many cut,
-        (r.0, is, end_settled a.world g live1 asker1.turn budget1 x r.0 r.2 (efuns_settle efun (asker_of a) c a.arguments (state_of a) r.0 plain is)),
+        (r.0, is, end_settled a.world g live1 asker1.turn budget1 x r.0 r.2 (settles (asker_of a) c a.arguments (state_of a) r.0 is)),
       )
+
+  -- one that calls no LPC
+  pub plain_ended : (vs : List Value) → is_plain efun ≡ true → vs ≡ drop (length stack0 - args) stack0 → stack1 ≡ take (length stack0 - args) stack0 → CallsEfun efun caller vs live0 asker0.turn budget0 x live1 asker1.turn budget1 → Ended
+  plain_ended vs plain top cut calls = whole_ended vs (λ by c xs s end is. efuns_settle efun by c xs s end plain is) top cut calls
 
   -- one that calls LPC, before it asks
   pub calling_ended : asker1 ≡ asker0 → live1 ≡ live0 → Begins (begun.Ends x) efun caller live0 stack0 args budget0 stack1 budget1 → Ended

@@ -16,6 +16,7 @@ use lp_asking::ending::{Cause, Ending, Stop};
 use lp_asking::resume::drop_top;
 use lp_calling::begin::{begin, is_calling};
 use lp_calling::job::{Begun, Job};
+use lp_destructing::destruct::call_destruct;
 use lp_efuns::answer::Answer;
 use lp_efuns::caller::Caller;
 use lp_efuns::plain::{call_plain, is_plain};
@@ -120,6 +121,49 @@ fn calling(
     }
 }
 
+/// An object is destructed.
+fn destructing(
+    live: &mut Live,
+    stack: &mut Vec<Value>,
+    asker: &Asker,
+    this: ObjId,
+    args: u32,
+    budget: &mut u64,
+) -> Result<EfunBegun, VmFault>
+    requires fit { IsFit live.old stack.old.items }
+    requires can { CanStart live.old stack.old.items asker.now budget.old (requests.Efun this Efun.Destruct) args }
+    ensures { IfOk result (λ r. StartsEfun r this Efun.Destruct args live.old stack.old.items asker.now budget.old live.new stack.new.items asker.now budget.new) }
+{
+    let caller = Caller {
+        this,
+        interactive: asker.interactive,
+        callers: asker.callers.as_slice(),
+    };
+    let answer = call_destruct(live, &asker.turn, &caller, topmost(stack, args), budget)?;
+    drop_top(stack, args as usize);
+    Ok(EfunBegun::Answered(ending_of(answer)))
+}
+
+/// An efun that ends an object begins.
+fn ending(
+    live: &mut Live,
+    stack: &mut Vec<Value>,
+    asker: &Asker,
+    this: ObjId,
+    efun: Efun,
+    args: u32,
+    budget: &mut u64,
+) -> Result<EfunBegun, VmFault>
+    requires fit { IsFit live.old stack.old.items }
+    requires can { CanStart live.old stack.old.items asker.now budget.old (requests.Efun this efun) args }
+    ensures { IfOk result (λ r. StartsEfun r this efun args live.old stack.old.items asker.now budget.old live.new stack.new.items asker.now budget.new) }
+{
+    match efun {
+        Efun::Destruct => destructing(live, stack, asker, this, args, budget),
+        _ => Err(VmFault::NotYet),
+    }
+}
+
 /// An efun begins that a function of this object calls, with so many arguments on top of the stack, which are taken: it is
 /// answered, or goes on as a job.
 ///
@@ -144,5 +188,5 @@ pub fn begin_efun(
     if is_calling(efun) {
         return calling(live, stack, asker, this, efun, args, budget);
     }
-    Err(VmFault::NotYet)
+    ending(live, stack, asker, this, efun, args, budget)
 }
