@@ -6,7 +6,7 @@ use Rattle.lp_swapfile.specs.Device.{Bytes, Last}
 use Rattle.lp_language.specs.World.{World}
 use Rattle.lp_world.specs.declared.live.Live.{Live}
 use Rattle.lp_world.specs.Stands.{Stands}
-use Rattle.lp_residence.specs.Entering.{IsHonest, is_read_fault}
+use Rattle.lp_residence.specs.Entering.{is_read_fault}
 use Rattle.lp_residence.specs.declared.answers.EnterFault.{EnterFault}
 use Rattle.lp_residence.specs.declared.answers.EnterFault.TheVariants as enter_faults
 use Rattle.lp_residence.specs.declared.answers.SwapCause.TheVariants as swap_causes
@@ -14,7 +14,7 @@ use Rattle.lp_targets.specs.Brought.{Brings}
 use Rattle.lp_calling.specs.declared.job.CallingFault.{CallingFault}
 use Rattle.lp_calling.specs.declared.job.CallingFault.TheVariants as calling_faults
 use Rattle.lp_vm.specs.declared.fault.VmFault.{VmFault}
-use Rattle.lp_vm.specs.Causes.{IsReadless, Tells, read_fault, read_of}
+use Rattle.lp_vm.specs.Causes.{IsReadless, Tells, read_fault}
 use Rattle.lp_vm.specs.Faults.{calling_fault, fault_of}
 
 -- Nothing was read.

@@ -1,6 +1,6 @@
-use Rattle.std.proofs.Common.{◌≡◌, ◌∙◌, List, ℕ, Some, subst}
+use Rattle.std.proofs.Common.{◌≡◌, ◌∙◌, subst}
 use Rattle.std.specs.Prelude.{IfSome, string_bytes}
-use Rattle.lp_vm.proofs.Reachings.{can_outside, finds_outside}
+use Rattle.lp_vm.proofs.Reachings.{can_outside}
 use Rattle.lp_vm.proofs.asking.reach_other.Goals as goal
 
 pub find_outside-requires-clause-can : goal.find_outside-requires-clause-can

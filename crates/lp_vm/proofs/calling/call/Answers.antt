@@ -1,5 +1,4 @@
 use Rattle.std.proofs.Common.{All, sym, subst}
-use Rattle.std.proofs.Math.Nat.{le_trans}
 use Rattle.lp_cells.specs.Cells.{IsThere}
 use Rattle.lp_run.proofs.Together.{home_later}
 use Rattle.lp_targets.proofs.Lookups.{if_ok}

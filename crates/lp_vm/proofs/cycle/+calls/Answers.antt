@@ -1,22 +1,18 @@
-use Rattle.std.proofs.Common.{◌≡◌, ◌+◌, ◌*◌, ◌<◌, ◌≤◌, Some, None, arith, subst, sym}
+use Rattle.std.proofs.Common.{◌≡◌, None, arith, subst}
 use Rattle.std.specs.Prelude.{IfSome}
 use Rattle.std.proofs.Math.Nat.{le_refl, le_trans}
 use Rattle.lp_run.proofs.Together.{home_later, home_same}
 use Rattle.lp_step.specs.Steps.{IsFit}
 use Rattle.lp_asking.specs.Resuming.{Resumes}
 use Rattle.lp_vm.specs.Beginning.{HasEntered, Starts}
-use Rattle.lp_vm.specs.Cycle.{Answers, Finishes, Works}
-use Rattle.lp_calling.specs.Jobs.{IsJobOn, IsReady}
-use Rattle.lp_vm.specs.declared.request.Request.TheVariants as requests
-use Rattle.lp_vm.specs.Answering.{CanServe}
 use Rattle.lp_vm.specs.Efuns.{HasBegunEfun, StartsEfun}
 use Rattle.lp_vm.specs.Jobs.{FedOn, Feeds, StepsTo, WorkAsks}
 use Rattle.lp_vm.specs.Turns.{Calls, Halts}
-use Rattle.lp_vm.specs.Working.{CanWork, WorkContinues}
+use Rattle.lp_vm.specs.Working.{WorkContinues}
 use Rattle.lp_vm.proofs.Workings.{asked_ends, can_work_on, works_later, works_more, works_same}
 use Rattle.lp_targets.proofs.Lookups.{if_ok}
 use Rattle.lp_vm.proofs.Causing.{tells_more, tells_nothing}
-use Rattle.lp_vm.proofs.Cycling.{call_can, call_continues, call_finishes, call_home, call_spends, finishes_later}
+use Rattle.lp_vm.proofs.Cycling.{call_can, call_continues, call_finishes, finishes_later}
 use Rattle.lp_vm.proofs.Enterings.{goes_on_more, goes_on_same}
 use Rattle.lp_vm.proofs.Startings.{same_asker, same_later}
 use Rattle.lp_vm.proofs.cycle.+calls.Goals as goal

@@ -1,4 +1,4 @@
-use Rattle.std.proofs.Common.{◌≤◌, ◌+◌, ◌*◌, ℕ, Ok}
+use Rattle.std.proofs.Common.{◌≤◌, ◌+◌, ◌*◌, Ok}
 use Rattle.lp_step.specs.Steps.{IsFit, KeepsVariables}
 use Rattle.lp_run.specs.Runs.{left_of}
 use Rattle.lp_calling.specs.Jobs.{IsJobOn, IsReady, questions_left}

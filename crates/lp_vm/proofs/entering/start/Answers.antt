@@ -1,4 +1,4 @@
-use Rattle.std.proofs.Common.{Some, None, sym, subst}
+use Rattle.std.proofs.Common.{sym, subst}
 use Rattle.std.specs.Prelude.{pos}
 use Rattle.lp_values.specs.declared.value.Value.TheVariants as values
 use Rattle.lp_asking.specs.declared.ending.Ending.TheVariants as endings

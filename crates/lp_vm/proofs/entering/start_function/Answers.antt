@@ -1,6 +1,5 @@
 use Rattle.std.proofs.Common.{Some, sym, subst}
 use Rattle.lp_vm.specs.declared.request.Request.TheVariants as requests
-use Rattle.lp_vm.specs.declared.entering.Begun.TheVariants as begun
 use Rattle.lp_vm.specs.Answering.{Begins}
 use Rattle.lp_vm.specs.Beginning.{HasEntered, IsBegun}
 use Rattle.lp_vm.proofs.Startings.{enough, memory_there, runs_answers, stopped_answers}

@@ -1,9 +1,8 @@
-use Rattle.std.proofs.Common.{◌≡◌, ◌∙◌, All, refl, sym, subst}
+use Rattle.std.proofs.Common.{◌∙◌, All, refl, sym, subst}
 use Rattle.lp_instr.specs.declared.efun.Efun.TheVariants as efuns
 use Rattle.lp_run.proofs.Together.{home_same}
 use Rattle.lp_cells.specs.Cells.{IsThere}
 use Rattle.lp_step.specs.Steps.{IsFit}
-use Rattle.lp_asking.specs.declared.advance.Halt.TheVariants as halts
 use Rattle.lp_asking.specs.Stopping.{Advances, IsHaltThere}
 use Rattle.lp_vm.specs.declared.request.Request.TheVariants as requests
 use Rattle.lp_vm.proofs.Askings.{asks_back, asks_function, asks_other, call_there, calls, can_ask, ended_finishes, halt_runs, object_asks}

@@ -4,7 +4,6 @@ use Rattle.lp_step.specs.Steps.{IsFit}
 use Rattle.lp_calling.specs.Going.{Goes, IsStepThere, Waits}
 use Rattle.lp_asking.specs.Endings.{IsEndingThere}
 use Rattle.lp_vm.specs.Cycle.{Works}
-use Rattle.lp_vm.specs.Efuns.{ending_of}
 use Rattle.lp_vm.proofs.Workings.{can_reach, job_asks, job_ends}
 use Rattle.lp_vm.proofs.working.step_job.Goals as goal
 
