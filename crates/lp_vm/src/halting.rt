@@ -6,7 +6,8 @@ ghost use Rattle.lp_world.specs.Rows.{row_at};
 ghost use Rattle.lp_reaching.specs.Reaching.{CanAsk, Finds, IsInMemory};
 ghost use Rattle.lp_asking.specs.Endings.{IsEndingThere};
 ghost use Rattle.lp_asking.specs.Resuming.{Resumes};
-ghost use Rattle.lp_vm.specs.Causes.{IsReadless, Tells, read_of};
+ghost use Rattle.lp_vm.specs.declared.fault.VmFault.TheVariants.{NoMemory};
+ghost use Rattle.lp_vm.specs.Causes.{Tells, read_of};
 ghost use Rattle.lp_vm.specs.Turns.{CanHalt, Halts};
 
 use crate::fault::VmFault;
@@ -96,7 +97,7 @@ pub fn go_back(
     ensures table { IfOk result (λ r. Resumes r 0 ending stack.old.items frame.old stack.new.items frame.new) }
     ensures keeps { OnOk result ((live : _) → IsEndingThere live.cells ending → IsFit live stack.old.items → IsFit live stack.new.items) }
     ensures same { IfOk result (λ r. IfSome r (λ e. e ≡ ending)) }
-    ensures fault { IfErr result IsReadless }
+    ensures fault { IfErr result (λ f. f ≡ NoMemory) }
 {
     Ok(resume(alloc, stack, frame, 0, ending)?)
 }

@@ -3,7 +3,8 @@ ghost use Rattle.std.specs.Prelude.{◌≡◌, IfErr, IfOk, IfSome, OnOk};
 ghost use Rattle.lp_calling.specs.Jobs.{IsAsking, IsJobOn, IsReady};
 ghost use Rattle.lp_step.specs.Steps.{IsFit};
 ghost use Rattle.lp_asking.specs.Endings.{IsEndingThere};
-ghost use Rattle.lp_vm.specs.Causes.{IsReadless, Tells, read_of};
+ghost use Rattle.lp_vm.specs.declared.fault.VmFault.TheVariants.{NoMemory};
+ghost use Rattle.lp_vm.specs.Causes.{Tells, read_of};
 ghost use Rattle.lp_vm.specs.Jobs.{FedOn, Feeds, StepsTo};
 ghost use Rattle.lp_vm.specs.Working.{CanWork};
 
@@ -36,7 +37,7 @@ pub enum Stepped {
 /// `NoMemory` where there are too many.
 fn count_of(n: usize) -> Result<u32, VmFault>
     ensures count { IfOk result (λ k. k ≡ n) }
-    ensures fault { IfErr result IsReadless }
+    ensures fault { IfErr result (λ f. f ≡ NoMemory) }
 {
     match u32::try_from(n) {
         Ok(k) => Ok(k),
@@ -94,7 +95,7 @@ pub fn feed_back(
     ensures on { IfOk result (λ r. FedOn r job.old job.new stack.new.items) }
     ensures fit { OnOk result (IsFit live.now stack.new.items) }
     ensures same { IfOk result (λ r. IfSome r (λ e. e ≡ ending)) }
-    ensures fault { IfErr result IsReadless }
+    ensures fault { IfErr result (λ f. f ≡ NoMemory) }
 {
     match ending {
         Ending::Value(v) => {
