@@ -1,7 +1,7 @@
 -- A function begins.
-use Rattle.std.proofs.Common.{◌≡◌, ◌∙◌, ◌++◌, ◌∷◌, [], ◌+◌, ◌-◌, ◌<◌, ◌≤◌, ◌^◌, ℕ, zero, suc, Bool, true, false, cond, List, Option, Some, None, All, refl, ap, sym, subst, length, length-append, map, take, drop, replicate, slice_get, append-nil, arith}
+use Rattle.std.proofs.Common.{◌≡◌, ◌∙◌, ◌++◌, [], ◌+◌, ◌-◌, ◌<◌, ◌≤◌, ◌^◌, ℕ, zero, suc, Bool, true, false, List, Option, Some, None, All, refl, ap, sym, subst, length, length-append, map, take, drop, replicate, slice_get, append-nil, arith}
 use Rattle.std.specs.Prelude.{nat_lt, reverse}
-use Rattle.std.specs.Option.{option_map, option_to_list}
+use Rattle.std.specs.Option.{option_map}
 use Rattle.std.proofs.lemmas.Bool.{ltb-false, ltb-true}
 use Rattle.std.proofs.Math.Seq.{take-append_seam}
 use Rattle.std.proofs.lemmas.List.Elements.{All-append, All-cons, All-drop, All-nil, All-take}
@@ -9,11 +9,9 @@ use Rattle.lp_cells.specs.Cells.{IsThere}
 use Rattle.lp_values.specs.declared.error.ErrorKind.TheVariants.{TooDeep}
 use Rattle.lp_values.specs.Errors.{plain}
 use Rattle.lp_values.specs.declared.id.ObjId.{ObjId}
-use Rattle.lp_values.specs.declared.id.ProgId.{ProgId}
 use Rattle.lp_values.specs.declared.value.Value.{Value}
 use Rattle.lp_code.specs.declared.program.RawProgram.{RawProgram}
 use Rattle.lp_code.specs.Programs.{FindsRows, IsFunction}
-use Rattle.lp_events.specs.declared.out.Out.{Out}
 use Rattle.lp_swapfile.specs.Device.{Bytes}
 use Rattle.lp_language.specs.World.{World}
 use Rattle.lp_language.specs.Course as course
@@ -21,14 +19,14 @@ use Rattle.lp_language.specs.Course.{Ask, Course, Over, End, Reply, Scene, State
 use Rattle.lp_language.specs.Eval.{Site}
 use Rattle.lp_language.specs.Exec.{body_of, first_locals}
 use Rattle.lp_language.specs.Resolve.{Found, Part, heritage_of, number_of, part_at}
-use Rattle.lp_isa.specs.Machine.{Moment, Goes}
+use Rattle.lp_isa.specs.Machine.{Goes}
 use Rattle.lp_isa.specs.Runs.{Does}
 use Rattle.lp_isa.specs.Translates.{MakesFun}
 use Rattle.lp_sim.proofs.Whole.{does_so}
 use Rattle.lp_meaning.specs.Askers.{asker_of, plainly, state_of}
 use Rattle.lp_meaning.specs.Closing.{Ends}
 use Rattle.lp_meaning.specs.FrontEnd.{FrontEnd}
-use Rattle.lp_meaning.specs.FunctionCalls.{calling, entering, part_of, part_or_whole, scene_in, site_in}
+use Rattle.lp_meaning.specs.FunctionCalls.{calling, entering, part_of, part_or_whole, site_in}
 use Rattle.lp_meaning.specs.Limits.{max_depth}
 use Rattle.lp_meaning.specs.WorldSteps.{entered}
 use Rattle.lp_world.specs.declared.frame.Frame.{Frame}
@@ -36,25 +34,24 @@ use Rattle.lp_world.specs.declared.live.Live.{Live}
 use Rattle.lp_world.specs.Matches.{Around}
 use Rattle.lp_world.specs.Rows.{variables_at}
 use Rattle.lp_step.specs.Steps.{IsFit}
-use Rattle.lp_step_laws.specs.Running.{HasVariables, IsHome, IsOf, Runs}
+use Rattle.lp_step_laws.specs.Running.{HasVariables}
 use Rattle.lp_frames.specs.Entries.{IsAround, IsOfRow, Opens, RunsFrom, begins, begun_locals}
 use Rattle.lp_frames.specs.declared.entry.Callee.{Callee}
 use Rattle.lp_frames.proofs.Entered.{begins_as_written}
 use Rattle.lp_asking.specs.declared.asker.Asker.{Asker}
 use Rattle.lp_vm.specs.declared.entering.Begun.TheVariants as begun
-use Rattle.lp_asking.specs.declared.ending.Cause.TheVariants as causes
 use Rattle.lp_asking.specs.declared.ending.Ending.TheVariants as endings
 use Rattle.lp_asking.specs.declared.ending.Place.{Place}
 use Rattle.lp_asking.specs.declared.ending.Stop.{Stop}
 use Rattle.lp_targets.specs.Callees.{IsWorldOf}
-use Rattle.lp_reaching.specs.Compiled.{IsCallee, IsCaller}
-use Rattle.lp_reaching.specs.Reaching.{HasSameVariables, IsInMemory, Marks}
+use Rattle.lp_reaching.specs.Compiled.{IsCaller}
+use Rattle.lp_reaching.specs.Reaching.{Marks}
 use Rattle.lp_efuns.specs.Turns.{commands_of}
 use Rattle.lp_asking.specs.Asking.{code_in, loading_of, rows_in}
 use Rattle.lp_asking.specs.Beginning.{HasCaller}
 use Rattle.lp_asking.specs.Endings.{IsPlaceIf, cause_of}
 use Rattle.lp_asking.proofs.Courses.{call_ends, entering_deep, entering_spent, over_ends, paid_one}
-use Rattle.lp_vm.specs.Answering.{Answered, Began, Begins, IsAsked, IsCalled}
+use Rattle.lp_vm.specs.Answering.{Answered, Begins, IsAsked}
 
 -- Numbers
 

@@ -1,23 +1,20 @@
 -- A function is entered, runs and ends; and one turn after another.
-use Rattle.std.proofs.Common.{◌≡◌, ◌∙◌, ◌++◌, ◌∷◌, [], ◌+◌, ◌-◌, ◌<◌, ◌≤◌, ℕ, Bool, List, Option, Some, None, refl, ap, sym, subst, length, length-append, map, take, slice_get, IsSome, arith, append-nil}
-use Rattle.std.specs.Prelude.{is_some, pos, reverse}
-use Rattle.std.specs.Option.{option_map, option_to_list}
+use Rattle.std.proofs.Common.{◌≡◌, ◌∙◌, ◌++◌, ◌+◌, ◌-◌, ℕ, List, Option, Some, None, refl, ap, sym, subst, length, length-append, take, arith, append-nil}
+use Rattle.std.specs.Prelude.{pos}
+use Rattle.std.specs.Option.{option_map}
 use Rattle.std.proofs.Math.Seq.{take-append_seam}
 use Rattle.lp_values.specs.declared.id.ObjId.{ObjId}
 use Rattle.lp_values.specs.declared.value.Value.{Value}
 use Rattle.lp_values.specs.declared.value.Value.TheVariants as values
-use Rattle.lp_code.specs.declared.program.FunRow.{FunRow}
 use Rattle.lp_code.specs.declared.program.RawProgram.{RawProgram}
-use Rattle.lp_code.specs.Programs.{IsFunction}
 use Rattle.lp_events.specs.declared.out.Out.{Out}
 use Rattle.lp_swapfile.specs.Device.{Bytes}
-use Rattle.lp_language.specs.World.{Keeps, World, object_at, version_at}
+use Rattle.lp_language.specs.World.{Keeps, World, version_at}
 use Rattle.lp_language.specs.Course as course
 use Rattle.lp_language.specs.Course.{Ask, CanAnswer, Course, Over, End, Gives, Plain, Reply, Stops, outcome_of, zero_value}
 use Rattle.lp_language.specs.Resolve.{Found, Part, heritage_of, number_of, or_else, without_c}
-use Rattle.lp_isa.specs.Machine.{Moment, Goes}
 use Rattle.lp_meaning.specs.Askers.{asker_of, state_of}
-use Rattle.lp_meaning.specs.Closing.{Ends, Has}
+use Rattle.lp_meaning.specs.Closing.{Ends}
 use Rattle.lp_meaning.specs.FrontEnd.{FrontEnd}
 use Rattle.lp_meaning.specs.FunctionCalls.{calling, nothing_called, part_of, part_or_whole, place_of, placed_end, placed_stop, scene_in}
 use Rattle.lp_meaning.specs.Questions.{means}
@@ -32,19 +29,17 @@ use Rattle.lp_vm.specs.declared.entering.Begun.TheVariants as begun
 use Rattle.lp_asking.specs.declared.ending.Ending.{Ending}
 use Rattle.lp_asking.specs.declared.ending.Ending.TheVariants as endings
 use Rattle.lp_asking.specs.declared.ending.Place.{Place}
-use Rattle.lp_asking.specs.declared.ending.Stop.{Stop}
 use Rattle.lp_reaching.specs.declared.reached.Reached.{Reached}
 use Rattle.lp_frames.specs.declared.entry.Callee.{Callee}
 use Rattle.lp_targets.specs.Callees.{IsWorldOf}
-use Rattle.lp_reaching.specs.Compiled.{IsCallee}
-use Rattle.lp_reaching.specs.Reaching.{IsInMemory, Reaches, ReachesIf}
+use Rattle.lp_reaching.specs.Reaching.{IsInMemory, Reaches}
 use Rattle.lp_efuns.specs.Turns.{commands_of}
 use Rattle.lp_asking.specs.Beginning.{IsPlaced}
-use Rattle.lp_asking.specs.Endings.{IsAnswer, IsPlace, IsPlaceIf, IsStop, plain_end}
+use Rattle.lp_asking.specs.Endings.{IsPlace, IsPlaceIf, plain_end}
 use Rattle.lp_asking.proofs.Courses.{has_of, over_ends}
 use Rattle.lp_vm.specs.declared.request.Request.TheVariants as requests
-use Rattle.lp_vm.specs.Answering.{Answered, Began, Begins, CanServe, Entered, IsAsked, IsCalled, Served, Serves}
-use Rattle.lp_vm.specs.Going.{CanGo, Continues, EndsSo, GoesOn, IsGoing, IsLater, IsOutcome, Went}
+use Rattle.lp_vm.specs.Answering.{Begins, CanServe, Entered, IsAsked, IsCalled, Served}
+use Rattle.lp_vm.specs.Going.{CanGo, Continues, IsLater, IsOutcome, Went}
 use Rattle.lp_vm.proofs.Beginnings.{below_is}
 use Rattle.lp_vm.proofs.Carried.{as_many_there, name_stays, object_there, path_stays}
 

@@ -1,11 +1,10 @@
 -- Calls that begin, and what they end with.
-use Rattle.std.proofs.Common.{◌≡◌, ◌∙◌, ◌++◌, ◌+◌, ◌-◌, ◌≤◌, ℕ, List, Option, Some, None, [], refl, ap, sym, subst, length, length-append, take, arith}
+use Rattle.std.proofs.Common.{◌≡◌, ◌∙◌, ◌-◌, ◌≤◌, ℕ, List, Option, Some, None, [], refl, ap, sym, subst, length, length-append, take, arith}
 use Rattle.std.proofs.Math.Nat.{le_refl}
 use Rattle.std.specs.Prelude.{is_some, pos}
 use Rattle.lp_values.specs.declared.id.ObjId.{ObjId}
 use Rattle.lp_values.specs.declared.value.Value.{Value}
 use Rattle.lp_values.specs.declared.value.Value.TheVariants as values
-use Rattle.lp_code.specs.declared.program.RawProgram.{RawProgram}
 use Rattle.lp_cells.specs.Cells.{Store}
 use Rattle.lp_swapfile.specs.Device.{Bytes}
 use Rattle.lp_language.specs.World.{no_pragmas}
@@ -23,14 +22,12 @@ use Rattle.lp_asking.specs.Beginning.{HasCaller, HasNoCaller, IsPlaced}
 use Rattle.lp_asking.specs.Endings.{IsEndingThere}
 use Rattle.lp_reaching.specs.Reaching.{IsInMemory}
 use Rattle.lp_vm.specs.declared.entering.Begun.TheVariants as begun
-use Rattle.lp_vm.specs.declared.entering.Left.{Left}
 use Rattle.lp_reaching.specs.declared.reached.Reached.{Reached}
 use Rattle.lp_vm.specs.declared.request.Request.{Request}
 use Rattle.lp_vm.specs.declared.request.Request.TheVariants as requests
-use Rattle.lp_vm.specs.Answering.{Begins, CanServe, IsSameAsker}
+use Rattle.lp_vm.specs.Answering.{Begins, IsSameAsker}
 use Rattle.lp_vm.specs.Beginning.{CanStart, HasEntered, IsBegun, left_behind}
-use Rattle.lp_vm.specs.Cycle.{Answers, Finishes}
-use Rattle.lp_vm.specs.Going.{CanGo}
+use Rattle.lp_vm.specs.Cycle.{Answers}
 use Rattle.lp_vm.proofs.Enterings.{called_so, can_go, entered_ran, served_none, served_some}
 
 -- some rules of reading and checking: what is said of the machine holds for all

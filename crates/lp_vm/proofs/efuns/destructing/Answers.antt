@@ -11,8 +11,8 @@ use Rattle.lp_instr.specs.declared.efun.Efun.TheVariants as efuns
 use Rattle.lp_destructing.proofs.Settled.{destruct_settles}
 use Rattle.lp_vm.proofs.efuns.destructing.Goals as goal
 
-pub returns : goal.returns
-returns c =
+pub returns-clause-starts : goal.returns-clause-starts
+returns-clause-starts c =
     let caller : Caller = record { this = c.args.this; interactive = c.args.asker.now.interactive; callers = c.as_slice.result } in
     let asker : Asker = c.args.asker.now in
     let there : IsEndingThere c.call_destruct.new.live.cells c.ending_of.result = c.ending_of.ensures.there c.call_destruct.new.live.cells c.in_ok-answer.ensures.there in
