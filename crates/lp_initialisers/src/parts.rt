@@ -45,7 +45,8 @@ fn initialisers_in(
     program: ProgId,
     own: &RawProgram,
 ) -> Option<Callee>
-    ensures { (h : Heritage) (p : Part) → part_at h part ≡ Some p → FitsVersion h whole.now → FitsVersion p.tree own.now → AreInitialisersIf result this part program p own.now }
+    ensures at { IfSome result (λ c. (c.this ≡ this) × (c.program ≡ program)) }
+    ensures found { (h : Heritage) (p : Part) → part_at h part ≡ Some p → FitsVersion h whole.now → FitsVersion p.tree own.now → AreInitialisersIf result this part program p own.now }
 {
     let fun = initialiser_row(own)?;
     let base = base_of(whole, part, own.tables.parts.as_slice().len())?;
@@ -67,7 +68,8 @@ pub fn initialisers_of(
     part: u16,
     program: ProgId,
 ) -> Option<Callee>
-    ensures { (whole own : Raw) (h : Heritage) (p : Part) → program_at versions.now version ≡ Some whole → program_at versions.now program ≡ Some own → part_at h part ≡ Some p → FitsVersion h whole → FitsVersion p.tree own
+    ensures at { IfSome result (λ c. (c.this ≡ this) × (c.program ≡ program)) }
+    ensures found { (whole own : Raw) (h : Heritage) (p : Part) → program_at versions.now version ≡ Some whole → program_at versions.now program ≡ Some own → part_at h part ≡ Some p → FitsVersion h whole → FitsVersion p.tree own
         → AreInitialisersIf result this part program p own }
 {
     match program_of(versions, version) {
