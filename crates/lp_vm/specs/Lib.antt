@@ -10,3 +10,4 @@ pub mod Beginning
 pub mod Turns
 pub mod Jobs
 pub mod Applying
+pub mod Initialising

@@ -12,5 +12,5 @@ pub returns-clause-found : goal.returns-clause-found
 returns-clause-found c = λ h p at fits mine.
     let row = subst (IsInitialiserRowIf p.tree c.args.own.now) c.in_ok-fun.was (c.initialiser_row.ensures p.tree mine) in
     let base = same_base c.in_ok-base.base p.base c.base_of.result c.in_ok-base.was
-        (base_is h c.args.whole.now c.args.own.now c.args.part p c.base_of.result at fits mine (subst (λ n. IsBase c.args.whole.now c.args.part n c.base_of.result) (ap length c.as_slice.ensures) c.base_of.ensures)) in
+    (base_is h c.args.whole.now c.args.own.now c.args.part p c.base_of.result at fits mine (subst (λ n. IsBase c.args.whole.now c.args.part n c.base_of.result) (ap length c.as_slice.ensures) c.base_of.ensures)) in
     (row.0, record { this = refl; part = refl; program = refl; base = base; row = row.1 })

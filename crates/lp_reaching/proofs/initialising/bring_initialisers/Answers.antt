@@ -28,5 +28,5 @@ returns-then-tells_truth-clause-there g c =
     let live = c.bring_in.new.live in
     let k = c.requires.can in
     let home = init_home told1 k.programs live k.asker c.args.caller k.ask c.args.callee c.in-Ok.code (world_then told0 told1 k.programs c.args.live.now live k.ask.world (c.in-Ok.ensures.stands t) k.world) c.in-Ok.ensures.closed k.leads c.in-Ok.ensures.here.0
-        (c.in-Ok.ensures.code t k.programs k.ask.world k.world.stands) in
+    (c.in-Ok.ensures.code t k.programs k.ask.world k.world.stands) in
     in_memory live c.args.callee c.in-Ok.code c.in-Ok.ensures.room home c.in-Ok.ensures.here.0 c.in-Ok.ensures.here.1
