@@ -1,5 +1,5 @@
 -- Efuns of a running function: their questions, and what they are answered.
-use Rattle.std.proofs.Common.{◌≡◌, ◌∙◌, ◌++◌, ◌∷◌, [], ◌+◌, ◌-◌, ◌≤◌, ℕ, Bool, true, List, Option, Some, None, refl, ap, sym, subst, length, length-append, take, drop, unwrap_or, append-nil, arith}
+use Rattle.std.proofs.Common.{◌≡◌, ◌∙◌, ◌++◌, ◌+◌, ◌-◌, ◌≤◌, ℕ, true, List, Option, Some, None, refl, ap, sym, subst, length, length-append, take, drop, unwrap_or, append-nil, arith}
 use Rattle.std.specs.Prelude.{reverse}
 use Rattle.std.proofs.Math.Nat.{le_trans}
 use Rattle.std.proofs.Math.Seq.{drop-append_seam}
@@ -10,13 +10,12 @@ use Rattle.lp_instr.specs.declared.efun.Efun.{Efun}
 use Rattle.lp_events.specs.declared.out.Out.{Out}
 use Rattle.lp_swapfile.specs.Device.{Bytes}
 use Rattle.lp_language.specs.World.{World}
-use Rattle.lp_language.specs.Course as course
-use Rattle.lp_language.specs.Course.{Ask, Course, Over, End, Gives, OfEfun, Reply, Scene, State, Stops, outcome_of}
+use Rattle.lp_language.specs.Course.{Ask, Over, End, Gives, OfEfun, Scene, State, Stops, outcome_of}
 use Rattle.lp_meaning.specs.Askers.{asker_of, plainly, state_of}
 use Rattle.lp_meaning.specs.Closing.{Ends, Has}
 use Rattle.lp_meaning.specs.FrontEnd.{FrontEnd}
 use Rattle.lp_meaning.specs.FunctionCalls.{depth_behind, nothing_called}
-use Rattle.lp_meaning.specs.Questions.{efun_call, efun_in, meaning_of, means}
+use Rattle.lp_meaning.specs.Questions.{efun_in, meaning_of, means}
 use Rattle.lp_meaning.proofs.Kept.{outcomes_can_be}
 use Rattle.lp_world.specs.declared.live.Live.{Live}
 use Rattle.lp_step.specs.Steps.{IsFit, KeepsVariables}
@@ -29,10 +28,9 @@ use Rattle.lp_efuns.specs.Turns.{At, IsScene, Setting}
 use Rattle.lp_settling.proofs.Still.{efuns_settle}
 use Rattle.lp_calling.specs.declared.job.Begun.TheVariants as begun
 use Rattle.lp_calling.specs.declared.job.Job.{Job}
-use Rattle.lp_calling.specs.Beginning.{Begins, HasBegun, HasEnded, IsOver, Settled, whole}
-use Rattle.lp_calling.specs.Jobs.{IsJobOn, IsReady, course_of}
+use Rattle.lp_calling.specs.Beginning.{Begins, HasBegun, IsOver, Settled, whole}
+use Rattle.lp_calling.specs.Jobs.{IsReady, course_of}
 use Rattle.lp_calling.proofs.Settled.{end_settled}
-use Rattle.lp_run.proofs.Together.{home_same}
 use Rattle.lp_targets.specs.Callees.{IsWorldOf}
 use Rattle.lp_asking.specs.declared.asker.Asker.{Asker}
 use Rattle.lp_asking.specs.declared.ending.Ending.{Ending}
@@ -41,16 +39,15 @@ use Rattle.lp_asking.proofs.Courses.{has_of, over_ends, plainly_ends}
 use Rattle.lp_vm.specs.declared.efuns.EfunBegun.TheVariants as starts
 use Rattle.lp_vm.specs.declared.request.Request.{Request}
 use Rattle.lp_vm.specs.declared.request.Request.TheVariants as requests
-use Rattle.lp_vm.specs.Answering.{CanServe, IsAsked, IsSameAsker, Served, Serves}
+use Rattle.lp_vm.specs.Answering.{CanServe, IsAsked, IsSameAsker, Served}
 use Rattle.lp_vm.specs.Beginning.{CanStart}
-use Rattle.lp_vm.specs.Cycle.{Answers, Works}
 use Rattle.lp_vm.specs.Efuns.{HasBegunEfun, StartsEfun, ending_of}
 use Rattle.lp_vm.specs.Going.{IsOutcome}
 use Rattle.lp_vm.specs.Requests.{AsksEfun}
-use Rattle.lp_vm.specs.Working.{CanWork, IsWorking, Worked, WorkedTo}
+use Rattle.lp_vm.specs.Working.{IsWorking}
 use Rattle.lp_vm.proofs.Beginnings.{below_is}
 use Rattle.lp_vm.proofs.Carried.{world_settled}
-use Rattle.lp_vm.proofs.Startings.{any_front, same_asker}
+use Rattle.lp_vm.proofs.Startings.{any_front}
 use Rattle.lp_vm.proofs.Turning.{no_places}
 
 -- The question

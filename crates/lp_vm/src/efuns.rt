@@ -1,14 +1,17 @@
 //! Efuns that a running function calls begin.
-ghost use Rattle.std.specs.Prelude.{◌≡◌, ◌-◌, ◌≤◌, IfOk, None, drop, length, true};
+ghost use Rattle.std.specs.Prelude.{◌≡◌, ◌-◌, ◌≤◌, IfErr, IfOk, None, drop, length, true};
 ghost use Rattle.lp_cells.specs.Cells.{Store};
 ghost use Rattle.lp_efuns.specs.Plain.{IsAnswerThere, is_plain};
 ghost use Rattle.lp_calling.specs.Beginning.{is_calling};
+ghost use Rattle.lp_calling.specs.Targets.{NeedsLoad};
 ghost use Rattle.lp_step.specs.Steps.{IsFit};
 ghost use Rattle.lp_asking.specs.declared.ending.Ending.TheVariants as endings;
 ghost use Rattle.lp_asking.specs.Endings.{IsEndingThere};
+ghost use Rattle.lp_vm.specs.declared.fault.VmFault.TheVariants.{NoMemory, NotYet};
 ghost use Rattle.lp_vm.specs.declared.request.Request.TheVariants as requests;
 ghost use Rattle.lp_vm.specs.Beginning.{CanStart};
-ghost use Rattle.lp_vm.specs.Efuns.{StartsEfun, ending_of};
+ghost use Rattle.lp_vm.specs.Causes.{IsReadless};
+ghost use Rattle.lp_vm.specs.Efuns.{IsNotYet, StartsEfun, ending_of};
 
 use crate::fault::VmFault;
 use lp_asking::asker::Asker;
@@ -75,7 +78,8 @@ fn plain(
     requires plain { is_plain efun ≡ true }
     requires fit { IsFit live.old stack.old.items }
     requires can { CanStart live.old stack.old.items asker.old budget.old (requests.Efun this efun) args }
-    ensures { IfOk result (λ r. StartsEfun r this efun args live.old stack.old.items asker.old budget.old live.new stack.new.items asker.new budget.new) }
+    ensures starts { IfOk result (λ r. StartsEfun r this efun args live.old stack.old.items asker.old budget.old live.new stack.new.items asker.new budget.new) }
+    ensures fault { IfErr result (λ f. f ≡ NoMemory) }
 {
     let caller = Caller {
         this,
@@ -107,7 +111,9 @@ fn calling(
     requires calling { is_calling efun ≡ true }
     requires fit { IsFit live.now stack.old.items }
     requires can { CanStart live.now stack.old.items asker.now budget.old (requests.Efun this efun) args }
-    ensures { IfOk result (λ r. StartsEfun r this efun args live.now stack.old.items asker.now budget.old live.now stack.new.items asker.now budget.new) }
+    ensures starts { IfOk result (λ r. StartsEfun r this efun args live.now stack.old.items asker.now budget.old live.now stack.new.items asker.now budget.new) }
+    ensures fault { IfErr result IsReadless }
+    ensures yet { IfErr result (λ f. f ≡ NotYet → NeedsLoad live.now efun (drop (length stack.old.items - args) stack.old.items)) }
 {
     let caller = Caller {
         this,
@@ -136,7 +142,9 @@ pub fn begin_efun(
 ) -> Result<EfunBegun, VmFault>
     requires fit { IsFit live.old stack.old.items }
     requires can { CanStart live.old stack.old.items asker.old budget.old (requests.Efun this efun) args }
-    ensures { IfOk result (λ r. StartsEfun r this efun args live.old stack.old.items asker.old budget.old live.new stack.new.items asker.new budget.new) }
+    ensures starts { IfOk result (λ r. StartsEfun r this efun args live.old stack.old.items asker.old budget.old live.new stack.new.items asker.new budget.new) }
+    ensures fault { IfErr result IsReadless }
+    ensures yet { IfErr result (λ f. f ≡ NotYet → IsNotYet live.old efun (drop (length stack.old.items - args) stack.old.items)) }
 {
     if is_plain(efun) {
         return plain(live, stack, asker, this, efun, args, budget);
