@@ -16,6 +16,7 @@ use Rattle.lp_world.specs.Stands.{Stands}
 use Rattle.lp_world.proofs.BareWorlds.{heritage_same}
 use Rattle.lp_residence.proofs.RowChanges.{object_behind, row_there}
 use Rattle.lp_frames.specs.declared.entry.Callee.{Callee}
+use Rattle.lp_frames.proofs.Entered.{begins_as_written}
 use Rattle.lp_part_laws.specs.Versions.{rows_of}
 use Rattle.lp_part_laws.proofs.Lists.{is_below}
 use Rattle.lp_asking.specs.Asking.{rows_in}
@@ -23,6 +24,7 @@ use Rattle.lp_targets.specs.Callees as now
 use Rattle.lp_targets.specs.Callees.{IsWorldOf}
 use Rattle.lp_targets.proofs.Memory.{some_row}
 use Rattle.lp_reaching.specs.Compiled.{IsCallee}
+use Rattle.lp_reaching.specs.Subjects.{OfFunction}
 use Rattle.lp_reaching.proofs.Later.{caller_later}
 use Rattle.lp_reaching.proofs.Names.{names_of_part}
 
@@ -49,7 +51,7 @@ names_of_caller programs told live w o part code h who =
     names_of_part programs w.versions (object_at w o).version part who.place code h.compiled (ap (λ t. part_at t part) (sym (heritage_same w (object_at w o).version)) ∙ who.at) who.is
 
 pub callee_later : (told : Option Bytes) (programs : List RawProgram) (live : Live) (w : World) (c : Callee) (o : ObjId) (f : Found) → IsWorldOf told programs live w → IsClosed live → IsSome (row_at live.objects o.0)
-    → now.IsCallee programs w c o f → IsCallee programs w c o f
+    → now.IsCallee programs w c o f → IsCallee programs w c o (OfFunction f)
 callee_later told programs live w c o f h closed s k =
     let t = is_there told programs live w o h.stands closed s in
     let is : slice_get programs (number_of k.place.tree).0 ≡ Some k.code = ap (λ (v : ProgId). slice_get programs v.0) (sym k.program) ∙ k.is in
@@ -68,8 +70,7 @@ callee_later told programs live w c o f h closed s k =
       row = k.function.row;
       found = k.function.listed;
       name = k.function.name;
-      params = k.function.params;
-      locals = k.function.locals;
+      locals = λ xs. begins_as_written f.function k.function.row xs k.function.params k.function.locals;
       makes = subst (λ ns. MakesFun k.place.tree f.function (code_of k.code ns) k.function.row.from) names k.function.makes;
       rows = subst (FindsRows k.code) names k.fits.rows;
       places = k.fits.places;

@@ -34,6 +34,7 @@ use Rattle.lp_targets.proofs.Memory.{program_row}
 use Rattle.lp_targets.proofs.Shadows.{answer_here}
 use Rattle.lp_reaching.specs.declared.reached.Reached.{Reached}
 use Rattle.lp_reaching.specs.Compiled.{IsCallee}
+use Rattle.lp_reaching.specs.Subjects.{OfFunction}
 use Rattle.lp_reaching.specs.Leading.{CanLead, IsTargetThere, Leads}
 use Rattle.lp_reaching.specs.Reaching.{AsksInside, IsInMemory, Reaches, ReachesIf}
 use Rattle.lp_reaching.proofs.Callees.{callee_later, names_of_caller}
@@ -147,10 +148,10 @@ pub reaches : (told0 told1 : Option Bytes) (programs : List RawProgram) (old new
 reaches told0 told1 programs old new asker caller a callee code closed w h e after =
     let t = aim_of programs old.objects asker caller a callee h in
     let k = callee_later told0 programs old a.world callee t.target.object t.target.found w closed t.there t.callee_is in
-    let here : IsCallee programs a.world callee callee.this t.target.found = subst (λ o. IsCallee programs a.world callee o t.target.found) (sym k.this) k in
+    let here : IsCallee programs a.world callee callee.this (OfFunction t.target.found) = subst (λ o. IsCallee programs a.world callee o (OfFunction t.target.found)) (sym k.this) k in
     record {
       callers = t.callers;
-      found = t.target.found;
+      subject = OfFunction t.target.found;
       means_it = t.means_it ∙ ap (λ o. Some (calling a o t.callers t.target.found)) (sym k.this);
       callers_are = t.callers_are;
       callee = here;

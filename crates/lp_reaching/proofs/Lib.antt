@@ -5,3 +5,4 @@ pub mod Callees
 pub mod Leads
 pub mod Chains
 pub mod Entries
+pub mod Inits

@@ -1,3 +1,4 @@
+pub mod Subjects
 pub mod Compiled
 pub mod Reaching
 pub mod Leading

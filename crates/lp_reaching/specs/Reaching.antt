@@ -1,13 +1,13 @@
 -- What a question reaches, and what an entry leaves.
-use Rattle.std.specs.Prelude.{◌≡◌, ◌+◌, ◌<◌, ◌++◌, ℕ, List, Option, None, Some, IsSome, length, reverse}
+use Rattle.std.specs.Prelude.{◌≡◌, ◌+◌, ◌<◌, ◌++◌, ℕ, List, Option, None, Some, IsSome, length, reverse, true}
 use Rattle.std.specs.Option.{option_to_list}
 use Rattle.lp_values.specs.declared.id.ObjId.{ObjId}
 use Rattle.lp_code.specs.declared.program.RawProgram.{RawProgram}
 use Rattle.lp_swapfile.specs.Device.{Bytes}
 use Rattle.lp_language.specs.World.{World}
-use Rattle.lp_language.specs.Course.{Apply, Ask, Other, Scene}
-use Rattle.lp_language.specs.Resolve.{Found}
-use Rattle.lp_meaning.specs.FunctionCalls.{callers_behind, calling, nothing_called}
+use Rattle.lp_language.specs.Course.{Apply, Ask, Initialise, Other, Scene}
+use Rattle.lp_language.specs.Resolve.{Part, heritage_of, part_at}
+use Rattle.lp_meaning.specs.FunctionCalls.{callers_behind, nothing_called}
 use Rattle.lp_meaning.specs.Questions.{means}
 use Rattle.lp_world.specs.declared.live.Live.{Live}
 use Rattle.lp_world.specs.declared.objects.Object.{Object}
@@ -18,8 +18,10 @@ use Rattle.lp_asking.specs.declared.asker.Asker.{Asker}
 use Rattle.lp_asking.specs.declared.question.Question.{Question}
 use Rattle.lp_asking.specs.Asking.{Means, code_in}
 use Rattle.lp_targets.specs.Callees.{IsWorldOf}
+use Rattle.lp_initialisers.specs.Rows.{has_initialisers}
 use Rattle.lp_reaching.specs.declared.reached.Reached.{Reached}
 use Rattle.lp_reaching.specs.Compiled.{IsCallee, IsCaller}
+use Rattle.lp_reaching.specs.Subjects.{Subject, calling_subject}
 
 -- Questions
 
@@ -69,6 +71,22 @@ pub record CanApply (told : Option Bytes) (live : Live) (caller : Option ObjId) 
   pub asks : Applies asker caller ob name ask
   pub world : IsWorldOf told programs live ask.world
 
+-- The initialisers of a part of an object's program are called, which has some; by the driver, or by an efun, for which the
+-- object that called it is the latest caller.
+pub record Initialises (asker : Asker) (caller : Option ObjId) (ob : ObjId) (part : ℕ) (a : Ask) : Type 0 where
+  pub callers : callers_behind a.scene ≡ reverse (asker.callers.items ++ option_to_list caller)
+  pub what : a.what ≡ Initialise ob part
+  pub place : Part
+  pub at : part_at (heritage_of a.world ob) part ≡ Some place
+  pub has : has_initialisers place.tree ≡ true
+
+pub record CanInitialise (told : Option Bytes) (live : Live) (caller : Option ObjId) (ob : ObjId) (part : ℕ) : Type 0 where
+  pub programs : List RawProgram
+  pub asker : Asker
+  pub ask : Ask
+  pub asks : Initialises asker caller ob part ask
+  pub world : IsWorldOf told programs live ask.world
+
 -- What a question reaches
 
 -- the function of a callee is there, and its object in memory, with the variables of the part
@@ -78,13 +96,13 @@ pub record IsInMemory (live : Live) (callee : Callee) (p : RawProgram) : Type 0 
   pub object : IsSome (row_at live.objects callee.this.0)
   pub version : IsSome (row_at live.versions callee.program.0)
 
--- A question means that a function of an object is called, with these callers; the state still stands for its world.
+-- A question means that this is called in an object, with these callers; the state still stands for its world.
 pub record Reaches (told : Option Bytes) (programs : List RawProgram) (live : Live) (asker : Asker) (a : Ask) (x : Reached) : Type 0 where
   pub callers : List ObjId
-  pub found : Found
-  pub means_it : means a ≡ Some (calling a x.callee.this callers found)
+  pub subject : Subject
+  pub means_it : means a ≡ Some (calling_subject a x.callee.this callers subject)
   pub callers_are : callers ≡ reverse (asker.callers.items ++ option_to_list x.caller)
-  pub callee : IsCallee programs a.world x.callee x.callee.this found
+  pub callee : IsCallee programs a.world x.callee x.callee.this subject
   pub code : callee.code ≡ x.code
   pub world : IsWorldOf told programs live a.world
 
@@ -103,10 +121,15 @@ abbrev pub FindsOutside : ObjId → ObjId → List ℕ → Option Bytes → Live
 FindsOutside this ob name told0 live0 told1 live1 r =
     (programs : List RawProgram) (asker : Asker) (a : Ask) → AsksOutside asker this ob name a → IsWorldOf told0 programs live0 a.world → ReachesIf told1 programs live1 asker a r
 
--- and for every apply
+-- for every apply
 abbrev pub FindsApplied : Option ObjId → ObjId → List ℕ → Option Bytes → Live → Option Bytes → Live → Option Reached → Type 0
 FindsApplied caller ob name told0 live0 told1 live1 r =
     (programs : List RawProgram) (asker : Asker) (a : Ask) → Applies asker caller ob name a → IsWorldOf told0 programs live0 a.world → ReachesIf told1 programs live1 asker a r
+
+-- and for every call of initialisers
+abbrev pub FindsInitialisers : Option ObjId → ObjId → ℕ → Option Bytes → Live → Option Bytes → Live → Option Reached → Type 0
+FindsInitialisers caller ob part told0 live0 told1 live1 r =
+    (programs : List RawProgram) (asker : Asker) (a : Ask) → Initialises asker caller ob part a → IsWorldOf told0 programs live0 a.world → ReachesIf told1 programs live1 asker a r
 
 -- Entries
 

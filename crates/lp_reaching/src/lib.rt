@@ -5,6 +5,7 @@
 
 pub mod applying;
 pub mod finding;
+pub mod initialising;
 pub mod marking;
 pub mod outside;
 pub mod reached;

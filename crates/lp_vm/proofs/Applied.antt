@@ -21,7 +21,7 @@ use Rattle.lp_vm.proofs.Turning.{world_reached}
 -- The call
 
 -- the question is asked still, in the state with what was brought
-asked_still : (told0 told1 : Option Bytes) (programs : List RawProgram) (live0 live1 : Live) (stack below : List Value) (asker : Asker) (args budget : ℕ) (a : Ask) → IsWorldOf told1 programs live1 a.world → IsAsked told0 programs live0 stack below asker args budget a
+pub asked_still : (told0 told1 : Option Bytes) (programs : List RawProgram) (live0 live1 : Live) (stack below : List Value) (asker : Asker) (args budget : ℕ) (a : Ask) → IsWorldOf told1 programs live1 a.world → IsAsked told0 programs live0 stack below asker args budget a
     → IsAsked told1 programs live1 stack below asker args budget a
 asked_still told0 told1 programs live0 live1 stack below asker args budget a w h = record { by = h.by; world = w; left = h.left; lies = h.lies; many = h.many }
 

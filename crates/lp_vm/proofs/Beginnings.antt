@@ -17,16 +17,16 @@ use Rattle.lp_language.specs.World.{World}
 use Rattle.lp_language.specs.Course as course
 use Rattle.lp_language.specs.Course.{Ask, Course, Over, End, Reply, Scene, State, Stops, here, outcome_of, stops, zero_value}
 use Rattle.lp_language.specs.Eval.{Site}
-use Rattle.lp_language.specs.Exec.{body_of, first_locals}
-use Rattle.lp_language.specs.Resolve.{Found, Part, heritage_of, number_of, part_at}
-use Rattle.lp_isa.specs.Machine.{Goes}
+use Rattle.lp_language.specs.Resolve.{Part, heritage_of, number_of, part_at}
+use Rattle.lp_instr.specs.Code.{Code}
+use Rattle.lp_isa.specs.Machine.{Goes, goes}
 use Rattle.lp_isa.specs.Runs.{Does}
-use Rattle.lp_isa.specs.Translates.{MakesFun}
-use Rattle.lp_sim.proofs.Whole.{does_so}
-use Rattle.lp_meaning.specs.Askers.{asker_of, plainly, state_of}
+use Rattle.lp_sim.proofs.Stmts.{init_follows}
+use Rattle.lp_sim.proofs.Whole.{does_so, follows_does}
+use Rattle.lp_meaning.specs.Askers.{plainly}
 use Rattle.lp_meaning.specs.Closing.{Ends}
 use Rattle.lp_meaning.specs.FrontEnd.{FrontEnd}
-use Rattle.lp_meaning.specs.FunctionCalls.{calling, entering, part_of, part_or_whole, site_in}
+use Rattle.lp_meaning.specs.FunctionCalls.{entering, part_of, part_or_whole}
 use Rattle.lp_meaning.specs.Limits.{max_depth}
 use Rattle.lp_meaning.specs.WorldSteps.{entered}
 use Rattle.lp_world.specs.declared.frame.Frame.{Frame}
@@ -37,7 +37,6 @@ use Rattle.lp_step.specs.Steps.{IsFit}
 use Rattle.lp_step_laws.specs.Running.{HasVariables}
 use Rattle.lp_frames.specs.Entries.{IsAround, IsOfRow, Opens, RunsFrom, begins, begun_locals}
 use Rattle.lp_frames.specs.declared.entry.Callee.{Callee}
-use Rattle.lp_frames.proofs.Entered.{begins_as_written}
 use Rattle.lp_asking.specs.declared.asker.Asker.{Asker}
 use Rattle.lp_vm.specs.declared.entering.Begun.TheVariants as begun
 use Rattle.lp_asking.specs.declared.ending.Ending.TheVariants as endings
@@ -45,6 +44,7 @@ use Rattle.lp_asking.specs.declared.ending.Place.{Place}
 use Rattle.lp_asking.specs.declared.ending.Stop.{Stop}
 use Rattle.lp_targets.specs.Callees.{IsWorldOf}
 use Rattle.lp_reaching.specs.Compiled.{IsCaller}
+use Rattle.lp_reaching.specs.Subjects.{Subject, OfFunction, OfInitialisers, MakesSubject, body_of_subject, calling_subject, first_locals_of, part_of_subject, site_of_subject, start_of_subject}
 use Rattle.lp_reaching.specs.Reaching.{Marks}
 use Rattle.lp_efuns.specs.Turns.{commands_of}
 use Rattle.lp_asking.specs.Asking.{code_in, loading_of, rows_in}
@@ -77,18 +77,18 @@ below_is stack0 stack1 below xs n e l t =
 
 -- Where it does not begin
 
-module _ (front : FrontEnd) (told : Option Bytes) (programs : List RawProgram) (a : Ask) (o : ObjId) (callers : List ObjId) (f : Found) where
+module _ (front : FrontEnd) (told : Option Bytes) (programs : List RawProgram) (a : Ask) (o : ObjId) (callers : List ObjId) (subject : Subject) where
   abbrev site : Site
-  site = site_in (asker_of a) a.world o f.part f.function.name callers
+  site = site_of_subject a o callers subject
 
   abbrev start : State
-  start = record (state_of a) { locals = first_locals f.function a.arguments }
+  start = start_of_subject a subject
 
   -- the outcome of a call that was not begun
   unbegun : (live : Live) (stack0 stack1 below : List Value) (asker : Asker) (args budget0 budget1 : ℕ) (stop : Stop) (x : course.Cause) (s : State)
       → IsAsked told programs live stack0 below asker args budget0 a → cause_of stop.cause ≡ x → stop.place ≡ None → budget1 ≡ s.budget → s.player ≡ a.player → s.commands ≡ a.commands → s.world ≡ a.world → s.outputs ≡ []
-      → stack1 ≡ take (length stack0 - args) stack0 → entering site.scene (body_of site f.function) start ≡ Over (Stops (here x) s)
-      → Answered front (calling a o callers f) told programs live.outputs live stack1 below asker budget1 (endings.Stopped stop)
+      → stack1 ≡ take (length stack0 - args) stack0 → entering site.scene (body_of_subject site subject) start ≡ Over (Stops (here x) s)
+      → Answered front (calling_subject a o callers subject) told programs live.outputs live stack1 below asker budget1 (endings.Stopped stop)
   unbegun live stack0 stack1 below asker args budget0 budget1 stop x s h c none left player commands world outs t e = record {
     end = Stops (here x) s;
     ends = subst (λ t. Ends front t (Stops (here x) s)) (sym (ap plainly e)) (over_ends front (Stops (here x) s));
@@ -110,26 +110,31 @@ module _ (front : FrontEnd) (told : Option Bytes) (programs : List RawProgram) (
 -- nothing is left to pay with
 pub begins_spent : (live : Live) (stack0 stack1 : List Value) (asker : Asker) (callee : Callee) (code : RawProgram) (caller : Option ObjId) (args budget0 budget1 : ℕ) (stop : Stop) → budget0 ≡ 0 → budget1 ≡ 0 → cause_of stop.cause ≡ course.Spent → stop.place ≡ None
     → stack1 ≡ take (length stack0 - args) stack0 → Begins (begun.Stopped stop) callee code caller args live stack0 asker budget0 live stack1 asker budget1
-begins_spent live stack0 stack1 asker callee code caller args budget0 budget1 stop z0 z1 c none t front told programs a callers f below h called =
-    let s : State = record (start front told programs a callee.this callers f) { budget = 0 } in
-    unbegun front told programs a callee.this callers f live stack0 stack1 below asker args budget0 budget1 stop course.Spent s h c none z1 refl refl refl refl t
-    (entering_spent (site front told programs a callee.this callers f).scene (body_of (site front told programs a callee.this callers f) f.function) (start front told programs a callee.this callers f)
+begins_spent live stack0 stack1 asker callee code caller args budget0 budget1 stop z0 z1 c none t front told programs a callers subject below h called =
+    let s : State = record (start front told programs a callee.this callers subject) { budget = 0 } in
+    unbegun front told programs a callee.this callers subject live stack0 stack1 below asker args budget0 budget1 stop course.Spent s h c none z1 refl refl refl refl t
+    (entering_spent (site front told programs a callee.this callers subject).scene (body_of_subject (site front told programs a callee.this callers subject) subject) (start front told programs a callee.this callers subject)
     (is_less a.budget 1 (omega (arith, z0, h.left))))
 
 -- it would lie too deep
 pub begins_deep : (live : Live) (stack0 stack1 : List Value) (asker : Asker) (callee : Callee) (code : RawProgram) (caller : Option ObjId) (args budget0 budget1 : ℕ) (stop : Stop) → budget0 ≡ budget1 + 1 → 100 ≤ asker.depth → cause_of stop.cause ≡ course.Failed (plain TooDeep)
     → stop.place ≡ None → stack1 ≡ take (length stack0 - args) stack0 → Begins (begun.Stopped stop) callee code caller args live stack0 asker budget0 live stack1 asker budget1
-begins_deep live stack0 stack1 asker callee code caller args budget0 budget1 stop p deep c none t front told programs a callers f below h called =
-    let s : State = paid_one (start front told programs a callee.this callers f) in
+begins_deep live stack0 stack1 asker callee code caller args budget0 budget1 stop p deep c none t front told programs a callers subject below h called =
+    let s : State = paid_one (start front told programs a callee.this callers subject) in
     let left : budget1 ≡ a.budget - 1 = omega (arith, p, h.left) in
-    unbegun front told programs a callee.this callers f live stack0 stack1 below asker args budget0 budget1 stop (course.Failed (plain TooDeep)) s h c none left refl refl refl refl t
-    (entering_deep (site front told programs a callee.this callers f).scene (body_of (site front told programs a callee.this callers f) f.function) (start front told programs a callee.this callers f)
-    (not_less a.budget 1 (omega (arith, p, h.left))) (is_less max_depth (site front told programs a callee.this callers f).scene.depth (omega (arith, deep, h.by.depth))))
+    unbegun front told programs a callee.this callers subject live stack0 stack1 below asker args budget0 budget1 stop (course.Failed (plain TooDeep)) s h c none left refl refl refl refl t
+    (entering_deep (site front told programs a callee.this callers subject).scene (body_of_subject (site front told programs a callee.this callers subject) subject) (start front told programs a callee.this callers subject)
+    (not_less a.budget 1 (omega (arith, p, h.left))) (is_less max_depth (site front told programs a callee.this callers subject).scene.depth (omega (arith, deep, h.by.depth))))
 
 -- Where it begins
 
 part_is : (w : World) (o : ObjId) (n : ℕ) (place : Part) → part_at (heritage_of w o) n ≡ Some place → part_of w o n ≡ place
 part_is w o n place e = ap (part_or_whole (heritage_of w o)) e
+
+-- The machine does what is called, where its code stands.
+subject_does : (k : Site) (subject : Subject) (code : Code) (from : ℕ) (s : State) → MakesSubject k.tree subject code from → Does code k.scene (goes from [] [] s) (body_of_subject k subject s)
+subject_does k (OfFunction f) code from s makes = does_so k f.function code from s makes
+subject_does k (OfInitialisers n) code from s makes = follows_does code k.scene (body_of_subject k (OfInitialisers n) s) (goes from [] [] s) (init_follows code k from s makes)
 
 pub begins_runs : (live0 live2 : Live) (stack0 stack1 : List Value) (frame : Frame) (asker0 asker1 : Asker) (callee : Callee) (code : RawProgram) (caller : Option ObjId) (args budget0 budget1 : ℕ)
     → budget0 ≡ budget1 + 1 → asker0.depth < 100 → HasCaller caller asker0 asker1
@@ -137,11 +142,11 @@ pub begins_runs : (live0 live2 : Live) (stack0 stack1 : List Value) (frame : Fra
     → IsFit live2 stack0 → HasVariables (variables_at live2.objects callee.this) (callee.base + length code.tables.vars)
     → RunsFrom code callee args stack0 stack1 frame → IsOfRow code callee args stack0
     → Begins (begun.Runs frame) callee code caller args live0 stack0 asker0 budget0 live2 stack1 asker1 budget1
-begins_runs live0 live2 stack0 stack1 frame asker0 asker1 callee code caller args budget0 budget1 paid high has marks outs fit home runs of front told programs a callers f below h called =
+begins_runs live0 live2 stack0 stack1 frame asker0 asker1 callee code caller args budget0 budget1 paid high has marks outs fit home runs of front told programs a callers subject below h called =
     let c = called.callee_is in
     let same : c.code ≡ code = called.code_is in
-    let at : part_of a.world callee.this f.part ≡ c.place = part_is a.world callee.this f.part c.place c.at in
-    let k : Site = site_in (asker_of a) a.world callee.this f.part f.function.name callers in
+    let at : part_of a.world callee.this (part_of_subject subject) ≡ c.place = part_is a.world callee.this (part_of_subject subject) c.place c.at in
+    let k : Site = site_of_subject a callee.this callers subject in
     let version : callee.program ≡ k.scene.version = c.program ∙ ap (λ (p : Part). number_of p.tree) (sym at) in
     let base : callee.base ≡ k.scene.base = c.base ∙ ap (λ (p : Part). p.base) (sym at) in
     let found : slice_get code.funs callee.fun ≡ Some c.row = ap (λ q. slice_get q.funs callee.fun) (sym same) ∙ c.found in
@@ -171,7 +176,7 @@ begins_runs live0 live2 stack0 stack1 frame asker0 asker1 callee code caller arg
       };
       locals = refl;
     } in
-    let first : State = record (state_of a) { locals = first_locals f.function a.arguments } in
+    let first : State = start_of_subject a subject in
     let s : State = record (paid_one first) { world = entered a.world k.scene.this k.scene.version } in
     let marked : Marks told programs live2 a.world s.world = subst (λ v. Marks told programs live2 a.world (entered a.world callee.this v)) version (marks told programs a.world h.world) in
     let opens : Opens around live2 budget1 s = record {
@@ -182,9 +187,9 @@ begins_runs live0 live2 stack0 stack1 frame asker0 asker1 callee code caller arg
       commands = h.by.commands ∙ ap (λ t. commands_of t.commands.items) (sym has.turn);
     } in
     let fun : IsFunction code callee.fun c.row = subst (λ q. IsFunction q callee.fun c.row) same (c.sound.functions callee.fun c.row c.found) in
-    let locals : begun_locals c.row.params c.row.locals a.arguments ≡ first_locals f.function a.arguments = begins_as_written f.function c.row a.arguments c.params c.locals in
+    let locals : begun_locals c.row.params c.row.locals a.arguments ≡ first_locals_of subject a.arguments = c.locals a.arguments in
     let rows = subst (λ q. FindsRows q (rows_in programs q)) same c.rows in
-    let makes = subst (λ (p : Part). MakesFun p.tree f.function (code_in programs code) c.row.from) (sym at) (subst (λ q. MakesFun c.place.tree f.function (code_in programs q) c.row.from) same c.makes) in
+    let makes = subst (λ (p : Part). MakesSubject p.tree subject (code_in programs code) c.row.from) (sym at) (subst (λ q. MakesSubject c.place.tree subject (code_in programs q) c.row.from) same c.makes) in
     record {
       p = code;
       k = callee.fun;
@@ -192,7 +197,7 @@ begins_runs live0 live2 stack0 stack1 frame asker0 asker1 callee code caller arg
       function = fun;
       around = around;
       moment = begins c.row a.arguments s;
-      body = body_of k f.function s;
+      body = body_of_subject k subject s;
       going = record {
         of = of c.row around a.arguments is_around h.lies h.many refl rows (subst (λ q. length q.instrs < 2 ^ 32) same c.places);
         runs = runs c.row fun around a.arguments live2 budget1 s is_around h.lies h.many opens rows fit (subst (λ n. HasVariables (variables_at live2.objects callee.this) (n + length code.tables.vars)) base home);
@@ -210,13 +215,13 @@ begins_runs live0 live2 stack0 stack1 frame asker0 asker1 callee code caller arg
         caller = subst (λ n. IsCaller programs s.world callee.this n code) c.part (subst (IsCaller programs s.world callee.this callee.part) same (marked.callers callee.this callee.part c.code c.caller));
         code = refl;
         does =
-            subst (λ ls. Does around.code k.scene (Goes (record { place = c.row.from; stack = []; catches = []; state = record s { locals = ls } })) (body_of k f.function s)) (sym locals)
-            (does_so k f.function (code_in programs code) c.row.from s makes);
+            subst (λ ls. Does around.code k.scene (Goes (record { place = c.row.from; stack = []; catches = []; state = record s { locals = ls } })) (body_of_subject k subject s)) (sym locals)
+            (subject_does k subject (code_in programs code) c.row.from s makes);
       };
       below_is = refl;
       before_is = refl;
       programs_are = refl;
-      back = λ e ends. call_ends front k.scene (body_of k f.function) first e (not_less a.budget 1 (omega (arith, paid, h.left))) (not_less max_depth k.scene.depth (omega (arith, high, h.by.depth))) ends;
+      back = λ e ends. call_ends front k.scene (body_of_subject k subject) first e (not_less a.budget 1 (omega (arith, paid, h.left))) (not_less max_depth k.scene.depth (omega (arith, high, h.by.depth))) ends;
     }
 
 -- What lies on the stack then is there.

@@ -12,11 +12,11 @@ use Rattle.lp_swapfile.specs.Device.{Bytes}
 use Rattle.lp_language.specs.World.{Keeps, World, version_at}
 use Rattle.lp_language.specs.Course as course
 use Rattle.lp_language.specs.Course.{Ask, CanAnswer, Course, Over, End, Gives, Plain, Reply, Stops, outcome_of, zero_value}
-use Rattle.lp_language.specs.Resolve.{Found, Part, heritage_of, number_of, or_else, without_c}
-use Rattle.lp_meaning.specs.Askers.{asker_of, state_of}
+use Rattle.lp_language.specs.Resolve.{Part, heritage_of, number_of, or_else, without_c}
+use Rattle.lp_meaning.specs.Askers.{state_of}
 use Rattle.lp_meaning.specs.Closing.{Ends}
 use Rattle.lp_meaning.specs.FrontEnd.{FrontEnd}
-use Rattle.lp_meaning.specs.FunctionCalls.{calling, nothing_called, part_of, part_or_whole, place_of, placed_end, placed_stop, scene_in}
+use Rattle.lp_meaning.specs.FunctionCalls.{nothing_called, part_of, part_or_whole, place_of, placed_end, placed_stop}
 use Rattle.lp_meaning.specs.Questions.{means}
 use Rattle.lp_meaning.proofs.Kept.{outcomes_can_be}
 use Rattle.lp_world.specs.declared.frame.Frame.{Frame}
@@ -32,6 +32,7 @@ use Rattle.lp_asking.specs.declared.ending.Place.{Place}
 use Rattle.lp_reaching.specs.declared.reached.Reached.{Reached}
 use Rattle.lp_frames.specs.declared.entry.Callee.{Callee}
 use Rattle.lp_targets.specs.Callees.{IsWorldOf}
+use Rattle.lp_reaching.specs.Subjects.{Subject, calling_subject, part_of_subject, site_of_subject}
 use Rattle.lp_reaching.specs.Reaching.{IsInMemory, Reaches}
 use Rattle.lp_efuns.specs.Turns.{commands_of}
 use Rattle.lp_asking.specs.Beginning.{IsPlaced}
@@ -89,12 +90,12 @@ world_of_end its (Gives v s) = refl
 world_of_end its (Stops x s) = refl
 
 -- the place of a function that was called, in a later world
-place_so : (told : Option Bytes) (programs : List RawProgram) (live : Live) (w : World) (a : Ask) (stack below : List Value) (asker : Asker) (args budget : ℕ) (callee : Callee) (code : RawProgram) (caller : Option ObjId) (callers : List ObjId) (f : Found)
-    → IsAsked told programs live stack below asker args budget a → IsCalled programs asker a callee code caller callers f → IsInMemory live callee code → Keeps a.world w
-    → IsPlace programs w (record { this = callee.this; program = callee.program; fun = callee.fun }) (place_of a.world (scene_in (asker_of a) callee.this f.part (part_of a.world callee.this f.part) f.function.name callers))
-place_so told programs live w a stack below asker args budget callee code caller callers f h called memory keeps =
+place_so : (told : Option Bytes) (programs : List RawProgram) (live : Live) (w : World) (a : Ask) (stack below : List Value) (asker : Asker) (args budget : ℕ) (callee : Callee) (code : RawProgram) (caller : Option ObjId) (callers : List ObjId) (subject : Subject)
+    → IsAsked told programs live stack below asker args budget a → IsCalled programs asker a callee code caller callers subject → IsInMemory live callee code → Keeps a.world w
+    → IsPlace programs w (record { this = callee.this; program = callee.program; fun = callee.fun }) (place_of a.world (site_of_subject a callee.this callers subject).scene)
+place_so told programs live w a stack below asker args budget callee code caller callers subject h called memory keeps =
     let c = called.callee_is in
-    let version : callee.program ≡ number_of (part_of a.world callee.this f.part).tree = c.program ∙ ap (λ (p : Part). number_of p.tree) (sym (ap (part_or_whole (heritage_of a.world callee.this)) c.at)) in
+    let version : callee.program ≡ number_of (part_of a.world callee.this (part_of_subject subject)).tree = c.program ∙ ap (λ (p : Part). number_of p.tree) (sym (ap (part_or_whole (heritage_of a.world callee.this)) c.at)) in
     record {
       raw = c.code;
       is = c.is;
@@ -109,19 +110,19 @@ pub entered_ran : (live0 live1 live2 : Live) (stack0 stack1 stack2 stack3 : List
     → IsInMemory live0 callee code → bottom ≡ length stack0 - args → stack3 ≡ take bottom stack2 → asker3.turn ≡ asker2.turn
     → IsPlaced (record { this = callee.this; program = callee.program; fun = callee.fun }) e given
     → Entered callee code caller args told0 live0 stack0 asker0 budget0 told1 live2 stack3 asker3 budget2 given
-entered_ran live0 live1 live2 stack0 stack1 stack2 stack3 frame asker0 asker1 asker2 asker3 callee code caller args budget0 budget1 budget2 bottom told0 told1 e given begins went memory low cut turn is front programs a callers f below h called =
-    let b = begins front told0 programs a callers f below h called in
+entered_ran live0 live1 live2 stack0 stack1 stack2 stack3 frame asker0 asker1 asker2 asker3 callee code caller args budget0 budget1 budget2 bottom told0 told1 e given begins went memory low cut turn is front programs a callers subject below h called =
+    let b = begins front told0 programs a callers subject below h called in
     let x = went front b.p b.k b.row b.function b.around b.moment b.body b.going in
-    let its = place_of a.world (scene_in (asker_of a) callee.this f.part (part_of a.world callee.this f.part) f.function.name callers) in
-    let ends : Ends front (calling a callee.this callers f) (plain_end (placed_end its x.end)) = b.back x.end x.ends in
-    let keeps = subst (Keeps a.world) (world_of_end its x.end) (kept_by front a (calling a callee.this callers f) (plain_end (placed_end its x.end)) called.means_it ends) in
+    let its = place_of a.world (site_of_subject a callee.this callers subject).scene in
+    let ends : Ends front (calling_subject a callee.this callers subject) (plain_end (placed_end its x.end)) = b.back x.end x.ends in
+    let keeps = subst (Keeps a.world) (world_of_end its x.end) (kept_by front a (calling_subject a callee.this callers subject) (plain_end (placed_end its x.end)) called.means_it ends) in
     let lower : bottom ≡ length below = omega (arith, low, ap length h.lies, length-append below a.arguments, h.many) in
     record {
       end = plain_end (placed_end its x.end);
       ends = ends;
       is = other_asker told1 programs live0.outputs live2 asker2 asker3 budget2 given (outcome_of (plain_end (placed_end its x.end))) turn
           (placed_outcome told1 programs live0.outputs live2 asker2 budget2 e given (record { this = callee.this; program = callee.program; fun = callee.fun }) its x.end
-          (λ w stands same. subst (λ u. IsPlace programs u (record { this = callee.this; program = callee.program; fun = callee.fun }) its) (sym same) (place_so told0 programs live0 (outcome_of (plain_end x.end)).world a stack0 below asker0 args budget0 callee code caller callers f h called memory keeps)) is
+          (λ w stands same. subst (λ u. IsPlace programs u (record { this = callee.this; program = callee.program; fun = callee.fun }) its) (sym same) (place_so told0 programs live0 (outcome_of (plain_end x.end)).world a stack0 below asker0 args budget0 callee code caller callers subject h called memory keeps)) is
           (subst (λ o. IsOutcome told1 programs o live2 asker2 budget2 e (outcome_of (plain_end x.end))) b.before_is (subst (λ ps. IsOutcome told1 ps b.around.before live2 asker2 budget2 e (outcome_of (plain_end x.end))) b.programs_are x.is)));
       left = cut ∙ ap (λ s. take bottom s) x.lies ∙ ap (λ l. take bottom (l ++ x.top)) b.below_is ∙ ap (λ n. take n (below ++ x.top)) lower ∙ take-append_seam below x.top;
     }
@@ -137,21 +138,21 @@ served_none told live stack0 stack1 asker args budget t front programs a below h
 }
 
 -- What reaches a function is a call of it.
-pub called_so : (told : Option Bytes) (programs : List RawProgram) (live : Live) (asker : Asker) (a : Ask) (x : Reached) → (r : Reaches told programs live asker a x) → IsCalled programs asker a x.callee x.code x.caller r.callers r.found
+pub called_so : (told : Option Bytes) (programs : List RawProgram) (live : Live) (asker : Asker) (a : Ask) (x : Reached) → (r : Reaches told programs live asker a x) → IsCalled programs asker a x.callee x.code x.caller r.callers r.subject
 called_so told programs live asker a x r = record { means_it = r.means_it; callers_are = r.callers_are; callee_is = r.callee; code_is = r.code }
 
 -- What reaches a function is answered as its call.
 pub served_some : (live0 live1 : Live) (stack0 stack1 : List Value) (asker0 asker1 : Asker) (x : Reached) (args budget0 budget1 : ℕ) (told0 told1 : Option Bytes) (e : Ending)
     → Entered x.callee x.code x.caller args told0 live0 stack0 asker0 budget0 told1 live1 stack1 asker1 budget1 e → Served (requests.Function (Some x)) args told0 live0 stack0 asker0 budget0 told1 live1 stack1 asker1 budget1 e
 served_some live0 live1 stack0 stack1 asker0 asker1 x args budget0 budget1 told0 told1 e entered front programs a below h r =
-    let t = entered front programs a r.callers r.found below h (called_so told0 programs live0 asker0 a x r) in
-    record { outcome = outcome_of t.end; has = has_of front a (calling a x.callee.this r.callers r.found) t.end r.means_it t.ends; is = t.is; left = t.left }
+    let t = entered front programs a r.callers r.subject below h (called_so told0 programs live0 asker0 a x r) in
+    record { outcome = outcome_of t.end; has = has_of front a (calling_subject a x.callee.this r.callers r.subject) t.end r.means_it t.ends; is = t.is; left = t.left }
 
 -- A function that began can go, where its call could be served.
 pub can_go : (front : FrontEnd) (told : Option Bytes) (live0 live1 : Live) (stack0 stack1 : List Value) (frame : Frame) (asker0 asker1 : Asker) (x : Reached) (args budget0 budget1 : ℕ)
     → CanServe told live0 stack0 asker0 budget0 (requests.Function (Some x)) args → Begins (begun.Runs frame) x.callee x.code x.caller args live0 stack0 asker0 budget0 live1 stack1 asker1 budget1 → CanGo told live1 stack1 frame asker1 budget1
 can_go front told live0 live1 stack0 stack1 frame asker0 asker1 x args budget0 budget1 h begins =
-    let b = begins front told h.programs h.ask h.is.callers h.is.found h.below h.asked (called_so told h.programs live0 asker0 h.ask x h.is) in
+    let b = begins front told h.programs h.ask h.is.callers h.is.subject h.below h.asked (called_so told h.programs live0 asker0 h.ask x h.is) in
     record { p = b.p; k = b.k; row = b.row; function = b.function; around = b.around; moment = b.moment; course = b.body; going = b.going }
 
 -- One turn after another

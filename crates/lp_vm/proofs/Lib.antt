@@ -13,3 +13,4 @@ pub mod Answered
 pub mod Workings
 pub mod Cycling
 pub mod Applied
+pub mod Initialised

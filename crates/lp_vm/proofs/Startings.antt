@@ -70,7 +70,7 @@ pub stopped_answers : (live0 live1 : Live) (stack0 stack1 : List Value) (asker0 
     → IsBegun (begun.Stopped s) x.caller live1 stack1 asker0 budget0 asker1 budget1 → KeepsVariables live0.objects live1.objects → (told : Option Bytes)
     → Answers (requests.Function (Some x)) args told live0 stack0 asker0 budget0 told live1 stack1 asker1 budget1 (endings.Stopped s)
 stopped_answers live0 live1 stack0 stack1 asker0 asker1 x args budget0 budget1 s begins is home told = record {
-  served = served_some live0 live1 stack0 stack1 asker0 asker1 x args budget0 budget1 told told (endings.Stopped s) (λ front programs a callers f below h called. begins front told programs a callers f below h called);
+  served = served_some live0 live1 stack0 stack1 asker0 asker1 x args budget0 budget1 told told (endings.Stopped s) (λ front programs a callers subject below h called. begins front told programs a callers subject below h called);
   same = asker_too asker0 asker1 is.0;
   spends = is.1;
   home = home;
@@ -106,7 +106,7 @@ runs_answers live0 live1 stack0 stack1 asker0 asker1 x args budget0 budget1 fram
   can = λ told h. can_go any_front told live0 live1 stack0 stack1 frame asker0 asker1 x args budget0 budget1 h begins;
   depth = λ told0 told1 live2 stack2 asker2 budget2 e fin. omega (arith, fin.same.depth, is.0.depth);
   bottom = λ told0 told1 live2 stack2 asker2 budget2 e h fin.
-      let b = begins any_front told0 h.programs h.ask h.is.callers h.is.found h.below h.asked (called_so told0 h.programs live0 asker0 h.ask x h.is) in
+      let b = begins any_front told0 h.programs h.ask h.is.callers h.is.subject h.below h.asked (called_so told0 h.programs live0 asker0 h.ask x h.is) in
       let y = fin.went any_front b.p b.k b.row b.function b.around b.moment b.body b.going in
       omega (arith, ap length h.asked.lies, length-append h.below h.ask.arguments, h.asked.many, ap length y.lies, length-append b.around.below y.top, ap length b.below_is);
   answers = λ told0 told1 live2 stack2 stack3 asker2 asker3 budget2 e given fin cut back placed fit.

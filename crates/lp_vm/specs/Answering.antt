@@ -9,12 +9,10 @@ use Rattle.lp_code.specs.Programs.{IsFunction}
 use Rattle.lp_events.specs.declared.out.Out.{Out}
 use Rattle.lp_swapfile.specs.Device.{Bytes}
 use Rattle.lp_language.specs.Course.{Ask, Course, End, Outcome, Reply, Scene, outcome_of}
-use Rattle.lp_language.specs.Resolve.{Found}
 use Rattle.lp_isa.specs.Machine.{Moment}
-use Rattle.lp_meaning.specs.Askers.{asker_of}
 use Rattle.lp_meaning.specs.Closing.{Ends, Has}
 use Rattle.lp_meaning.specs.FrontEnd.{FrontEnd}
-use Rattle.lp_meaning.specs.FunctionCalls.{calling, part_of, place_of, placed_end, scene_in}
+use Rattle.lp_meaning.specs.FunctionCalls.{place_of, placed_end}
 use Rattle.lp_meaning.specs.Questions.{means}
 use Rattle.lp_world.specs.declared.frame.Frame.{Frame}
 use Rattle.lp_world.specs.declared.live.Live.{Live}
@@ -30,6 +28,7 @@ use Rattle.lp_vm.specs.declared.entering.Begun.{Begun}
 use Rattle.lp_vm.specs.declared.entering.Begun.TheVariants as begins
 use Rattle.lp_vm.specs.declared.request.Request.{Request}
 use Rattle.lp_reaching.specs.Compiled.{IsCallee}
+use Rattle.lp_reaching.specs.Subjects.{Subject, calling_subject, site_of_subject}
 use Rattle.lp_vm.specs.Requests.{IsRequest, IsRequestThere}
 use Rattle.lp_vm.specs.Going.{IsGoing, IsOutcome}
 
@@ -43,11 +42,11 @@ pub record IsAsked (told : Option Bytes) (programs : List RawProgram) (live : Li
   pub lies : stack ≡ below ++ a.arguments
   pub many : length a.arguments ≡ args
 
--- A question means this call, and the function is found.
-pub record IsCalled (programs : List RawProgram) (asker : Asker) (a : Ask) (callee : Callee) (code : RawProgram) (caller : Option ObjId) (callers : List ObjId) (f : Found) : Type 0 where
-  pub means_it : means a ≡ Some (calling a callee.this callers f)
+-- A question means this call, and what is called is found.
+pub record IsCalled (programs : List RawProgram) (asker : Asker) (a : Ask) (callee : Callee) (code : RawProgram) (caller : Option ObjId) (callers : List ObjId) (subject : Subject) : Type 0 where
+  pub means_it : means a ≡ Some (calling_subject a callee.this callers subject)
   pub callers_are : callers ≡ reverse (asker.callers.items ++ option_to_list caller)
-  pub callee_is : IsCallee programs a.world callee callee.this f
+  pub callee_is : IsCallee programs a.world callee callee.this subject
   pub code_is : callee_is.code ≡ code
 
 -- AN ANSWER: an end of the course, and the state stands for its outcome; the arguments are gone
@@ -79,17 +78,17 @@ BeginsTo (begins.Runs frame) front course told programs before live stack below 
 
 abbrev pub Begins : Begun → Callee → RawProgram → Option ObjId → ℕ → Live → List Value → Asker → ℕ → Live → List Value → Asker → ℕ → Type 0
 Begins r callee code caller args live0 stack0 asker0 budget0 live1 stack1 asker1 budget1 =
-    (front : FrontEnd) (told : Option Bytes) (programs : List RawProgram) (a : Ask) (callers : List ObjId) (f : Found) (below : List Value)
-    → IsAsked told programs live0 stack0 below asker0 args budget0 a → IsCalled programs asker0 a callee code caller callers f
-    → BeginsTo r front (calling a callee.this callers f) told programs live0.outputs live1 stack1 below asker1 budget1 a (scene_in (asker_of a) callee.this f.part (part_of a.world callee.this f.part) f.function.name callers)
+    (front : FrontEnd) (told : Option Bytes) (programs : List RawProgram) (a : Ask) (callers : List ObjId) (subject : Subject) (below : List Value)
+    → IsAsked told programs live0 stack0 below asker0 args budget0 a → IsCalled programs asker0 a callee code caller callers subject
+    → BeginsTo r front (calling_subject a callee.this callers subject) told programs live0.outputs live1 stack1 below asker1 budget1 a (site_of_subject a callee.this callers subject).scene
 
 -- What is answered
 
 abbrev pub Entered : Callee → RawProgram → Option ObjId → ℕ → Option Bytes → Live → List Value → Asker → ℕ → Option Bytes → Live → List Value → Asker → ℕ → Ending → Type 0
 Entered callee code caller args told0 live0 stack0 asker0 budget0 told1 live1 stack1 asker1 budget1 e =
-    (front : FrontEnd) (programs : List RawProgram) (a : Ask) (callers : List ObjId) (f : Found) (below : List Value)
-    → IsAsked told0 programs live0 stack0 below asker0 args budget0 a → IsCalled programs asker0 a callee code caller callers f
-    → Answered front (calling a callee.this callers f) told1 programs live0.outputs live1 stack1 below asker1 budget1 e
+    (front : FrontEnd) (programs : List RawProgram) (a : Ask) (callers : List ObjId) (subject : Subject) (below : List Value)
+    → IsAsked told0 programs live0 stack0 below asker0 args budget0 a → IsCalled programs asker0 a callee code caller callers subject
+    → Answered front (calling_subject a callee.this callers subject) told1 programs live0.outputs live1 stack1 below asker1 budget1 e
 
 -- WHAT IS ANSWERED: an outcome that the meaning has
 pub record Serves (front : FrontEnd) (told : Option Bytes) (programs : List RawProgram) (before : List Out) (live : Live) (stack below : List Value) (asker : Asker) (budget : ℕ) (e : Ending) (a : Ask) : Type 0 where

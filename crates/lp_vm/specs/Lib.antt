@@ -11,3 +11,4 @@ pub mod Beginning
 pub mod Turns
 pub mod Jobs
 pub mod Applying
+pub mod Initialising

@@ -11,6 +11,7 @@ mod efuns;
 mod entering;
 pub mod fault;
 mod halting;
+pub mod initialising;
 mod laying;
 mod naming;
 pub mod request;
