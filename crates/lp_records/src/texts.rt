@@ -59,7 +59,11 @@ fn put_line(text: &mut Vec<char>, line: &[char]) -> Result<(), AllocError>
 }
 
 /// The text of a cause comes behind others.
-pub(crate) fn put_cause(alloc: Global, text: &mut Vec<char>, cause: &Cause) -> Result<(), AllocError>
+pub(crate) fn put_cause(
+    alloc: Global,
+    text: &mut Vec<char>,
+    cause: &Cause,
+) -> Result<(), AllocError>
     ensures { OnOk result (text.new.items ≡ text.old.items ++ cause_text (cause_of cause.now)) }
 {
     match cause {
