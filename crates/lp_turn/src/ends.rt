@@ -24,17 +24,18 @@ use lp_world::live::Live;
 use std::alloc::{AllocError, Global};
 
 /// A record, and what a player is told, if anything, are the next outputs.
-fn tell_both(live: &mut Live, player: Option<ObjId>, record: Out) -> Result<(), AllocError>
+fn tell_both(live: &mut Live, player: Option<ObjId>, out: Out) -> Result<(), AllocError>
     requires closed { IsClosed live.old }
-    ensures told { OnOk result (TellsBoth player record live.old live.new) }
+    ensures told { OnOk result (TellsBoth player out live.old live.new) }
+    ensures only { live.new ≡ record live.old { outputs = live.new.outputs } }
     ensures closed { IsClosed live.new }
 {
     match notice(live, player)? {
-        Some(out) => {
-            tell(live, record)?;
-            tell(live, out)
+        Some(text) => {
+            tell(live, out)?;
+            tell(live, text)
         }
-        None => tell(live, record),
+        None => tell(live, out),
     }
 }
 

@@ -10,6 +10,7 @@ use std::alloc::AllocError;
 pub(crate) fn tell(live: &mut Live, out: Out) -> Result<(), AllocError>
     requires closed { IsClosed live.old }
     ensures told { OnOk result (live.new ≡ record live.old { outputs = live.old.outputs ++ out ∷ [] }) }
+    ensures only { live.new ≡ record live.old { outputs = live.new.outputs } }
     ensures closed { IsClosed live.new }
 {
     live.outputs.push(out)
