@@ -85,6 +85,17 @@ rests_told g programs before live s os h =
     let r = h.world.stands.rest in
     rests_changed g programs before live s live.connections os s.world.connections s.world.highest s.world.present s.world.waiting h r.connections r.highest r.present r.waiting
 
+-- the state stands whatever the outputs are
+pub stands_told : (g : Option Bytes) (programs : List RawProgram) (live : Live) (w : World) (os : List Out) → Stands g programs live w → Stands g programs (record live { outputs = os }) w
+stands_told g programs live w os h = record {
+  cells = h.cells;
+  objects = h.objects;
+  names = h.names;
+  versions = h.versions;
+  kept = h.kept;
+  rest = h.rest;
+}
+
 -- closed states
 pub closed_waiting : (live : Live) (c : Connecting) (k : ℕ) → IsClosed live → c.waiting ≡ filter (λ x. not (nat_eq x.connection k)) live.connections.waiting → IsClosed (record live { connections = c })
 closed_waiting live c k h e = record {

@@ -1,3 +1,5 @@
 pub mod Kept
 pub mod Words
 pub mod Connected
+pub mod Mastered
+pub mod Ended

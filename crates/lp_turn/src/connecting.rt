@@ -140,8 +140,11 @@ pub(crate) fn logged(live: &mut Live, number: u32, v: &Value) -> Result<Step, Al
     ensures there { IfOk result (λ r. (cells : Store) → AreStepValuesThere cells r) }
     ensures closed { IsClosed live.new }
 {
-    if is_zero(v, &live.objects) && live.connections.holder(number).is_some() {
-        return close_and_end(live, number);
+    if !is_zero(v, &live.objects) {
+        return Ok(Step::Ends);
     }
-    Ok(Step::Ends)
+    match live.connections.holder(number) {
+        Some(_) => close_and_end(live, number),
+        None => Ok(Step::Ends),
+    }
 }
