@@ -109,25 +109,25 @@ pub gone_held : (live0 live1 live2 : Live) (k : ℕ) (o : ObjId) → HasForgotte
 unfolding going
 gone_held live0 live1 live2 k o a b e =
     subst (λ l. BeginsAs (gone_turn k) live0 l (goings.Master (functions.Disconnect o))) (sym (b ∙ ap (λ (l : Live). record l { connections = closed_in k l.connections }) a)) (λ g programs before s h.
-      let r = h.world.stands.rest in
-      record {
-        state = record s { world = without_connection (without_number k s.world) k };
-        rests = rests_connected g programs before live0 s (closed_in k (changes.without_number k live0.connections)) (without_connection s.world k).connections s.world.highest (without_number k s.world).present (without_connection s.world k).waiting h
-            (opened_without g programs live0 s.world k h.world.stands) r.highest (ap (filter (λ n. not (nat_eq n k))) r.present) (waiting_without g programs live0 s.world k h.world.stands);
-        course = gone_as g programs live0 s k (Some o) h.world.stands (ap (λ (l : Live). option_map (λ c. c.object) (find (λ c. nat_eq c.number k) l.connections.opened)) (sym a) ∙ e);
-      })
+    let r = h.world.stands.rest in
+    record {
+      state = record s { world = without_connection (without_number k s.world) k };
+      rests = rests_connected g programs before live0 s (closed_in k (changes.without_number k live0.connections)) (without_connection s.world k).connections s.world.highest (without_number k s.world).present (without_connection s.world k).waiting h
+          (opened_without g programs live0 s.world k h.world.stands) r.highest (ap (filter (λ n. not (nat_eq n k))) r.present) (waiting_without g programs live0 s.world k h.world.stands);
+      course = gone_as g programs live0 s k (Some o) h.world.stands (ap (λ (l : Live). option_map (λ c. c.object) (find (λ c. nat_eq c.number k) l.connections.opened)) (sym a) ∙ e);
+    })
 
 pub gone_free : (live0 live1 : Live) (k : ℕ) → HasForgotten k live0 live1 → option_map (λ c. c.object) (find (λ c. nat_eq c.number k) live1.connections.opened) ≡ None → BeginsAs (gone_turn k) live0 live1 goings.Done
 unfolding going
 gone_free live0 live1 k a e =
     subst (λ l. BeginsAs (gone_turn k) live0 l goings.Done) (sym a) (λ g programs before s h.
-      let r = h.world.stands.rest in
-      record {
-        state = record s { world = without_number k s.world };
-        rests = rests_connected g programs before live0 s (changes.without_number k live0.connections) s.world.connections s.world.highest (without_number k s.world).present s.world.waiting h
-            r.connections r.highest (ap (filter (λ n. not (nat_eq n k))) r.present) r.waiting;
-        course = gone_as g programs live0 s k None h.world.stands (ap (λ (l : Live). option_map (λ c. c.object) (find (λ c. nat_eq c.number k) l.connections.opened)) (sym a) ∙ e);
-      })
+    let r = h.world.stands.rest in
+    record {
+      state = record s { world = without_number k s.world };
+      rests = rests_connected g programs before live0 s (changes.without_number k live0.connections) s.world.connections s.world.highest (without_number k s.world).present s.world.waiting h
+          r.connections r.highest (ap (filter (λ n. not (nat_eq n k))) r.present) r.waiting;
+      course = gone_as g programs live0 s k None h.world.stands (ap (λ (l : Live). option_map (λ c. c.object) (find (λ c. nat_eq c.number k) l.connections.opened)) (sym a) ∙ e);
+    })
 
 -- Objects without a connection.
 free_by : (w : World) (o : ObjId) (a b : Bool) → is_live w o ≡ a → is_connected w o ≡ b → free_in w o ≡ (if a then (if b then None else Some o) else None)
@@ -184,12 +184,12 @@ pub logs_on : (live0 live1 : Live) (k : ℕ) (o : ObjId) (call : Call) → call.
     → BeginsWith (admitted k (Some o)) live0 live1 (steps.Asks call (waitings.Logon k o))
 logs_on live0 live1 k o call a b c e l =
     subst (λ x. BeginsWith (admitted k (Some o)) live0 x (steps.Asks call (waitings.Logon k o))) (sym e) (λ g programs before s h.
-      let r = h.world.stands.rest in
-      let t : State = record s { world = with_connection s.world k o } in
-      record {
-        state = t;
-        rests = rests_connected g programs before live0 s (given_in k o live0.connections) t.world.connections s.world.highest s.world.present s.world.waiting h
-            (opened_more live0.connections.opened k o ∙ ap (λ cs. cs ++ record { number = k; object = o } ∷ []) r.connections) r.highest r.present r.waiting;
-        there = subst (λ x. IsAskedThere live0.objects x) (sym a) (live_row live0 o l);
-        course = asks_as (asks.Apply o (codes "logon")) (Some o) [] t (waitings.Logon k o) call a b c;
-      })
+    let r = h.world.stands.rest in
+    let t : State = record s { world = with_connection s.world k o } in
+    record {
+      state = t;
+      rests = rests_connected g programs before live0 s (given_in k o live0.connections) t.world.connections s.world.highest s.world.present s.world.waiting h
+          (opened_more live0.connections.opened k o ∙ ap (λ cs. cs ++ record { number = k; object = o } ∷ []) r.connections) r.highest r.present r.waiting;
+      there = subst (λ x. IsAskedThere live0.objects x) (sym a) (live_row live0 o l);
+      course = asks_as (asks.Apply o (codes "logon")) (Some o) [] t (waitings.Logon k o) call a b c;
+    })

@@ -3,3 +3,5 @@ pub mod Words
 pub mod Connected
 pub mod Mastered
 pub mod Ended
+pub mod Lined
+pub mod Reloading

@@ -156,11 +156,7 @@ fn loaded_with_faults<W: SwapFile>(
 }
 
 /// A load of the driver ended otherwise.
-fn loaded_with<W: SwapFile>(
-    live: &mut Live,
-    swap: &mut W,
-    end: Ending,
-) -> Result<(), EnterFault>
+fn loaded_with<W: SwapFile>(live: &mut Live, swap: &mut W, end: Ending) -> Result<(), EnterFault>
     requires closed { IsClosed live.old }
     ensures end { (name : _) → W.is_truthful swap.new → OnOk result (IsLoadEnd name (CallEnd.Ended end) (W.content swap.old) live.old (W.content swap.new) live.new) }
     ensures brings { Brings (W.content swap.old) (W.content swap.new) (W.last swap.new) (W.read_faults swap.old) (W.read_faults swap.new) (W.write_faults swap.old) (W.write_faults swap.new)

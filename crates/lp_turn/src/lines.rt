@@ -90,13 +90,7 @@ fn call_of(o: ObjId, x: Taker, text: Text) -> Result<Call, AllocError>
 }
 
 /// A function that waited takes the line, or nothing does where its object is destructed.
-fn take(
-    live: &mut Live,
-    number: u32,
-    o: ObjId,
-    x: Taker,
-    text: Text,
-) -> Result<Step, AllocError>
+fn take(live: &mut Live, number: u32, o: ObjId, x: Taker, text: Text) -> Result<Step, AllocError>
     requires closed { IsClosed live.old }
     requires there { All (IsThere live.old.cells) x.arguments }
     ensures begins { IfOk result (λ r. BeginsWith (line_taken number o (waiting_of x) text) live.old live.new r) }
