@@ -6,3 +6,7 @@ pub mod Lines
 pub mod Masters
 pub mod Ends
 pub mod Going
+pub mod Starts
+pub mod Starting
+pub mod StartSteps
+pub mod StartEnds

@@ -4,6 +4,8 @@ ghost use Rattle.std.specs.Str.{chars};
 ghost use Rattle.lp_language.specs.Resolve.{without_c};
 ghost use Rattle.lp_meaning.specs.FileLoads.{could_not_load, failed_name};
 ghost use Rattle.lp_targets.specs.Brought.{Brings};
+ghost use Rattle.lp_cells.specs.Cells.{IsThere, Store};
+ghost use Rattle.lp_turn.specs.Calls.{IsCallEndThere};
 ghost use Rattle.lp_turn.specs.Ends.{HasValueOf, IsLoadEnd, Tells, TellsBoth};
 ghost use Rattle.lp_world.specs.Closed.{IsClosed};
 
@@ -70,6 +72,7 @@ fn value_of_ending<W: SwapFile>(
 ) -> Result<Value, EnterFault>
     requires closed { IsClosed live.old }
     ensures value { W.is_truthful swap.new → IfOk result (λ v. HasValueOf player (CallEnd.Ended end) (W.content swap.old) live.old (W.content swap.new) live.new v) }
+    ensures there { IfOk result (λ v. (cells : Store) → IsCallEndThere cells (CallEnd.Ended end) → IsThere cells v) }
     ensures brings { Brings (W.content swap.old) (W.content swap.new) (W.last swap.new) (W.read_faults swap.old) (W.read_faults swap.new) (W.write_faults swap.old) (W.write_faults swap.new)
         (W.is_truthful swap.old) (W.is_truthful swap.new) (W.is_honest swap.old) (W.is_honest swap.new) live.old (record live.new { outputs = live.old.outputs }) result }
     ensures closed { IsClosed live.new }
@@ -92,6 +95,7 @@ pub(crate) fn value_of<W: SwapFile>(
 ) -> Result<Value, EnterFault>
     requires closed { IsClosed live.old }
     ensures value { W.is_truthful swap.new → IfOk result (λ v. HasValueOf player end (W.content swap.old) live.old (W.content swap.new) live.new v) }
+    ensures there { IfOk result (λ v. (cells : Store) → IsCallEndThere cells end → IsThere cells v) }
     ensures brings { Brings (W.content swap.old) (W.content swap.new) (W.last swap.new) (W.read_faults swap.old) (W.read_faults swap.new) (W.write_faults swap.old) (W.write_faults swap.new)
         (W.is_truthful swap.old) (W.is_truthful swap.new) (W.is_honest swap.old) (W.is_honest swap.new) live.old (record live.new { outputs = live.old.outputs }) result }
     ensures closed { IsClosed live.new }

@@ -13,3 +13,8 @@ mod master;
 pub mod next;
 mod outputs;
 pub mod reloads;
+mod simul;
+pub mod start_feed;
+pub mod start_job;
+mod start_master;
+pub mod starting;
