@@ -5,3 +5,7 @@ pub mod Mastered
 pub mod Ended
 pub mod Lined
 pub mod Reloading
+pub mod Initial
+pub mod Opened
+pub mod Remembered
+pub mod Preloaded

@@ -28,7 +28,7 @@ use Rattle.lp_turn.proofs.Connected.{asks_as}
 use Rattle.lp_turn.proofs.Kept.{begins_as, live_row, lives_in, named_lives}
 
 -- the master lives: its function is applied
-driver_some : (m : ObjId) (fun : List ℕ) (xs : List Value) (s : State) → object_named s.world master_name ≡ Some m → driver_master fun xs s ≡ driver_apply None None m fun xs s
+pub driver_some : (m : ObjId) (fun : List ℕ) (xs : List Value) (s : State) → object_named s.world master_name ≡ Some m → driver_master fun xs s ≡ driver_apply None None m fun xs s
 driver_some m fun xs s e =
     ap (λ q. elim q [ Some m ↦ driver_apply None None m fun xs s | None ↦ and_then (driver_load master_name s) (λ d s. applied_if (object_named s.world master_name) fun xs s) ]) e
 
@@ -37,7 +37,7 @@ loads_it : (s : State) → object_named s.world master_name ≡ None → driver_
 loads_it s e =
     ap (λ q. in_any_case (elim q [ Some o ↦ gives (Obj o) (begun None s) | None ↦ load_value (driver None) master_name (begun None s) ]) (λ e. Over (call_end None e))) e
 
-driver_none : (fun : List ℕ) (xs : List Value) (s : State) → object_named s.world master_name ≡ None
+pub driver_none : (fun : List ℕ) (xs : List Value) (s : State) → object_named s.world master_name ≡ None
     → driver_master fun xs s ≡ and_then (driver_call None (λ s. load_value (driver None) master_name s) s) (λ d s. applied_if (object_named s.world master_name) fun xs s)
 driver_none fun xs s e =
     ap (λ q. elim q [ Some m ↦ driver_apply None None m fun xs s | None ↦ and_then (driver_load master_name s) (λ d s. applied_if (object_named s.world master_name) fun xs s) ]) e
@@ -57,7 +57,7 @@ applied live turn m f (steps.Asks call waiting) a t g programs before s h =
       course = e.1 ∙ asks_as (asks.Apply m (name_of f)) None (arguments_of f) s (waitings.Master f) call a.asked a.player a.arguments;
     })
 
-named_is : (live : Live) (q : Option ObjId) → IsMasterOf live.names q → (g : Option Bytes) (programs : List RawProgram) (before : List Out) (s : State) → Rests g programs before live s → object_named s.world master_name ≡ q
+pub named_is : (live : Live) (q : Option ObjId) → IsMasterOf live.names q → (g : Option Bytes) (programs : List RawProgram) (before : List Out) (s : State) → Rests g programs before live s → object_named s.world master_name ≡ q
 named_is live q n g programs before s h = sym (n s.world h.world.stands.names)
 
 pub master_applied : (live : Live) (m : ObjId) (f : MasterFunction) (r : Step) → Applies m f r → IsMasterOf live.names (Some m) → Goes r (goings.Master f) live live

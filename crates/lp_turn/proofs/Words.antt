@@ -22,3 +22,23 @@ chars-logon = refl
 pub chars-nothing : chars (codes "") ≡ codes ""
 unfolding chars
 chars-nothing = refl
+
+pub chars-inaugurate : chars (codes "inaugurate_master") ≡ codes "inaugurate_master"
+unfolding chars
+chars-inaugurate = refl
+
+pub chars-simul : chars (codes "get_simul_efun") ≡ codes "get_simul_efun"
+unfolding chars
+chars-simul = refl
+
+pub chars-epilog : chars (codes "epilog") ≡ codes "epilog"
+unfolding chars
+chars-epilog = refl
+
+pub chars-preload : chars (codes "preload") ≡ codes "preload"
+unfolding chars
+chars-preload = refl
+
+pub chars-target : chars (codes "error: Bad target") ≡ codes "error: Bad target"
+unfolding chars
+chars-target = refl

@@ -1,6 +1,9 @@
 //! The start is told how its calls ended.
-ghost use Rattle.std.specs.Prelude.{◌≡◌, IfOk, List};
+ghost use Rattle.std.specs.Prelude.{◌≡◌, IfOk, List, false};
 ghost use Rattle.std.specs.List.{list_any};
+ghost use Rattle.std.specs.Str.{chars};
+ghost use Rattle.lp_instr.specs.EfunList.{is_name};
+ghost use Rattle.lp_meaning.specs.WorldSteps.{master_name};
 ghost use Rattle.lp_cells.specs.Cells.{IsThere, Store};
 ghost use Rattle.lp_language.specs.Course.{State};
 ghost use Rattle.lp_meaning.specs.EventTurns.{Done, aborted};
@@ -15,6 +18,7 @@ ghost use Rattle.lp_world.specs.Closed.{IsClosed};
 
 use crate::ends::{loaded, value_of};
 use crate::job::CallEnd;
+use crate::master::master;
 use crate::start_job::{StartFunction, StartGoing, StartWaiting};
 use lp_code::name::Name;
 use lp_objects::objects::Objects;
@@ -23,42 +27,55 @@ use lp_swapfile::SwapFile;
 use lp_tree::fault::{Fault, FaultKind};
 use lp_tree::path::FilePath;
 use lp_values::id::ObjId;
+use lp_values::text::Text;
 use lp_values::value::Value;
 use lp_world::live::Live;
 use std::alloc::{AllocError, Global};
 
 // The first load
 
-/// Whether an object that is known has the master's name.
-fn is_master(names: &Objects, o: ObjId) -> bool
-    ensures { (objects : List Named) → Names names.now objects → result ≡ is_master_name (known_at names.now objects o.0) }
+/// Whether a name is the master's.
+fn is_master_name(alloc: Global, name: &str) -> Result<bool, AllocError>
+    ensures { IfOk result (λ b. b ≡ is_name (chars name.now) master_name) }
+{
+    let points = Text::from_str(alloc, name)?;
+    let wanted = Text::from_str(alloc, "/secure/master")?;
+    Ok(points == wanted)
+}
+
+/// Whether an object that is known has it.
+fn is_master(alloc: Global, names: &Objects, o: ObjId) -> Result<bool, AllocError>
+    ensures { IfOk result (λ b. (objects : List Named) → Names names.now objects → b ≡ is_master_name (known_at names.now objects o.0)) }
 {
     match names.name(o) {
-        Some(name) => name == "/secure/master",
-        None => false,
+        Some(name) => is_master_name(alloc, name),
+        None => Ok(false),
     }
 }
 
 /// Whether one of some objects that are known has it.
-fn is_among(names: &Objects, objects: &[ObjId]) -> bool
-    ensures { (all : List Named) → Names names.now all → result ≡ list_any (λ o. is_master_name (known_at names.now all o.0)) objects.now }
+fn is_among(alloc: Global, names: &Objects, objects: &[ObjId]) -> Result<bool, AllocError>
+    ensures { IfOk result (λ b. (all : List Named) → Names names.now all → b ≡ list_any (λ o. is_master_name (known_at names.now all o.0)) objects.now) }
 {
-    for o in objects {
-        if is_master(names, *o) {
-            return true;
+    match objects {
+        [o, rest @ ..] => {
+            if is_master(alloc, names, *o)? {
+                return Ok(true);
+            }
+            is_among(alloc, names, rest)
         }
+        [] => Ok(false),
     }
-    false
 }
 
 /// Whether an object of the master's name was made, live or not, where all that were made are known.
-fn was_made(names: &Objects) -> bool
-    ensures { WasMade names.now result }
+fn was_made(alloc: Global, names: &Objects) -> Result<bool, AllocError>
+    ensures { IfOk result (λ b. WasMade names.now b) }
 {
-    if names.find("/secure/master").is_some() {
-        return true;
+    if master(names).is_some() {
+        return Ok(true);
     }
-    is_among(names, names.died())
+    is_among(alloc, names, names.died())
 }
 
 /// The fault of a load of the master that was aborted.
@@ -103,6 +120,26 @@ fn take_made<W: SwapFile>(
     }
 }
 
+/// The first load of the master ended, and no object of its name was made.
+fn no_master<W: SwapFile>(
+    live: &mut Live,
+    swap: &mut W,
+    end: CallEnd,
+) -> Result<StartGoing, EnterFault>
+    requires closed { IsClosed live.old }
+    requires made { WasMade live.old.names false }
+    ensures takes { W.is_truthful swap.new → IfOk result (λ g. StartTakes StartWaiting.First end (W.content swap.old) live.old (W.content swap.new) live.new g) }
+    ensures there { IfOk result (λ g. (cells : Store) → IsCallEndThere cells end → IsStartThere cells g) }
+    ensures brings { Brings (W.content swap.old) (W.content swap.new) (W.last swap.new) (W.read_faults swap.old) (W.read_faults swap.new) (W.write_faults swap.old) (W.write_faults swap.new)
+        (W.is_truthful swap.old) (W.is_truthful swap.new) (W.is_honest swap.old) (W.is_honest swap.new) live.old (record live.new { outputs = live.old.outputs }) result }
+    ensures closed { IsClosed live.new }
+{
+    match faults_for(live.alloc, end) {
+        Ok(faults) => Ok(StartGoing::NoMaster(faults)),
+        Err(_) => Err(EnterFault::NoMemory),
+    }
+}
+
 /// The first load of the master ended.
 fn take_first<W: SwapFile>(
     live: &mut Live,
@@ -116,11 +153,9 @@ fn take_first<W: SwapFile>(
         (W.is_truthful swap.old) (W.is_truthful swap.new) (W.is_honest swap.old) (W.is_honest swap.new) live.old (record live.new { outputs = live.old.outputs }) result }
     ensures closed { IsClosed live.new }
 {
-    if was_made(&live.names) {
-        return take_made(live, swap, end);
-    }
-    match faults_for(live.alloc, end) {
-        Ok(faults) => Ok(StartGoing::NoMaster(faults)),
+    match was_made(live.alloc, &live.names) {
+        Ok(true) => take_made(live, swap, end),
+        Ok(false) => no_master(live, swap, end),
         Err(_) => Err(EnterFault::NoMemory),
     }
 }

@@ -1,9 +1,10 @@
 //! The start goes on.
 ghost use Rattle.std.specs.Prelude.{◌≡◌, ◌++◌, ◌∷◌, [], IfOk, OnOk, Some};
+ghost use Rattle.std.specs.Option.{option_copied};
 ghost use Rattle.std.specs.Str.{chars};
 ghost use Rattle.std.specs.String.{string_bytes};
 ghost use Rattle.lp_cells.specs.Cells.{IsThere, Store};
-ghost use Rattle.lp_meaning.specs.EventTurns.{items_in, simul_answered, simul_set, starting};
+ghost use Rattle.lp_meaning.specs.EventTurns.{items_in, simul_answered, simul_set, starting, text_in};
 ghost use Rattle.lp_turn.specs.StartSteps.{HasSimul, LoadsSimul, loading_simul, start_without, untargeted};
 ghost use Rattle.lp_turn.specs.Starting.{AreStartValuesThere, IsStartThere, StartGoes, StartsWith};
 ghost use Rattle.lp_turn.specs.Starts.{texts_of};
@@ -129,6 +130,16 @@ fn name_simul(live: &mut Live, t: &Text) -> Result<StartStep, AllocError>
     set_simul(live, name.as_slice())
 }
 
+/// The text that a value is.
+fn text_in(v: &Value) -> Option<&Text>
+    ensures { option_copied result ≡ text_in v.now }
+{
+    match v {
+        Value::Str(t) => Some(t),
+        _ => None,
+    }
+}
+
 /// `get_simul_efun` has answered: a text names the simul-efun object, another answer names none.
 fn answered(live: &mut Live, v: &Value) -> Result<StartStep, AllocError>
     requires closed { IsClosed live.old }
@@ -136,9 +147,9 @@ fn answered(live: &mut Live, v: &Value) -> Result<StartStep, AllocError>
     ensures there { IfOk result (λ r. (cells : Store) → AreStartValuesThere cells r) }
     ensures closed { IsClosed live.new }
 {
-    match v {
-        Value::Str(t) => name_simul(live, t),
-        _ => call_master(live, StartFunction::Epilog),
+    match text_in(v) {
+        Some(t) => name_simul(live, t),
+        None => call_master(live, StartFunction::Epilog),
     }
 }
 
