@@ -49,11 +49,6 @@ closes live0 live1 live2 k a b =
       course = refl;
     })
 
--- one that no object got
-pub refused : (live0 live1 : Live) (k : ℕ) → live1 ≡ record live0 { outputs = live0.outputs ++ outs.Close k ∷ [] } → BeginsWith (admitted k None) live0 live1 steps.Ends
-refused live0 live1 k a =
-    subst (λ l. BeginsWith (admitted k None) live0 l steps.Ends) (sym a) (λ g programs before s h. record { state = told (outs.Close k ∷ []) s; rests = rests_told g programs before live0 s (outs.Close k ∷ []) h; course = refl })
-
 -- a number is connected
 numbered_rests : (g : Option Bytes) (programs : List RawProgram) (before : List Out) (live0 live1 : Live) (s : State) (k : ℕ) → HasNumbered k live0 live1
     → Rests g programs before live0 s → Rests g programs before live1 (record s { world = numbered k s.world })

@@ -76,17 +76,6 @@ stopped told0 told1 live0 live1 player stop t programs before (course.Stopped x)
       course = refl;
     }
 
--- Faults, where no load was asked for.
-pub faulty_value : (g : Option Bytes) (live : Live) (player : Option ObjId) (end : CallEnd) (fs : Vec Fault Global) → end ≡ ends.Faulty fs → HasValueOf player end g live g live zero_value
-faulty_value g live player end fs e = subst (λ x. HasValueOf player x g live g live zero_value) (sym e) (λ programs before a s h i. by programs before a s h i)
-  where
-    by : HasValueOf player (ends.Faulty fs) g live g live zero_value
-    by programs before (Returned (Plain u)) s h i = absurd i
-    by programs before (Returned (WasRead items pragmas)) s h i = absurd i
-    by programs before (Returned IsSound) s h i = absurd i
-    by programs before (Returned (IsFaulty gs)) s h i = record { done = plain_done zero_value; value = refl; state = s; rests = h; course = refl }
-    by programs before (course.Stopped x) s h i = absurd i
-
 -- A load that ended with a value or a stop is a call that did.
 load_is : (programs : List RawProgram) (w : World) (name : List ℕ) (e : Ending) (a : Answer) (s : State) → IsAnswer programs w e a → load_course name a s ≡ value_course None a s
 load_is programs w name (endings.Value v) (Returned (Plain u)) s i = refl

@@ -63,7 +63,7 @@ starting_asks live call a b c g programs before s h =
 -- Functions of the master.
 applied : (live : Live) (turn : State → Course Start) (m : ObjId) (f : StartFunction) (r : StartStep) → StartApplies m f r
     → ((g : Option Bytes) (programs : List RawProgram) (before : List Out) (s : State) → Rests g programs before live s
-      → (object_named s.world master_name ≡ Some m) × (turn s ≡ and_then (driver_apply None None m (start_name f) (start_arguments f) s) (start_behind f))) → StartsWith turn live live r
+    → (object_named s.world master_name ≡ Some m) × (turn s ≡ and_then (driver_apply None None m (start_name f) (start_arguments f) s) (start_behind f))) → StartsWith turn live live r
 applied live turn m f steps.Begins a t g programs before s h = absurd a
 applied live turn m f (steps.NoMaster fs) a t g programs before s h = absurd a
 applied live turn m f (steps.Asks call waiting) a t g programs before s h =

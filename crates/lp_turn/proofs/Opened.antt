@@ -1,27 +1,20 @@
 -- The start takes the ends of its calls.
-use Rattle.std.proofs.Common.{◌≡◌, ◌∙◌, ℕ, true, false, List, Option, None, ap, sym, if◌then◌else◌, Vec, Global}
+use Rattle.std.proofs.Common.{◌≡◌, ◌∙◌, ℕ, List, Option, None, ap, if◌then◌else◌}
 use Rattle.std.specs.Str.{chars}
-use Rattle.lp_tree.specs.declared.fault.Fault.{Fault}
 use Rattle.lp_values.specs.declared.value.Value.{Value}
-use Rattle.lp_code.specs.declared.program.RawProgram.{RawProgram}
-use Rattle.lp_events.specs.declared.out.Out.{Out}
 use Rattle.lp_swapfile.specs.Device.{Bytes}
-use Rattle.lp_language.specs.World.{World, object_named}
+use Rattle.lp_language.specs.World.{object_named}
 use Rattle.lp_language.specs.Course as course
 use Rattle.lp_language.specs.Course.{IsFaulty, IsSound, Plain, Returned, State, WasRead, and_then, gives}
 use Rattle.lp_meaning.specs.EventTurns.{Done, NoMaster, aborted, after_master, applied_if, begun, call_end, driver_call, faults_in, with_epilog}
 use Rattle.lp_meaning.specs.FileLoads.{loaded_value}
-use Rattle.lp_meaning.specs.WorldSteps.{master_name, was_made}
+use Rattle.lp_meaning.specs.WorldSteps.{master_name}
 use Rattle.lp_world.specs.declared.live.Live.{Live}
-use Rattle.lp_asking.specs.declared.ending.Ending.TheVariants as endings
-use Rattle.lp_turn.specs.Calls.{IsEndOf}
 use Rattle.lp_turn.specs.Ends.{HasValueOf, IsLoadEnd}
-use Rattle.lp_turn.specs.StartEnds.{AreFaultsFor, TakesMade}
-use Rattle.lp_turn.specs.Resting.{Rests}
-use Rattle.lp_turn.specs.Starting.{KnowsNames, StartTakes}
+use Rattle.lp_turn.specs.StartEnds.{TakesMade}
+use Rattle.lp_turn.specs.Starting.{StartTakes}
 use Rattle.lp_turn.specs.Starts.{start_arguments, start_behind, start_going, start_name}
 use Rattle.lp_turn.specs.declared.job.CallEnd.{CallEnd}
-use Rattle.lp_turn.specs.declared.job.CallEnd.TheVariants as ends
 use Rattle.lp_turn.specs.declared.start_job.StartFunction.{StartFunction}
 use Rattle.lp_turn.specs.declared.start_job.StartFunction.TheVariants as functions
 use Rattle.lp_turn.specs.declared.start_job.StartGoing.{StartGoing}
@@ -64,34 +57,3 @@ first_made told0 told1 live0 live1 end m programs before (course.Stopped x) s h 
       rests = r.rests;
       course = ap (λ b. if b then and_then (course.Over (call_end None (course.Stops x s))) (λ d s. after_master s) else gives (NoMaster aborted) s) e ∙ ap (λ c. and_then c (λ d s. after_master s)) r.course;
     }
-
-faults_of : (programs : List RawProgram) (w : World) (end : CallEnd) (fs : List Fault) (x : course.Reply) → AreFaultsFor end fs → IsEndOf programs w end (Returned x) → faults_in x ≡ fs
-faults_of programs w (ends.Ended (endings.Value v)) fs (Plain u) a i = sym a
-faults_of programs w (ends.Ended (endings.Value v)) fs (WasRead items pragmas) a i = absurd i
-faults_of programs w (ends.Ended (endings.Value v)) fs IsSound a i = absurd i
-faults_of programs w (ends.Ended (endings.Value v)) fs (IsFaulty gs) a i = absurd i
-faults_of programs w (ends.Ended (endings.Stopped s)) fs x a i = absurd i
-faults_of programs w (ends.Faulty gs) fs (Plain u) a i = absurd i
-faults_of programs w (ends.Faulty gs) fs (WasRead items pragmas) a i = absurd i
-faults_of programs w (ends.Faulty gs) fs IsSound a i = absurd i
-faults_of programs w (ends.Faulty gs) fs (IsFaulty hs) a i = sym i ∙ sym a
-
-aborted_for : (programs : List RawProgram) (w : World) (end : CallEnd) (fs : List Fault) (x : course.Stop) → AreFaultsFor end fs → IsEndOf programs w end (course.Stopped x) → aborted ≡ fs
-aborted_for programs w (ends.Ended e) fs x a i = sym a
-aborted_for programs w (ends.Faulty gs) fs x a i = absurd i
-
-pub first_not_made : (told : Option Bytes) (live : Live) (end : CallEnd) (faults : Vec Fault Global) → AreFaultsFor end faults.items
-    → ((programs : List RawProgram) (before : List Out) (s : State) → Rests told programs before live s → KnowsNames waitings.First live s → was_made s.world master_name ≡ false)
-    → StartTakes waitings.First end told live told live (goings.NoMaster faults)
-first_not_made told live end faults a n programs before (Returned x) s h i k = record {
-  state = s;
-  rests = h;
-  course = ap (λ b. if b then and_then (driver_call None (λ s. loaded_value master_name x s) s) (λ d s. after_master s) else gives (NoMaster (faults_in x)) s) (n programs before s h k)
-      ∙ ap (λ l. gives (NoMaster l) s) (faults_of programs s.world end faults.items x a i);
-}
-first_not_made told live end faults a n programs before (course.Stopped x) s h i k = record {
-  state = s;
-  rests = h;
-  course = ap (λ b. if b then and_then (course.Over (call_end None (course.Stops x s))) (λ d s. after_master s) else gives (NoMaster aborted) s) (n programs before s h k)
-      ∙ ap (λ l. gives (NoMaster l) s) (aborted_for programs s.world end faults.items x a i);
-}

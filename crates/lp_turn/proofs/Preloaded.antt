@@ -49,5 +49,5 @@ pub listed_as : (live : Live) (v : Value) (texts : List (List ℕ)) (r : StartSt
 listed_as live v texts r i e =
     starts_as (start_going (goings.Preloading texts)) (start_going (goings.Listed v)) live live r
     (λ g programs before s h. preloading_texts (items_in s.world.cells v) s
-      ∙ ap (λ vs. preloading (as_values (texts_of vs)) s) (items_in_both live.cells s.world.cells v h.world.stands.cells i)
-      ∙ ap (λ ts. preloading (as_values ts) s) (sym e))
+    ∙ ap (λ vs. preloading (as_values (texts_of vs)) s) (items_in_both live.cells s.world.cells v h.world.stands.cells i)
+    ∙ ap (λ ts. preloading (as_values ts) s) (sym e))

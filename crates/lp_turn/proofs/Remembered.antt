@@ -1,5 +1,5 @@
 -- Whether an object of a name was made, by the names that are known.
-use Rattle.std.proofs.Common.{◌≡◌, ◌∙◌, ◌||◌, ◌&&◌, ◌<◌, arith, ℕ, zero, suc, Bool, true, false, List, [], ◌∷◌, Option, Some, None, ap, refl, sym, subst, length, map, nat_eq, option_map, slice_get, is_some, if◌then◌else◌}
+use Rattle.std.proofs.Common.{◌≡◌, ◌∙◌, ◌||◌, ◌&&◌, ◌<◌, arith, ℕ, zero, suc, Bool, true, false, List, [], ◌∷◌, Option, Some, None, ap, refl, sym, length, map, nat_eq, option_map, slice_get, is_some, if◌then◌else◌}
 use Rattle.std.specs.List.{list_any}
 use Rattle.std.proofs.lemmas.Bool.Decides.{Decides-eqb}
 use Rattle.lp_values.specs.declared.id.ObjId.{ObjId}
@@ -101,22 +101,22 @@ made_dead table w h k none =
     let all = map named_of w.objects in
     one_test (list_any (λ o. is_master_name (names.known_at table all o.0)) (names.died_in table)) (was_made w master_name)
     (λ t.
-      let r = any_index (λ o. is_master_name (names.known_at table all o.0)) (names.died_in table) t in
-      let n = r.1.0 in
-      let x = name_there (slice_get w.objects n) (ap is_master_name (sym (named_at w.objects n)) ∙ known_name (names.is_known table all n) (slice_get all n) r.3) in
-      any_at (λ x. is_name x.name master_name) w.objects n x.0 x.1 x.2)
+    let r = any_index (λ o. is_master_name (names.known_at table all o.0)) (names.died_in table) t in
+    let n = r.1.0 in
+    let x = name_there (slice_get w.objects n) (ap is_master_name (sym (named_at w.objects n)) ∙ known_name (names.is_known table all n) (slice_get all n) r.3) in
+    any_at (λ x. is_name x.name master_name) w.objects n x.0 x.1 x.2)
     (λ t.
-      let r = any_index (λ x. is_name x.name master_name) w.objects t in
-      let n = r.0 in
-      let x = r.1 in
-      let get : slice_get all n ≡ Some (named_of x) = named_at w.objects n ∙ ap (option_map named_of) r.2 in
-      let dead = dead_then master_name 0 w.objects n x none r.2 r.3 in
-      let known = k n (within all n (named_of x) get) in
-      let died : names.is_among n (names.died_in table) ≡ true = ap (λ b. b || names.is_among n (names.died_in table)) (sym (ap named.lives get ∙ dead)) ∙ known in
-      let d = any_index (λ (o : ObjId). nat_eq o.0 n) (names.died_in table) died in
-      let same : d.1.0 ≡ n = (Decides-eqb d.1.0 n).0 d.3 in
-      any_at (λ o. is_master_name (names.known_at table all o.0)) (names.died_in table) d.0 d.1 d.2
-      (ap (λ m. is_master_name (names.known_at table all m)) same ∙ ap (λ b. is_master_name (if b then slice_get all n else None)) known ∙ ap is_master_name get ∙ r.3))
+    let r = any_index (λ x. is_name x.name master_name) w.objects t in
+    let n = r.0 in
+    let x = r.1 in
+    let get : slice_get all n ≡ Some (named_of x) = named_at w.objects n ∙ ap (option_map named_of) r.2 in
+    let dead = dead_then master_name 0 w.objects n x none r.2 r.3 in
+    let known = k n (within all n (named_of x) get) in
+    let died : names.is_among n (names.died_in table) ≡ true = ap (λ b. b || names.is_among n (names.died_in table)) (sym (ap named.lives get ∙ dead)) ∙ known in
+    let d = any_index (λ (o : ObjId). nat_eq o.0 n) (names.died_in table) died in
+    let same : d.1.0 ≡ n = (Decides-eqb d.1.0 n).0 d.3 in
+    any_at (λ o. is_master_name (names.known_at table all o.0)) (names.died_in table) d.0 d.1 d.2
+    (ap (λ m. is_master_name (names.known_at table all m)) same ∙ ap (λ b. is_master_name (if b then slice_get all n else None)) known ∙ ap is_master_name get ∙ r.3))
 
 -- what names tell
 pub made_alive : (table : Objects) (q : Option ObjId) → IsMasterOf table q → is_some q ≡ true → WasMade table true

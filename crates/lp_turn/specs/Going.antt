@@ -1,5 +1,5 @@
 -- How turns begin, go on, and take the ends of their calls.
-use Rattle.std.specs.Prelude.{◌≡◌, ⊤, ℕ, List, All, Option}
+use Rattle.std.specs.Prelude.{◌≡◌, ⊤, List, All, Option}
 use Rattle.lp_code.specs.declared.program.RawProgram.{RawProgram}
 use Rattle.lp_cells.specs.Cells.{IsThere, Store}
 use Rattle.lp_events.specs.declared.out.Out.{Out}

@@ -1,7 +1,6 @@
 -- Lines of connections.
 use Rattle.std.specs.Prelude.{◌≡◌, ◌++◌, ◌∷◌, [], ℕ, List, Bool, Some, if◌then◌else◌}
 use Rattle.lp_values.specs.declared.id.ObjId.{ObjId}
-use Rattle.lp_events.specs.declared.out.Out.{Out}
 use Rattle.lp_events.specs.declared.out.Out.TheVariants as outs
 use Rattle.lp_language.specs.Course.{Command, Course, State, and_then}
 use Rattle.lp_meaning.specs.Askers.{ask_value, driver}

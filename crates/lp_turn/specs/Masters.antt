@@ -1,5 +1,5 @@
 -- Functions of the master.
-use Rattle.std.specs.Prelude.{◌≡◌, [], Option, None, Some, List, map}
+use Rattle.std.specs.Prelude.{◌≡◌, [], Option, None, map}
 use Rattle.lp_values.specs.declared.id.ObjId.{ObjId}
 use Rattle.lp_objects.specs.Stands as names
 use Rattle.lp_objects.specs.declared.objects.Objects.{Objects}

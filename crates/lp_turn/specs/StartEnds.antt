@@ -1,5 +1,5 @@
 -- Where the first load of the master ended.
-use Rattle.std.specs.Prelude.{◌≡◌, ℕ, List, Bool, true, false, Option, Some, None, map}
+use Rattle.std.specs.Prelude.{◌≡◌, List, Bool, true, false, Option, Some, None, map}
 use Rattle.lp_code.specs.declared.program.RawProgram.{RawProgram}
 use Rattle.lp_events.specs.declared.out.Out.{Out}
 use Rattle.lp_instr.specs.EfunList.{is_name}

@@ -1,5 +1,5 @@
 -- Turns: what is left of a turn, by where it stands.
-use Rattle.std.specs.Prelude.{List, [], ◌∷◌, ℕ, Bool, false, None, Some, codes}
+use Rattle.std.specs.Prelude.{List, [], ◌∷◌, ℕ, false, None, Some, codes}
 use Rattle.lp_values.specs.declared.value.Value.{Value}
 use Rattle.lp_values.specs.declared.value.Value.TheVariants.{Obj, Str}
 use Rattle.lp_language.specs.Course.{Answer, Course, State, and_then}

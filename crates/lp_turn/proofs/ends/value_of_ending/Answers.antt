@@ -1,8 +1,7 @@
 use Rattle.std.proofs.Common.{subst, sym}
-use Rattle.lp_language.specs.Course.{zero_value}
 use Rattle.lp_turn.specs.Ends.{HasValueOf}
 use Rattle.lp_turn.specs.declared.job.CallEnd.TheVariants as ends
-use Rattle.lp_turn.proofs.Ended.{gave, stopped}
+use Rattle.lp_turn.proofs.Ended.{gave}
 use Rattle.lp_turn.proofs.ends.value_of_ending.Goals as goal
 
 pub returns-in-Value-clause-value : goal.returns-in-Value-clause-value

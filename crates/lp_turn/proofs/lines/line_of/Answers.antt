@@ -1,6 +1,6 @@
-use Rattle.std.proofs.Common.{◌∙◌, ap, sym, subst}
+use Rattle.std.proofs.Common.{◌∙◌, sym, subst}
 use Rattle.std.proofs.lemmas.Result.{IfOk-weaker}
-use Rattle.lp_meaning.specs.EventTurns.{line_of, line_text}
+use Rattle.lp_meaning.specs.EventTurns.{line_of}
 use Rattle.lp_turn.specs.Going.{BeginsWith}
 use Rattle.lp_turn.proofs.Lined.{line_commands, line_waits, taker_there}
 use Rattle.lp_turn.proofs.lines.line_of.Goals as goal
