@@ -14,12 +14,19 @@ use lp_code::tables::Slot;
 /// The name that the row of the initialisers has. A function of a text may have it too.
 const INIT: &str = "__INIT";
 
+/// A row of a program's tables, by its place.
+fn slot_at(raw: &RawProgram, k: usize) -> Option<&Slot>
+    ensures { option_copied result ≡ slice_get raw.now.tables.slots k }
+{
+    raw.tables.slots.as_slice().get(k)
+}
+
 /// The row of a name in a program's tables. Takes no longer with more rows.
 fn row_named<'a>(raw: &'a RawProgram, name: &str) -> Option<&'a Slot>
     ensures { option_copied result ≡ slot_named raw.now.tables.slots name.now }
 {
     match raw.tables.slots.place(name) {
-        Some(k) => raw.tables.slots.as_slice().get(k),
+        Some(k) => slot_at(raw, k),
         None => None,
     }
 }
@@ -57,11 +64,17 @@ pub fn initialiser_row(raw: &RawProgram) -> Option<u16>
     ensures { (h : Heritage) → FitsVersion h raw.now → IsInitialiserRowIf h raw.now result }
 {
     let count = raw.funs.as_slice().len();
-    if count == 0 || count > 65536 {
+    if count == 0 {
         return None;
     }
     let last = count - 1;
-    if !is_called_init(raw, last) || is_of_text(raw, last) {
+    if last > 65535 {
+        return None;
+    }
+    if !is_called_init(raw, last) {
+        return None;
+    }
+    if is_of_text(raw, last) {
         return None;
     }
     Some(last as u16)
