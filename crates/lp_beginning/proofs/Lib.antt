@@ -1,0 +1,2 @@
+pub mod InitRows
+pub mod SeenParts

@@ -3,7 +3,7 @@ use Rattle.std.specs.Prelude.{◌≡◌, ℕ, ⊤, List, Bool, Option, Some, Non
 use Rattle.lp_values.specs.declared.id.ProgId.{ProgId}
 use Rattle.lp_code.specs.declared.program.RawProgram.{RawProgram}
 use Rattle.lp_swapfile.specs.Device.{Bytes, Last}
-use Rattle.lp_language.specs.World.{World, object_named}
+use Rattle.lp_language.specs.World.{Version, World, object_named}
 use Rattle.lp_language.specs.Course.{Course, End, Over, Reply, State}
 use Rattle.lp_language.specs.Resolve.{Part, part_at, parts}
 use Rattle.lp_meaning.specs.Askers.{Asker}
@@ -38,12 +38,15 @@ use Rattle.lp_beginning.specs.Rows.{has_initialisers}
 
 -- Parts with initialisers
 
--- whether a part of a version has initialisers, for every world for which the state stands and whose programs fit
-abbrev pub TellsPart : Option Bytes → Live → ProgId → ℕ → Bool → Type 0
-TellsPart told live v part has =
-    (programs : List RawProgram) (w : World) (p : Part) → Stands told programs live w → AreCompiled programs w.versions → part_at (heritage_in w.versions v) part ≡ Some p → has ≡ has_initialisers p.tree
+-- a version has this part, and whether that has initialisers
+abbrev pub HasPart : List Version → ProgId → ℕ → Bool → Type 0
+HasPart versions v part has = (p : Part) × (part_at (heritage_in versions v) part ≡ Some p) × (has ≡ has_initialisers p.tree)
 
--- and a version itself
+-- so it is in every world for which the state stands and whose programs fit
+abbrev pub TellsPart : Option Bytes → Live → ProgId → ℕ → Bool → Type 0
+TellsPart told live v part has = (programs : List RawProgram) (w : World) → Stands told programs live w → AreCompiled programs w.versions → HasPart w.versions v part has
+
+-- whether a version has initialisers, likewise
 abbrev pub TellsVersion : Option Bytes → Live → ProgId → Bool → Type 0
 TellsVersion told live v has = (programs : List RawProgram) (w : World) → Stands told programs live w → AreCompiled programs w.versions → has ≡ has_initialisers (heritage_in w.versions v)
 
