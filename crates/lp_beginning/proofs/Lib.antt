@@ -1,2 +1,3 @@
 pub mod InitRows
 pub mod SeenParts
+pub mod Words

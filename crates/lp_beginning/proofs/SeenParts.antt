@@ -1,6 +1,6 @@
 -- What a look at the program of a version, or of a part of one, tells.
-use Rattle.std.proofs.Common.{◌≡◌, ◌∙◌, ◌<◌, ◌≤◌, ℕ, zero, suc, arith, refl, sym, ap, subst, Bool, true, false, List, [], ◌∷◌, ◌++◌, length, length-append, length-take-le, Option, Some, None, IsSome, slice_get, take}
-use Rattle.std.proofs.lemmas.List.{append_assoc}
+use Rattle.std.proofs.Common.{◌≡◌, ◌∙◌, ◌<◌, ◌≤◌, ℕ, zero, suc, arith, refl, sym, ap, subst, Bool, true, false, List, [], ◌∷◌, ◌++◌, length, Option, Some, None, IsSome, slice_get, take}
+use Rattle.std.proofs.lemmas.List.{length-take-le, take_all}
 use Rattle.std.specs.Prelude.{◌+◌, is_some, if◌then◌else◌}
 use Rattle.lp_values.specs.declared.id.ProgId.{ProgId}
 use Rattle.lp_code.specs.declared.program.RawProgram.{RawProgram}
@@ -18,7 +18,7 @@ use Rattle.lp_part_laws.proofs.Trees.{part_settled}
 use Rattle.lp_targets.specs.Brought.{program_at}
 use Rattle.lp_targets.proofs.Memory.{some_row}
 use Rattle.lp_targets.proofs.Worlds.{program_is}
-use Rattle.lp_beginning.specs.Beginning.{HasPart, TellsPart, TellsVersion}
+use Rattle.lp_beginning.specs.Beginning.{ArePartsBelow, ArePartsOf, HasPart, TellsPart, TellsVersion}
 use Rattle.lp_beginning.specs.Rows.{IsInitialiserRowIf, has_initialisers}
 
 -- a row tells that there are initialisers
@@ -73,7 +73,7 @@ initialised_last n (q ∷ ps) p =
 take_next : (ps : List Part) (k : ℕ) (p : Part) → slice_get ps k ≡ Some p → take (k + 1) ps ≡ take k ps ++ p ∷ []
 take_next [] k p e = absurd cc
 take_next (q ∷ ps) zero p e = let s : q ≡ p = cc in ap (λ z. z ∷ []) s
-take_next (q ∷ ps) (suc k) p e = ap (λ l. q ∷ l) (take_next ps k p e)
+take_next (q ∷ ps) (suc k) p e = ap (λ n. take n (q ∷ ps)) (let z : suc k + 1 ≡ suc (k + 1) = omega arith in z) ∙ ap (λ l. q ∷ l) (take_next ps k p e)
 
 take_many : (ps : List Part) (k : ℕ) (p : Part) → slice_get ps k ≡ Some p → length (take k ps) ≡ k
 take_many ps k p e = let i = is_below ps k p e in length-take-le k ps (omega (arith, i))
@@ -88,3 +88,14 @@ part_more versions v k b found e h =
     ∙ ap (λ n. initialised_from 0 (take k ps) ++ here_if (has_initialisers h.0.tree) n) (let m = take_many ps k h.0 h.1 in let z : k ≡ 0 + length (take k ps) = omega (arith, m) in z)
     ∙ sym (initialised_last 0 (take k ps) h.0)
     ∙ ap (initialised_from 0) (sym (take_next ps k h.0 h.1))
+
+-- All parts are below their number.
+pub all_parts : (told : Option Bytes) (live : Live) (v : ProgId) (n : ℕ) (found : List ℕ) → IsSome (program_at live.versions v)
+    → ((raw : RawProgram) → program_at live.versions v ≡ Some raw → length raw.tables.parts ≤ 65535 → n ≡ length raw.tables.parts) → ArePartsBelow told live v n found → ArePartsOf told live v found
+all_parts told live v n found here f below programs w s c =
+    let x = some_row (program_at live.versions v) here in
+    let h : Heritage = heritage_in w.versions v in
+    let fits = fits_at told programs live w v x.0 s c x.1 in
+    let many = parts_many h x.0 fits in
+    let is = f x.0 x.1 fits.parts in
+    below programs w s c ∙ ap (initialised_from 0) (take_all n (parts h) (omega (arith, many, is)))

@@ -1,5 +1,5 @@
 -- How an object is made and begins.
-use Rattle.std.specs.Prelude.{◌≡◌, ℕ, ⊤, List, Bool, Option, Some, None, Result, Ok, Err, IsSome, take}
+use Rattle.std.specs.Prelude.{◌≡◌, ◌++◌, ◌∷◌, [], if◌then◌else◌, ℕ, ⊤, List, Bool, Option, Some, None, Result, Ok, Err, IsSome, take}
 use Rattle.lp_values.specs.declared.id.ProgId.{ProgId}
 use Rattle.lp_code.specs.declared.program.RawProgram.{RawProgram}
 use Rattle.lp_swapfile.specs.Device.{Bytes, Last}
@@ -45,6 +45,10 @@ HasPart versions v part has = (p : Part) × (part_at (heritage_in versions v) pa
 -- so it is in every world for which the state stands and whose programs fit
 abbrev pub TellsPart : Option Bytes → Live → ProgId → ℕ → Bool → Type 0
 TellsPart told live v part has = (programs : List RawProgram) (w : World) → Stands told programs live w → AreCompiled programs w.versions → HasPart w.versions v part has
+
+-- it is noted behind others, where it has some
+abbrev pub NotesPart : Option Bytes → Live → ProgId → ℕ → List ℕ → List ℕ → Type 0
+NotesPart told live v part old new = (has : Bool) × (new ≡ old ++ (if has then part ∷ [] else [])) × TellsPart told live v part has
 
 -- whether a version has initialisers, likewise
 abbrev pub TellsVersion : Option Bytes → Live → ProgId → Bool → Type 0

@@ -5,17 +5,32 @@ ghost use Rattle.lp_language.specs.World.{World};
 ghost use Rattle.lp_part_laws.specs.Versions.{AreCompiled, heritage_in};
 ghost use Rattle.lp_targets.specs.Brought.{Brings, program_at};
 ghost use Rattle.lp_world.specs.Closed.{IsClosed};
+ghost use Rattle.lp_world.specs.Rows.{row_at};
 ghost use Rattle.lp_world.specs.Stands.{Stands};
-ghost use Rattle.lp_beginning.specs.Beginning.{ArePartsBelow, ArePartsOf, TellsPart, TellsVersion};
+ghost use Rattle.lp_beginning.specs.Beginning.{ArePartsBelow, ArePartsOf, NotesPart, TellsPart, TellsVersion};
 ghost use Rattle.lp_beginning.specs.Rows.{has_initialisers as has};
 
 use crate::looking::{has_initialisers, is_version, part_count, part_version};
 use lp_asking::truth::Truthful;
 use lp_residence::answers::EnterFault;
 use lp_residence::returning::enter_program;
+use lp_swapfile::SwapFile;
 use lp_values::id::ProgId;
 use lp_world::live::Live;
 use std::alloc::AllocError;
+
+/// Brings the program of a version that the state has into memory.
+fn enter_known<W: SwapFile>(live: &mut Live, swap: &mut W, p: ProgId) -> Result<(), EnterFault>
+    requires closed { IsClosed live.old }
+    requires there { IsSome (row_at live.old.versions p.0) }
+    ensures brings { Brings (W.content swap.old) (W.content swap.new) (W.last swap.new) (W.read_faults swap.old) (W.read_faults swap.new) (W.write_faults swap.old) (W.write_faults swap.new)
+        (W.is_truthful swap.old) (W.is_truthful swap.new) (W.is_honest swap.old) (W.is_honest swap.new) live.old live.new result }
+    ensures closed { IsClosed live.new }
+    ensures stands { W.is_truthful swap.new → (programs : List Raw) (w : World) → Stands (W.content swap.old) programs live.old w → Stands (W.content swap.new) programs live.new w }
+    ensures here { OnOk result (IsSome (program_at live.new.versions p)) }
+{
+    enter_program(live, swap, p)
+}
 
 /// Brings the program of a version into memory. Where the state does not have the version, or the device does not tell the
 /// truth, the answer is want of memory.
@@ -35,7 +50,7 @@ pub(crate) fn bring_program<W: Truthful>(
     if !is_version(&live.versions, p) {
         return Err(EnterFault::NoMemory);
     }
-    match enter_program(live, swap, p) {
+    match enter_known(live, swap, p) {
         Ok(()) => {
             if swap.tells_truth() {
                 Ok(())
@@ -99,6 +114,32 @@ fn note(found: &mut Vec<u16>, part: u16, has: bool) -> Result<(), AllocError>
     Ok(())
 }
 
+/// Notes whether a part of a version's program that is in memory has initialisers. The program of that part comes into memory.
+fn look_on<W: Truthful>(
+    live: &mut Live,
+    swap: &mut W,
+    version: ProgId,
+    part: u16,
+    found: &mut Vec<u16>,
+) -> Result<(), EnterFault>
+    requires closed { IsClosed live.old }
+    requires here { IsSome (program_at live.old.versions version) }
+    ensures brings { Brings (W.content swap.old) (W.content swap.new) (W.last swap.new) (W.read_faults swap.old) (W.read_faults swap.new) (W.write_faults swap.old) (W.write_faults swap.new)
+        (W.is_truthful swap.old) (W.is_truthful swap.new) (W.is_honest swap.old) (W.is_honest swap.new) live.old live.new result }
+    ensures closed { IsClosed live.new }
+    ensures stands { W.is_truthful swap.new → (programs : List Raw) (w : World) → Stands (W.content swap.old) programs live.old w → Stands (W.content swap.new) programs live.new w }
+    ensures more { OnOk result (NotesPart (W.content swap.old) live.old version part found.old.items found.new.items) }
+    ensures truthful { OnOk result (W.is_truthful swap.new) }
+{
+    match look_at_part(live, swap, version, part) {
+        Ok(has) => match note(found, part, has) {
+            Ok(()) => Ok(()),
+            Err(_) => Err(EnterFault::NoMemory),
+        },
+        Err(e) => Err(e),
+    }
+}
+
 /// The parts below a number that have initialisers, of a version's program that is in memory. Their programs come into memory.
 fn parts_below<W: Truthful>(
     live: &mut Live,
@@ -118,8 +159,10 @@ fn parts_below<W: Truthful>(
 {
     let mut found = Vec::new(live.alloc);
     for part in 0..end {
-        let has = look_at_part(live, swap, version, part)?;
-        note(&mut found, part, has)?;
+        match look_on(live, swap, version, part, &mut found) {
+            Ok(()) => {}
+            Err(e) => return Err(e),
+        }
     }
     Ok(found)
 }

@@ -29,13 +29,11 @@ use std::alloc::{AllocError, Global};
 // Words
 
 /// Puts words behind a text.
-fn add(text: &mut Vec<char>, words: &str) -> Result<(), AllocError>
+fn add(alloc: Global, text: &mut Vec<char>, words: &str) -> Result<(), AllocError>
     ensures { OnOk result (text.new.items ≡ text.old.items ++ chars words.now) }
 {
-    for c in words.chars() {
-        text.push(c)?;
-    }
-    Ok(())
+    let more = code_points(alloc, words)?;
+    text.extend_from_slice(more.as_slice())
 }
 
 /// A path without `.c` at its end.
@@ -124,11 +122,11 @@ fn place_words(
 {
     let mut text = code_points(alloc, " [")?;
     text.extend_from_slice(function)?;
-    add(&mut text, " of ")?;
+    add(alloc, &mut text, " of ")?;
     text.extend_from_slice(program)?;
-    add(&mut text, ", object ")?;
+    add(alloc, &mut text, ", object ")?;
     text.extend_from_slice(object)?;
-    add(&mut text, "]")?;
+    add(alloc, &mut text, "]")?;
     Ok(text)
 }
 
