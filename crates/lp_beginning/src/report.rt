@@ -36,6 +36,13 @@ fn add(alloc: Global, text: &mut Vec<char>, words: &str) -> Result<(), AllocErro
     text.extend_from_slice(more.as_slice())
 }
 
+/// The same characters, to keep.
+fn copied(alloc: Global, text: &[char]) -> Result<Vec<char>, AllocError>
+    ensures { IfOk result (λ v. v.items ≡ text.now) }
+{
+    text.to_vec(alloc)
+}
+
 /// A path without `.c` at its end.
 fn without_c(path: &[char]) -> &[char]
     ensures { result.now ≡ without_c path.now }
@@ -63,7 +70,7 @@ fn cause_text(alloc: Global, cause: &Cause) -> Result<Vec<char>, AllocError>
 {
     match cause {
         Cause::Thrown(_) => code_points(alloc, "Throw without catch"),
-        Cause::Failed(e) => without_newline(e.text.as_slice()).to_vec(alloc),
+        Cause::Failed(e) => copied(alloc, without_newline(e.text.as_slice())),
         Cause::Spent => code_points(alloc, "Too long evaluation. Execution aborted."),
     }
 }
@@ -96,7 +103,7 @@ fn program_name(live: &Live, p: ProgId) -> Result<Vec<char>, AllocError>
     ensures { IfOk result (λ v. IsProgramName live.now p v.items) }
 {
     match live.versions.get(p) {
-        Some(v) => without_c(v.path.as_slice()).to_vec(live.alloc),
+        Some(v) => copied(live.alloc, without_c(v.path.as_slice())),
         None => Err(AllocError),
     }
 }
