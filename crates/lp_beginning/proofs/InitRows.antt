@@ -197,14 +197,16 @@ with_initialisers (Heir n v ps) p f e =
     let l = last_with h (code_of p (rows_of (tables ps))) fs (map row_of p.funs) e (f.stands h f.own).funs in
     let i = got_map row_of p.funs (length fs) l.row l.there in
     let is : IsInit h (code_of p (rows_of (tables ps))) (row_of i.of) = subst (IsInit h (code_of p (rows_of (tables ps)))) (sym i.is) l.is in
-    let many : length p.funs ≡ length fs + 1 = let a = l.many in let b = length-map p.funs row_of in omega (arith, a, b) in
-    (length fs, record {
-      many = many;
-      row = record { row = i.of; listed = i.there; is = is };
-      named = ap (λ z. is_name z (codes "__INIT")) is.name ∙ itself (codes "__INIT");
-      beside = none_leads n v ps (resolve h (codes "__INIT")) (length fs) (length p.tables.parts) (slot_named p.tables.slots (codes "__INIT")) (many_parts n v ps p f) refl (fit_reached h p (codes "__INIT") f);
-      few = let a = own_many v.items in let b = f.own.numbered.0 in omega (arith, a, b);
-    })
+    let many : length p.funs ≡ length fs + 1 = let a = l.many in let b = length-map p.funs row_of in omega (arith, a, b) in (
+      length fs,
+      record {
+        many = many;
+        row = record { row = i.of; listed = i.there; is = is };
+        named = ap (λ z. is_name z (codes "__INIT")) is.name ∙ itself (codes "__INIT");
+        beside = none_leads n v ps (resolve h (codes "__INIT")) (length fs) (length p.tables.parts) (slot_named p.tables.slots (codes "__INIT")) (many_parts n v ps p f) refl (fit_reached h p (codes "__INIT") f);
+        few = let a = own_many v.items in let b = f.own.numbered.0 in omega (arith, a, b);
+      },
+    )
 
 -- where there are none, the tables lead to the last row if it has that name
 pub without_initialisers : (h : Heritage) (p : RawProgram) (k : ℕ) (r : CodeRow) → FitsVersion h p → has_initialisers h ≡ false → length p.funs ≡ k + 1 → slice_get p.funs k ≡ Some r → is_name r.name (codes "__INIT") ≡ true

@@ -6,7 +6,7 @@ use Rattle.lp_values.specs.declared.id.ProgId.{ProgId}
 use Rattle.lp_code.specs.declared.program.RawProgram.{RawProgram}
 use Rattle.lp_swapfile.specs.Device.{Bytes}
 use Rattle.lp_language.specs.World.{Version, World}
-use Rattle.lp_language.specs.Resolve.{Heritage, Part, number_of, part_at, parts}
+use Rattle.lp_language.specs.Resolve.{Heritage, Part, number_of, parts}
 use Rattle.lp_meaning.specs.FileLoads.{initialised_from}
 use Rattle.lp_world.specs.declared.live.Live.{Live}
 use Rattle.lp_world.specs.Stands.{Stands}

@@ -1,24 +1,20 @@
 -- What the log tells of a stop, from the words of its place.
-use Rattle.std.proofs.Common.{◌≡◌, ◌∙◌, ℕ, List, ◌++◌, Option, Some, None, refl, ap, sym, unwrap_or, slice_get}
+use Rattle.std.proofs.Common.{◌≡◌, ◌∙◌, ℕ, List, ◌++◌, Option, Some, ap, sym, unwrap_or, slice_get}
 use Rattle.std.specs.Prelude.{codes, option_map}
 use Rattle.lp_values.specs.declared.id.ProgId.{ProgId}
 use Rattle.lp_code.specs.declared.program.RawProgram.{RawProgram}
 use Rattle.lp_swapfile.specs.Device.{Bytes}
 use Rattle.lp_language.specs.World as world
 use Rattle.lp_language.specs.World.{World, no_version, version_at}
-use Rattle.lp_language.specs.Course as course
 use Rattle.lp_language.specs.Resolve.{without_c}
-use Rattle.lp_meaning.specs.Askers.{place_text}
 use Rattle.lp_world.specs.declared.live.Live.{Live}
 use Rattle.lp_world.specs.declared.versions.Version.{Version}
 use Rattle.lp_world.specs.Rows.{row_at}
-use Rattle.lp_world.specs.Stands.{Stands}
 use Rattle.lp_residence.proofs.RowChanges.{row_there}
 use Rattle.lp_part_laws.proofs.Lists.{one_value}
 use Rattle.lp_targets.specs.Brought.{program_at}
 use Rattle.lp_targets.proofs.Worlds.{program_is}
 use Rattle.lp_asking.specs.declared.ending.Place.{Place}
-use Rattle.lp_asking.specs.Endings.{IsPlace}
 use Rattle.lp_beginning.specs.Reports.{IsFunctionName, IsObjectName, IsPlaceText, IsProgramName, place_words}
 
 -- words put one behind another

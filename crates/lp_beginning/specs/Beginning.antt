@@ -124,6 +124,12 @@ refusal_of objects.NameTaken = faults.NameTaken
 refusal_of objects.TooMany = faults.NoMemory
 refusal_of objects.NoMemory = faults.NoMemory
 
+-- no device has a part in that
+abbrev pub IsRefusal : MakingFault → Type 0
+IsRefusal faults.NameTaken = ⊤
+IsRefusal (faults.Swap cause) = ⊥
+IsRefusal faults.NoMemory = ⊤
+
 -- it ends with the error that there are too many objects
 abbrev pub IsFull : Begun → Type 0
 IsFull (begun.Ends e) = e ≡ endings.Stopped (record { cause = causes.Failed (plain TooMany); place = None })
@@ -133,12 +139,15 @@ IsFull (begun.Runs job) = ⊥
 abbrev pub StandsStill : Option Bytes → Live → Option Bytes → Live → Type 0
 StandsStill told0 live0 told1 live1 = (programs : List RawProgram) (w : World) → Stands told0 programs live0 w → Stands told1 programs live1 w
 
--- what was to be brought into memory was brought there, or not
+-- what was to be brought into memory before that was brought there, or not
+abbrev pub brought_as : MakingFault → Result (Unit {0}) EnterFault
+brought_as faults.NameTaken = Ok tt
+brought_as (faults.Swap cause) = Err (enters.Swap cause)
+brought_as faults.NoMemory = Err enters.NoMemory
+
 abbrev pub brought_by : {A : Type 0} → Result A MakingFault → Result (Unit {0}) EnterFault
 brought_by (Ok x) = Ok tt
-brought_by (Err faults.NameTaken) = Ok tt
-brought_by (Err (faults.Swap cause)) = Err (enters.Swap cause)
-brought_by (Err faults.NoMemory) = Err enters.NoMemory
+brought_by (Err e) = brought_as e
 
 -- the same of what may fail for nothing else
 abbrev pub entered_by : {A : Type 0} → Result A EnterFault → Result (Unit {0}) EnterFault

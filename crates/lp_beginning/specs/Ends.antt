@@ -1,5 +1,5 @@
 -- How questions and jobs end, on the state.
-use Rattle.std.specs.Prelude.{ℕ, List, ◌≡◌}
+use Rattle.std.specs.Prelude.{List, ◌≡◌}
 use Rattle.lp_values.specs.declared.value.Value.{Value}
 use Rattle.lp_code.specs.declared.program.RawProgram.{RawProgram}
 use Rattle.lp_language.specs.Course.{End, Gives, Reply, State, Stops}

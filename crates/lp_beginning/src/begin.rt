@@ -6,7 +6,7 @@ ghost use Rattle.lp_swapfile.specs.Device.{Bytes};
 ghost use Rattle.lp_targets.specs.Brought.{program_at};
 ghost use Rattle.lp_world.specs.Closed.{IsClosed};
 ghost use Rattle.lp_world.specs.Rows.{variables_at};
-ghost use Rattle.lp_beginning.specs.Beginning.{Begins, BringsFirst, HasMade, IsBegunHome, IsFull, IsRefusedFor, StandsStill, brought_by, refusal_of};
+ghost use Rattle.lp_beginning.specs.Beginning.{Begins, BringsFirst, HasMade, IsBegunHome, IsFull, IsRefusal, IsRefusedFor, StandsStill, brought_by, refusal_of};
 
 use crate::fault::MakingFault;
 use crate::job::{Begun, LoadKind, Making};
@@ -18,11 +18,12 @@ use lp_objects::fault::ObjectFault;
 use lp_values::error::{ErrorKind, RunError};
 use lp_values::id::ProgId;
 use lp_world::live::Live;
-use std::alloc::{AllocError, Global};
+use std::alloc::Global;
 
 /// Why an object that was to be made was refused. That there is no room is known before.
 fn refusal_of(e: ObjectFault) -> MakingFault
-    ensures { result ≡ refusal_of e }
+    ensures is { result ≡ refusal_of e }
+    ensures refusal { IsRefusal result }
 {
     match e {
         ObjectFault::NameTaken => MakingFault::NameTaken,
@@ -44,6 +45,7 @@ fn make(
     ensures made { IfOk result (λ job. HasMade job kind (chars name.now) version parts.items live.old live.new) }
     ensures home { IfOk result (λ job. IsSome (variables_at live.new.objects job.object)) }
     ensures refused { IfErr result (λ e. (told : Option Bytes) → IsRefusedFor told live.old (chars name.now) e) }
+    ensures refusal { IfErr result IsRefusal }
     ensures still { OnErr result ((told : Option Bytes) → StandsStill told live.old told live.new) }
     ensures closed { IsClosed live.new }
     ensures cells { live.new.cells ≡ live.old.cells }
@@ -61,9 +63,10 @@ fn make(
     }
 }
 
-/// There is no room for one more object, which is an error.
-fn full(alloc: Global) -> Result<Begun, AllocError>
-    ensures { IfOk result IsFull }
+/// That there is no room for one more object is an error.
+fn full(alloc: Global) -> Result<Begun, MakingFault>
+    ensures full { IfOk result IsFull }
+    ensures fault { IfErr result (λ e. e ≡ MakingFault.NoMemory) }
 {
     let error = RunError::plain(alloc, ErrorKind::TooMany)?;
     Ok(Begun::Ends(Ending::Stopped(Stop {
@@ -101,7 +104,7 @@ pub fn begin<W: Truthful>(
     ensures truthful { OnOk result (W.is_truthful swap.old → W.is_truthful swap.new) }
 {
     if !live.names.has_room() {
-        return Ok(full(live.alloc)?);
+        return full(live.alloc);
     }
     match initialised_parts(live, swap, version) {
         Ok(parts) => match make(live, kind, name, version, parts) {

@@ -1,4 +1,3 @@
-use Rattle.lp_targets.proofs.Memory.{brings_err, brings_ok, stays_same}
 use Rattle.lp_beginning.proofs.SeenParts.{tells_version}
 use Rattle.lp_beginning.proofs.parts.look_at_version.Goals as goal
 

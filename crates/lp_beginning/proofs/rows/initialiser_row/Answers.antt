@@ -1,4 +1,4 @@
-use Rattle.std.proofs.Common.{◌≡◌, ◌∙◌, ap, arith, length, sym}
+use Rattle.std.proofs.Common.{◌≡◌, ap, arith, length, sym}
 use Rattle.std.specs.Prelude.{◌+◌, ◌-◌}
 use Rattle.lp_beginning.proofs.InitRows.{none_called, none_empty, none_many, none_text, some_row}
 use Rattle.lp_beginning.proofs.rows.initialiser_row.Goals as goal

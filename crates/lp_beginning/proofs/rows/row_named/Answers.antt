@@ -1,4 +1,4 @@
-use Rattle.std.proofs.Common.{◌≡◌, ◌∙◌, sym}
+use Rattle.std.proofs.Common.{◌∙◌, sym}
 use Rattle.lp_targets.proofs.Lookups.{named_none, named_some}
 use Rattle.lp_beginning.proofs.rows.row_named.Goals as goal
 
