@@ -15,8 +15,8 @@ use lp_values::id::ObjId;
 use lp_values::value::Value;
 use lp_world::live::Live;
 
-/// A question was answered with a value.
-fn take(job: &mut Making) -> Fed
+/// A job is told that its question was answered with a value. It asks again, or it ends with the object. Takes no memory.
+pub fn take(job: &mut Making) -> Fed
     ensures takes { Takes result job.old job.new }
     ensures less { LeavesLess result job.old job.new }
 {
