@@ -26,6 +26,7 @@ use Rattle.lp_efuns.proofs.Parted.{price_same}
 use Rattle.lp_calling.specs.declared.job.Begun.{Begun}
 use Rattle.lp_calling.specs.declared.job.Begun.TheVariants as begun
 use Rattle.lp_calling.specs.Beginning.{Begins, Starts, acts, is_calling, whole}
+use Rattle.lp_settling.proofs.Still.{still}
 use Rattle.lp_calling.proofs.Ending.{cut_to}
 
 -- an efun that is carried out here calls LPC
@@ -83,7 +84,7 @@ module _ (e : Efun) (live : Live) (stack0 : List Value) (n args old : ℕ) (ther
       course before (first_bad 1 (kinds e) (opened_args s vs)) vs by c s (before_is before low vs g turn s q k h f) refl
           ∙ ap (λ b. if b then Over (Stops (here Spent) (record s { budget = 0 })) else kinds_looked_at e by c vs (first_bad 1 (kinds e) (opened_args s vs)) (record s { budget = s.budget - before })) (ap (λ k. nat_lt k before) h.left ∙ less)
           ∙ ap (λ k. Over (Stops (here Spent) (record s { budget = k }))) (sym z),
-      (refl, at_budget g live turn old s paid h),
+      (refl, record { at = at_budget g live turn old s paid h; settles = still s.world }),
     );
   }
 
@@ -102,7 +103,7 @@ module _ (e : Efun) (live : Live) (stack0 : List Value) (n args old : ℕ) (ther
       Stops (here (Failed (bad_arg number (efun_name e)))) (record s { budget = s.budget - before }),
       course before (Some number) vs by c s (before_is before low vs g turn s q k h f) (bad_is (Some number) low vs g turn s q k h d)
           ∙ ap (λ b. if b then Over (Stops (here Spent) (record s { budget = 0 })) else kinds_looked_at e by c vs (Some number) (record s { budget = s.budget - before })) (ap (λ k. nat_lt k before) h.left ∙ less),
-      (refl, paid_at before paid g turn s z h),
+      (refl, record { at = paid_at before paid g turn s z h; settles = still s.world }),
     );
   }
 

@@ -22,10 +22,12 @@ use Rattle.lp_efuns.specs.Turns.{At, Setting}
 use Rattle.lp_efuns.proofs.Called.{finishes}
 use Rattle.lp_calling.specs.declared.job.Stage.TheVariants as stages
 use Rattle.lp_calling.specs.declared.job.Step.TheVariants as steps
-use Rattle.lp_calling.specs.Beginning.{IsOver}
+use Rattle.lp_settling.proofs.Still.{still}
+use Rattle.lp_calling.specs.Beginning.{IsOver, Settled}
 use Rattle.lp_calling.specs.Going.{StageGoes}
 use Rattle.lp_calling.specs.Jobs.{ended, first_value}
 use Rattle.lp_calling.proofs.Lists.{get_above}
+use Rattle.lp_calling.proofs.Settled.{end_settled, settled_here, value_settles}
 
 -- what is taken from the stack leaves the state as fit
 pub fit_cut : (live : Live) (stack : List Value) (n : ℕ) → IsFit live stack → IsFit live (take n stack)
@@ -40,12 +42,16 @@ cut_to stack0 stack1 low own n e q k = e ∙ ap (take n) q ∙ take_at low own n
 
 -- a value is paid, and the course is over
 pub value_over : (g : Setting) (live : Live) (turn : Turn) (old new : ℕ) (e : Efun) (v : Value) (a : Answer) (s : State) → At g live turn old s → IsThere live.cells v
-    → Finishes e (live_in live.objects) live.cells (did.Value v) old a new → IsOver a (At g live turn new) (ended e v s)
-value_over g live turn old new e v a s h i f = (value_end e v s, refl, finishes g live turn old new e (did.Value v) a (Gave v s) (refl, h) i f)
+    → Finishes e (live_in live.objects) live.cells (did.Value v) old a new → IsOver a (Settled s.world g live turn new) (ended e v s)
+value_over g live turn old new e v a s h i f = (
+  value_end e v s,
+  refl,
+  end_settled s.world g live turn new a (value_end e v s) (finishes g live turn old new e (did.Value v) a (Gave v s) (refl, h) i f) (value_settles s.world e v s (still s.world)),
+)
 
 -- an error ends a course
-pub error_over : (g : Setting) (live : Live) (turn : Turn) (b : ℕ) (x : RunError) (s : State) → At g live turn b s → IsOver (answers.Error x) (At g live turn b) (Over (Stops (here (Failed x)) s))
-error_over g live turn b x s h = (Stops (here (Failed x)) s, refl, (refl, h))
+pub error_over : (g : Setting) (live : Live) (turn : Turn) (b : ℕ) (x : RunError) (s : State) → At g live turn b s → IsOver (answers.Error x) (Settled s.world g live turn b) (Over (Stops (here (Failed x)) s))
+error_over g live turn b x s h = (Stops (here (Failed x)) s, refl, (refl, settled_here g live turn b s h))
 
 pub value_goes : (e : Efun) (live : Live) (turn : Turn) (below : ℕ) (stack0 stack1 : List Value) (old new : ℕ) (v : Value) (a : Answer) → slice_get stack0 below ≡ Some v → stack1 ≡ take below stack0
     → IsThere live.cells v → Finishes e (live_in live.objects) live.cells (did.Value v) old a new → StageGoes (steps.Ends a) e stages.Value below live turn stack0 old live stack1 new
@@ -55,7 +61,7 @@ value_goes e live turn below stack0 stack1 old new v a at t i f low own q k =
     ap (λ o. unwrap_or o zero_value) (sym (get_above low own below 0 k) ∙ ap (slice_get (low ++ own)) z ∙ ap (λ s. slice_get s below) (sym q) ∙ at) in
     record {
       stack = cut_to stack0 stack1 low own below t q k;
-      course = λ g by s h. subst (λ w. IsOver a (At g live turn new) (ended e w s)) (sym first) (value_over g live turn old new e v a s h i f);
+      course = λ g by s h. subst (λ w. IsOver a (Settled s.world g live turn new) (ended e w s)) (sym first) (value_over g live turn old new e v a s h i f);
     }
 
 pub zero_goes : (e : Efun) (live : Live) (turn : Turn) (below : ℕ) (stack0 stack1 : List Value) (old new : ℕ) (a : Answer) → stack1 ≡ take below stack0

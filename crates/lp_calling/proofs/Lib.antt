@@ -1,5 +1,6 @@
 pub mod Lists
 pub mod Courses
+pub mod Settled
 pub mod Ending
 pub mod Calling
 pub mod Rounds

@@ -54,6 +54,7 @@ use Rattle.lp_calling.specs.Jobs.{added, answered, ended, further, going, items_
 use Rattle.lp_calling.proofs.Calling.{error_starts}
 use Rattle.lp_calling.proofs.Courses.{asked_on, pays_nothing}
 use Rattle.lp_calling.proofs.Ending.{cut_to}
+use Rattle.lp_calling.proofs.Settled.{end_settled, settled_here, value_settles}
 use Rattle.lp_calling.proofs.Lists.{further_is, get_above, item_first, item_got, left_behind, left_split, part_at, part_kept, taken_grown}
 
 -- The object
@@ -118,7 +119,7 @@ round_starts f caller live n stack0 stack1 o name arguments count le a fit t e k
       fits = (omega (arith, ap length laid, length-append stack0 items), omega arith);
       course = λ g by c s sc at. (
         s,
-        at,
+        settled_here g live turn b s at,
         over_begun f by c s vs o (object_is g live turn b s caller c vs (Some o) at sc (λ cells. ob cells ∙ ap (λ ws. subject (live_in live.objects) caller.this (map (operand (live_in live.objects) cells) ws) 2) same))
             ∙ same_round (round_efun f) by s o (taken_by f) (text_arg (opened_args s vs) 1) name (drop 3 vs) (drop 3 (take arguments (vs ++ items))) [] (drop count (drop arguments (vs ++ items)))
             (items_arg (opened_args s vs) 0) (take count (drop arguments (vs ++ items)))
@@ -190,7 +191,7 @@ item_asks e r below n stack0 stack1 live turn budget room d l c t low own q k =
       is_asking = d;
       course = λ g by s h. (
         s,
-        h,
+        settled_here g live turn budget s h,
         item_asked e r own (drop (r.done + 1) (take r.count (drop r.arguments own))) next.0 by s (sym (ap (λ f. f r.object) (live_same g.told g.programs live s.world h.stands)) ∙ l) next.1,
       );
     }
@@ -205,7 +206,7 @@ item_ends e r below stack0 stack1 live turn budget room d l t low own q k =
       course = λ g by s h. (
         Stops (here (Failed (plain BadTarget))) s,
         item_dead e r own (drop (r.done + 1) (take r.count (drop r.arguments own))) next.0 by s (sym (ap (λ f. f r.object) (live_same g.told g.programs live s.world h.stands)) ∙ l) next.1,
-        (refl, h),
+        (refl, settled_here g live turn budget s h),
       );
     }
 
@@ -235,8 +236,10 @@ items_end e r below stack0 stack1 live part turn old new v a room d t is made th
       course = λ g by s h. (
         value_end e (reference x (length (cells_of s))) (with_store s (with_cell (cells_of s) x)),
         all_done e r own by s none,
-        finishes g (record live { cells = part }) turn old new e (did.Value v) a (Gave (reference x (length (cells_of s))) (with_store s (with_cell (cells_of s) x)))
-            (effect_at g live turn old s (effects.Makes x) (did.Value v) part h (ap did.Value is, made_so)) there f,
+        end_settled s.world g (record live { cells = part }) turn new a (value_end e (reference x (length (cells_of s))) (with_store s (with_cell (cells_of s) x)))
+            (finishes g (record live { cells = part }) turn old new e (did.Value v) a (Gave (reference x (length (cells_of s))) (with_store s (with_cell (cells_of s) x)))
+            (effect_at g live turn old s (effects.Makes x) (did.Value v) part h (ap did.Value is, made_so)) there f)
+            (value_settles s.world e (reference x (length (cells_of s))) (with_store s (with_cell (cells_of s) x)) (record { versions = refl; shadows = λ l. l })),
       );
     }
 

@@ -20,6 +20,7 @@ use Rattle.lp_meaning.specs.WorldSteps.{connection_of}
 use Rattle.lp_world.specs.Closed.{IsClosed}
 use Rattle.lp_world.specs.Rows.{live_in}
 use Rattle.lp_world.specs.declared.live.Live.{Live}
+use Rattle.lp_world.specs.declared.objects.Object.{Object}
 use Rattle.lp_world.proofs.Keeping.{live_same}
 use Rattle.lp_efuns.specs.declared.caller.Caller.{Caller}
 use Rattle.lp_efuns.specs.declared.caller.Turn.{Turn}
@@ -32,11 +33,13 @@ use Rattle.lp_calling.specs.declared.job.Stage.{Stage}
 use Rattle.lp_calling.specs.declared.job.Stage.TheVariants as stages
 use Rattle.lp_calling.specs.declared.job.Step.{Step}
 use Rattle.lp_calling.specs.declared.job.Step.TheVariants as steps
-use Rattle.lp_calling.specs.Beginning.{Starts}
+use Rattle.lp_settling.proofs.Still.{still}
+use Rattle.lp_calling.specs.Beginning.{Settled, Starts}
 use Rattle.lp_calling.specs.Going.{StageGoes}
-use Rattle.lp_calling.specs.Jobs.{IsStageOn, ended, stage_course}
+use Rattle.lp_calling.specs.Jobs.{IsStageOn, IsStageReady, ended, stage_course}
 use Rattle.lp_calling.specs.Targets.{reader, told_stage}
 use Rattle.lp_calling.proofs.Courses.{asked_on}
+use Rattle.lp_calling.proofs.Settled.{over_onward, settled_here}
 
 differ : false ≡ true → ⊥
 differ q = cc
@@ -76,12 +79,12 @@ closed_told live os h = record {
 
 -- what ends with 0 in another state ends so here
 pub ends_as : (r : Step) (e : Efun) (stage : Stage) (below : ℕ) (live0 live1 : Live) (turn : Turn) (stack0 stack1 : List Value) (b0 b1 : ℕ) → StageGoes r e stages.Zero below live1 turn stack0 b0 live1 stack1 b1
-    → ((own : List Value) (g : Setting) (by : Asker) (s : State) → At g live0 turn b0 s → (t : State) × At g live1 turn b0 t × (stage_course e stage own by s ≡ ended e zero_value t))
+    → ((own : List Value) (g : Setting) (by : Asker) (s : State) → At g live0 turn b0 s → (t : State) × Settled s.world g live1 turn b0 t × (stage_course e stage own by s ≡ ended e zero_value t))
     → StageGoes r e stage below live0 turn stack0 b0 live1 stack1 b1
 ends_as (steps.Ends a) e stage below live0 live1 turn stack0 stack1 b0 b1 z f low own q k =
     let i = z low own q k in record {
       stack = i.stack;
-      course = λ g by s h. let t = f own g by s h in let j = i.course g by t.0 t.1 in (j.0, t.2 ∙ j.1, j.2);
+      course = λ g by s h. let t = f own g by s h in let j = over_onward s.world t.0.world g live1 turn b1 a (ended e zero_value t.0) t.1.settles (i.course g by t.0 t.1.at) in (j.0, t.2 ∙ j.1, j.2);
     }
 ends_as (steps.Asks c n) e stage below live0 live1 turn stack0 stack1 b0 b1 z f low own q k = absurd ((z low own q k).is_asking)
 
@@ -107,14 +110,14 @@ live_at : (g : Setting) (live : Live) (turn : Turn) (b : ℕ) (s : State) (o : O
 live_at g live turn b s o is h l = sym (ap (λ f. f o) (live_same g.told g.programs live s.world h.stands)) ∙ l
 
 pub dead_told : (e : Efun) (o : ObjId) (text : List ℕ) (live : Live) (turn : Turn) (b : ℕ) → live_in live.objects o ≡ false
-    → (own : List Value) (g : Setting) (by : Asker) (s : State) → At g live turn b s → (t : State) × At g live turn b t × (stage_course e (stages.Tell o text) own by s ≡ ended e zero_value t)
-dead_told e o text live turn b l own g by s h = (s, h, ap (λ c. and_then c (ended e)) (telling by o text s false (connection_of s.world o) (live_at g live turn b s o false h l) refl))
+    → (own : List Value) (g : Setting) (by : Asker) (s : State) → At g live turn b s → (t : State) × Settled s.world g live turn b t × (stage_course e (stages.Tell o text) own by s ≡ ended e zero_value t)
+dead_told e o text live turn b l own g by s h = (s, settled_here g live turn b s h, ap (λ c. and_then c (ended e)) (telling by o text s false (connection_of s.world o) (live_at g live turn b s o false h l) refl))
 
 pub connection_told : (e : Efun) (o : ObjId) (text : List ℕ) (live live1 : Live) (turn : Turn) (b k : ℕ) → live_in live.objects o ≡ true → Some k ≡ number_of live o → live1 ≡ record live { outputs = live.outputs ++ outs.Text k text ∷ [] }
-    → (own : List Value) (g : Setting) (by : Asker) (s : State) → At g live turn b s → (t : State) × At g live1 turn b t × (stage_course e (stages.Tell o text) own by s ≡ ended e zero_value t)
+    → (own : List Value) (g : Setting) (by : Asker) (s : State) → At g live turn b s → (t : State) × Settled s.world g live1 turn b t × (stage_course e (stages.Tell o text) own by s ≡ ended e zero_value t)
 connection_told e o text live live1 turn b k l c q own g by s h = (
   told (outs.Text k text ∷ []) s,
-  subst (λ x. At g x turn b (told (outs.Text k text ∷ []) s)) (sym q) (at_told g live turn b s (outs.Text k text) h),
+  record { at = subst (λ x. At g x turn b (told (outs.Text k text ∷ []) s)) (sym q) (at_told g live turn b s (outs.Text k text) h); settles = still s.world },
   ap (λ c. and_then c (ended e)) (telling by o text s true (Some k) (live_at g live turn b s o true h l) (connection_same g live turn b s o h ∙ sym c)),
 )
 
@@ -130,7 +133,7 @@ tell_asks e o text below stack0 stack1 live turn budget le l c t low own q k = r
   is_asking = tt;
   course = λ g by s h. (
     s,
-    h,
+    settled_here g live turn budget s h,
     ap (λ c. and_then c (ended e)) (telling by o text s true None (live_at g live turn budget s o true h l) (connection_same g live turn budget s o h ∙ sym c))
         ∙ asked_on (Apply o (codes "catch_tell")) (values.Str text ∷ []) by s (λ v s. gives zero_value s) (ended e),
   );
@@ -186,10 +189,10 @@ writes_as (steps.Asks c n) e o t below live0 live1 turn stack0 stack1 b0 b1 is z
     }
 
 pub log_told : (e : Efun) (t : List ℕ) (live live1 : Live) (turn : Turn) (b : ℕ) → None ≡ reader (live_in live.objects) turn.player → live1 ≡ record live { outputs = live.outputs ++ outs.Log t ∷ [] }
-    → (own : List Value) (g : Setting) (by : Asker) (s : State) → At g live turn b s → (u : State) × At g live1 turn b u × (stage_course e (stages.Write t) own by s ≡ ended e zero_value u)
+    → (own : List Value) (g : Setting) (by : Asker) (s : State) → At g live turn b s → (u : State) × Settled s.world g live1 turn b u × (stage_course e (stages.Write t) own by s ≡ ended e zero_value u)
 log_told e t live live1 turn b is q own g by s h = (
   told (outs.Log t ∷ []) s,
-  subst (λ x. At g x turn b (told (outs.Log t ∷ []) s)) (sym q) (at_told g live turn b s (outs.Log t) h),
+  record { at = subst (λ x. At g x turn b (told (outs.Log t ∷ []) s)) (sym q) (at_told g live turn b s (outs.Log t) h); settles = still s.world },
   ap (λ c. and_then c (ended e)) (logged by s.player t s (is ∙ ap (λ l. reader l turn.player) (live_same g.told g.programs live s.world h.stands) ∙ ap (reader (is_live s.world)) (sym h.player))),
 )
 
@@ -203,6 +206,10 @@ told_begun (Some o) t own by s = refl
 told_on : (o : Option ObjId) (t : List ℕ) (low n : ℕ) → low ≤ n → IsStageOn (told_stage o t) low n
 told_on None t low n l = l
 told_on (Some o) t low n l = l
+
+pub told_ready : (objects : List (Option Object)) (o : Option ObjId) (t : List ℕ) → IsStageReady objects (told_stage o t)
+told_ready objects None t = tt
+told_ready objects (Some o) t = tt
 
 -- which object an argument is does not hang on cells
 read_any : (l : ObjId → Bool) (a b : Store) (o : ObjId) (x : Bool)
@@ -232,7 +239,7 @@ tell_starts caller live n stack stage text le st f turn b low vs q k =
       fits = subst (λ st. IsStageOn st n (length stack)) (sym (st [])) (told_on (object_arg (map (operand (live_in live.objects) []) (drop n stack)) 0) text n (length stack) le);
       course = λ g by c s sc h. (
         s,
-        h,
+        settled_here g live turn b s h,
         ap (λ t. and_then (with_live (object_arg (opened_args s vs) 0) s (λ o. tell by o t s)) (ended efuns.TellObject)) (sym (f (living s) (cells_of s) ∙ ap (λ ws. text_arg (opened_args s ws) 1) same))
             ∙ told_begun (object_arg (opened_args s vs) 0) text vs by s
             ∙ ap (λ st. stage_course efuns.TellObject st vs by s)

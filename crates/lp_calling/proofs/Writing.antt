@@ -43,6 +43,7 @@ use Rattle.lp_calling.specs.Jobs.{ended}
 use Rattle.lp_calling.specs.Targets.{Prints}
 use Rattle.lp_calling.proofs.Calling.{error_starts}
 use Rattle.lp_calling.proofs.Courses.{pays_nothing}
+use Rattle.lp_calling.proofs.Settled.{settled_here}
 
 -- Written values
 
@@ -74,7 +75,7 @@ write_starts caller live n stack t le f turn b low vs q k =
       fits = le;
       course = λ g by c s sc h. (
         s,
-        h,
+        settled_here g live turn b s h,
         ap (λ t. and_then (write_text by t s) (ended efuns.Write))
             (sym (f s (sym (live_same g.told g.programs live s.world h.stands)) (name_known g.told g.programs live s.world h.stands) ∙ ap (λ ws. meant.written s.world (arg (opened_args s ws) 0)) same)),
       );
@@ -149,7 +150,7 @@ printf_starts caller live n stack t le f turn b low vs q k =
       fits = le;
       course = λ g by c s sc h. (
         s,
-        h,
+        settled_here g live turn b s h,
         ap (λ e. and_then (and_then (Over (finished 0 e s)) (λ v s. write_text by (formatted_text v) s)) (ended efuns.Printf)) (prints_at g live turn b s n stack vs (Ok t) same h f)
             ∙ ap (λ e. and_then (and_then (Over e) (λ v s. write_text by (formatted_text v) s)) (ended efuns.Printf)) (pays_nothing s (Gives (values.Str t))),
       );

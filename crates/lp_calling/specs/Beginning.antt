@@ -1,15 +1,18 @@
 -- How efuns that call LPC begin.
-use Rattle.std.specs.Prelude.{◌≡◌, ℕ, List, ◌++◌, Bool, true, false, length}
+use Rattle.std.specs.Prelude.{◌≡◌, ℕ, ⊤, List, ◌++◌, Bool, true, false, length, Option}
 use Rattle.lp_values.specs.declared.value.Value.{Value}
 use Rattle.lp_cells.specs.Cells.{Store}
 use Rattle.lp_instr.specs.declared.efun.Efun.{Efun}
 use Rattle.lp_instr.specs.declared.efun.Efun.TheVariants as efuns
+use Rattle.lp_language.specs.World.{World}
 use Rattle.lp_language.specs.Course.{Course, End, Over, Scene, State, and_then}
 use Rattle.lp_meaning.specs.Askers.{Asker}
 use Rattle.lp_meaning.specs.CallingEfuns.{calls}
 use Rattle.lp_meaning.specs.EfunArguments.{opened_args}
 use Rattle.lp_meaning.specs.Questions.{efun_in}
 use Rattle.lp_world.specs.declared.live.Live.{Live}
+use Rattle.lp_world.specs.declared.objects.Object.{Object}
+use Rattle.lp_settling.specs.Settling.{Settles}
 use Rattle.lp_efuns.specs.declared.answer.Answer.{Answer}
 use Rattle.lp_efuns.specs.declared.caller.Caller.{Caller}
 use Rattle.lp_efuns.specs.declared.caller.Turn.{Turn}
@@ -18,7 +21,7 @@ use Rattle.lp_efuns.specs.Turns.{At, IsScene, Setting}
 use Rattle.lp_calling.specs.declared.job.Begun.{Begun}
 use Rattle.lp_calling.specs.declared.job.Begun.TheVariants as begun
 use Rattle.lp_calling.specs.declared.job.Job.{Job}
-use Rattle.lp_calling.specs.Jobs.{IsJobOn, course_of, ended}
+use Rattle.lp_calling.specs.Jobs.{IsJobOn, IsReady, course_of, ended}
 
 -- the efuns that are carried out here
 abbrev pub is_calling : Efun → Bool
@@ -29,6 +32,11 @@ is_calling efuns.TellObject = true
 is_calling efuns.Write = true
 is_calling efuns.Printf = true
 is_calling _ = false
+
+-- The live state stands for a state, whose world settles from this one.
+pub record Settled (w : World) (g : Setting) (live : Live) (turn : Turn) (budget : ℕ) (t : State) : Type 0 where
+  pub at : At g live turn budget t
+  pub settles : Settles w t.world
 
 -- a course is over, with this answer, in a state of which something holds
 abbrev pub IsOver : Answer → (State → Type 0) → Course Value → Type 0
@@ -46,18 +54,19 @@ abbrev pub acts : Efun → List Value → Wanted
 acts e vs by c s = and_then (calls e by c s vs (opened_args s vs)) (ended e)
 
 -- It goes on as a job, whose values lie above what lay below the arguments: from each state for which the live state stands the
--- course wanted is that of the job, in a state for which the live state stands, with this budget.
+-- course wanted is that of the job, in a state for which the live state stands, with this budget, and whose world settles from
+-- the one before.
 pub record HasBegun (job : Job) (wanted : Wanted) (caller : Caller) (live : Live) (turn : Turn) (budget0 : ℕ) (low stack1 : List Value) (budget1 : ℕ) : Type 0 where
   pub own : List Value
   pub stack : stack1 ≡ low ++ own
   pub height : length low ≡ job.low
   pub fits : IsJobOn job stack1
-  pub course : (g : Setting) (by : Asker) (c : Scene) (s : State) → IsScene caller c → At g live turn budget0 s → (t : State) × At g live turn budget1 t × (wanted by c s ≡ course_of job own by t)
+  pub course : (g : Setting) (by : Asker) (c : Scene) (s : State) → IsScene caller c → At g live turn budget0 s → (t : State) × Settled s.world g live turn budget1 t × (wanted by c s ≡ course_of job own by t)
 
 -- It ends with this answer, and its arguments are gone: from each such state the course wanted asks nothing and ends so.
 pub record HasEnded (a : Answer) (wanted : Wanted) (caller : Caller) (live : Live) (turn : Turn) (budget0 : ℕ) (low stack1 : List Value) (budget1 : ℕ) : Type 0 where
   pub stack : stack1 ≡ low
-  pub course : (g : Setting) (by : Asker) (c : Scene) (s : State) → IsScene caller c → At g live turn budget0 s → IsOver a (At g live turn budget1) (wanted by c s)
+  pub course : (g : Setting) (by : Asker) (c : Scene) (s : State) → IsScene caller c → At g live turn budget0 s → IsOver a (Settled s.world g live turn budget1) (wanted by c s)
 
 abbrev pub BeginsAs : Begun → Wanted → Caller → Live → Turn → ℕ → List Value → List Value → ℕ → Type 0
 BeginsAs (begun.Ends a) wanted caller live turn budget0 low stack1 budget1 = HasEnded a wanted caller live turn budget0 low stack1 budget1
@@ -77,3 +86,8 @@ Starts r e caller live below stack0 stack1 =
 abbrev pub IsBegunThere : Store → Begun → Type 0
 IsBegunThere cells (begun.Ends a) = IsAnswerThere cells a
 IsBegunThere cells (begun.Runs job) = Unit {0}
+
+-- the object that a job calls by a name next has its row
+abbrev pub IsBegunReady : List (Option Object) → Begun → Type 0
+IsBegunReady objects (begun.Ends a) = ⊤
+IsBegunReady objects (begun.Runs job) = IsReady objects job

@@ -1,5 +1,5 @@
 -- Jobs: what an efun that calls LPC still does, by where it stands and by its values on the stack.
-use Rattle.std.specs.Prelude.{ℕ, ◌+◌, ◌-◌, ◌<◌, ◌≤◌, ⊤, List, [], ◌∷◌, ◌++◌, Bool, true, false, codes, drop, length, slice_get, take, unwrap_or, if◌then◌else◌}
+use Rattle.std.specs.Prelude.{ℕ, ◌+◌, ◌-◌, ◌<◌, ◌≤◌, ⊤, List, [], ◌∷◌, ◌++◌, Bool, true, false, Option, IsSome, codes, drop, length, slice_get, take, unwrap_or, if◌then◌else◌}
 use Rattle.lp_values.specs.declared.id.ObjId.{ObjId}
 use Rattle.lp_values.specs.declared.value.Value.{Value}
 use Rattle.lp_values.specs.Read.{is_zero}
@@ -9,6 +9,8 @@ use Rattle.lp_language.specs.Course.{Apply, Asked, Course, Other, Over, State, a
 use Rattle.lp_meaning.specs.Askers.{Asker, ask_value, tell}
 use Rattle.lp_meaning.specs.CallingEfuns.{kept_item, mapped_item, per_item, write_text}
 use Rattle.lp_meaning.specs.Questions.{value_end}
+use Rattle.lp_world.specs.declared.objects.Object.{Object}
+use Rattle.lp_world.specs.Rows.{row_at}
 use Rattle.lp_calling.specs.declared.job.Job.{Job}
 use Rattle.lp_calling.specs.declared.job.Question.{Question}
 use Rattle.lp_calling.specs.declared.job.Question.TheVariants as questions
@@ -20,6 +22,11 @@ use Rattle.lp_calling.specs.declared.job.Stage.TheVariants as stages
 abbrev pub asked_of : Question → Asked
 asked_of (questions.Other o name) = Other o name
 asked_of (questions.CatchTell o) = Apply o (codes "catch_tell")
+
+-- whom
+abbrev pub object_of : Question → ObjId
+object_of (questions.Other o name) = o
+object_of (questions.CatchTell o) = o
 
 -- an efun has its value: the price of that is paid
 abbrev pub ended : Efun → Value → State → Course Value
@@ -132,3 +139,18 @@ stage_left stages.Zero = 0
 
 abbrev pub questions_left : Job → ℕ
 questions_left job = stage_left job.stage
+
+-- Among the objects
+
+-- The object that is called next by its name has its row, whether it lives still or not. Other stages look first whether theirs
+-- lives.
+abbrev pub IsStageReady : List (Option Object) → Stage → Type 0
+IsStageReady objects (stages.Call o name) = IsSome (row_at objects o.0)
+IsStageReady objects (stages.Items r) = ⊤
+IsStageReady objects (stages.Tell o t) = ⊤
+IsStageReady objects (stages.Write t) = ⊤
+IsStageReady objects stages.Value = ⊤
+IsStageReady objects stages.Zero = ⊤
+
+abbrev pub IsReady : List (Option Object) → Job → Type 0
+IsReady objects job = IsStageReady objects job.stage

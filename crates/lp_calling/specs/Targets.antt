@@ -1,14 +1,24 @@
 -- What the arguments of efuns that call LPC tell.
-use Rattle.std.specs.Prelude.{⊤, ℕ, List, ◌∷◌, Bool, Option, Some, None, Result, Ok, Err, ◌≡◌, if◌then◌else◌}
+use Rattle.std.specs.Prelude.{⊤, ℕ, List, ◌∷◌, Bool, true, false, Option, Some, None, Result, Ok, Err, ◌≡◌, if◌then◌else◌}
 use Rattle.lp_values.specs.declared.id.ObjId.{ObjId}
 use Rattle.lp_values.specs.declared.value.Value.{Value}
-use Rattle.lp_values.specs.declared.value.Value.TheVariants.{Str}
+use Rattle.lp_values.specs.declared.value.Value.TheVariants.{Obj, Str}
 use Rattle.lp_values.specs.declared.error.RunError.{RunError}
 use Rattle.lp_ops.specs.declared.effect.Effect.{Effect}
 use Rattle.lp_ops.specs.declared.effect.Effect.TheVariants.{Fault, Gives}
 use Rattle.lp_ops.specs.Operands.{Opened, Chars, Object}
 use Rattle.lp_instr.specs.declared.efun.Efun.{Efun}
 use Rattle.lp_instr.specs.declared.efun.Efun.TheVariants as efuns
+use Rattle.lp_language.specs.World.{object_named}
+use Rattle.lp_language.specs.Course.{Course, State}
+use Rattle.lp_meaning.specs.Askers.{Asker}
+use Rattle.lp_meaning.specs.CallingEfuns.{with_target}
+use Rattle.lp_meaning.specs.EfunArguments.{arg, opened_args}
+use Rattle.lp_meaning.specs.FileLoads.{as_target}
+use Rattle.lp_meaning.specs.WorldSteps.{as_name, is_clone_name}
+use Rattle.lp_world.specs.declared.live.Live.{Live}
+use Rattle.lp_efuns.specs.declared.caller.Turn.{Turn}
+use Rattle.lp_efuns.specs.Turns.{At, Setting}
 use Rattle.lp_calling.specs.declared.job.Stage.{Stage}
 use Rattle.lp_calling.specs.declared.job.Stage.TheVariants as stages
 use Rattle.lp_calling.specs.declared.target.CallTarget.{CallTarget}
@@ -20,10 +30,38 @@ target_of (Object o) = targets.Live o
 target_of (Chars t) = targets.Named
 target_of _ = targets.Nothing
 
--- a text is the target of `call_other`
-abbrev pub IsNamedTarget : Efun → List Value → Type 0
-IsNamedTarget efuns.CallOther (Str t ∷ vs) = ⊤
-IsNamedTarget _ _ = ⊥
+-- such a target is live where it is an object
+abbrev pub IsTargetLive : (ObjId → Bool) → CallTarget → Type 0
+IsTargetLive live (targets.Live o) = live o ≡ true
+IsTargetLive live targets.Named = ⊤
+IsTargetLive live targets.Nothing = ⊤
+
+-- in no state for which the live state stands a live object has the name
+abbrev pub IsUnnamed : Live → List ℕ → Type 0
+IsUnnamed live name = (g : Setting) (turn : Turn) (budget : ℕ) (s : State) → At g live turn budget s → object_named s.world name ≡ None
+
+-- The target of `call_other` is a text whose object would have to be loaded: no live object has the name that it means, and that
+-- is no clone's.
+abbrev pub NeedsLoad : Live → Efun → List Value → Type 0
+NeedsLoad live efuns.CallOther (Str t ∷ vs) = IsUnnamed live (as_name t) × (is_clone_name (as_name t) ≡ false)
+NeedsLoad live _ _ = ⊥
+
+-- The target is a text that means this name, which no live object has.
+abbrev pub IsUnnamedTarget : Live → List Value → List ℕ → Type 0
+IsUnnamedTarget live (Str t ∷ vs) name = (name ≡ as_name t) × IsUnnamed live name
+IsUnnamedTarget live _ name = ⊥
+
+-- what `call_other` does with its target
+abbrev pub Targeted : Type 0
+Targeted = ObjId → State → Course Value
+
+-- In each state for which the live state stands the target is this object, or, where that is not live, none.
+abbrev pub IsNamed : Live → List Value → ObjId → Type 0
+IsNamed live vs o = (g : Setting) (turn : Turn) (budget : ℕ) (by : Asker) (s : State) (go : Targeted) → At g live turn budget s → with_target by (arg (opened_args s vs) 0) s go ≡ as_target (Obj o) s go
+
+-- In each such state it is this object.
+abbrev pub IsTarget : Live → List Value → ObjId → Type 0
+IsTarget live vs o = (g : Setting) (turn : Turn) (budget : ℕ) (by : Asker) (s : State) (go : Targeted) → At g live turn budget s → with_target by (arg (opened_args s vs) 0) s go ≡ go o s
 
 -- a text goes to an object, or to none
 abbrev pub told_stage : Option ObjId → List ℕ → Stage

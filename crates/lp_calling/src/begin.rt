@@ -9,8 +9,8 @@ ghost use Rattle.lp_ops.specs.Operands.{operand};
 ghost use Rattle.lp_world.specs.Rows.{live_in};
 ghost use Rattle.lp_step.specs.Steps.{IsFit};
 ghost use Rattle.lp_efuns.specs.Names.{AreNamed};
-ghost use Rattle.lp_calling.specs.Beginning.{Begins, IsBegunThere, Starts, is_calling};
-ghost use Rattle.lp_calling.specs.Targets.{IsNamedTarget};
+ghost use Rattle.lp_calling.specs.Beginning.{Begins, IsBegunReady, IsBegunThere, Starts, is_calling};
+ghost use Rattle.lp_calling.specs.Targets.{NeedsLoad};
 
 use crate::call::begin_call;
 use crate::ends::{begin_bad, begin_end};
@@ -18,10 +18,10 @@ use crate::items::begin_items;
 use crate::job::{Begun, CallingFault};
 use crate::laying::above;
 use crate::messages::{begin_printf, begin_tell, begin_write};
-use crate::shared::pay_wide;
 use lp_cells::cells::Cells;
 use lp_efuns::answer::Answer;
 use lp_efuns::caller::Caller;
+use lp_efuns::plain::pay_wide;
 use lp_instr::efun::Efun;
 use lp_value_efuns::fit::first_bad;
 use lp_value_efuns::price::price_before;
@@ -59,7 +59,8 @@ fn start(
     ensures starts { IfOk result (λ r. Starts r efun caller.now live.now low stack.old.items stack.new.items) }
     ensures fit { OnOk result (IsFit live.now stack.new.items) }
     ensures there { IfOk result (λ r. (cells : Store) → IsBegunThere cells r) }
-    ensures yet { IfErr result (λ f. f ≡ CallingFault.NotYet → IsNamedTarget efun (drop low stack.old.items)) }
+    ensures ready { IfOk result (IsBegunReady live.now.objects) }
+    ensures yet { IfErr result (λ f. f ≡ CallingFault.NotYet → NeedsLoad live.now efun (drop low stack.old.items)) }
 {
     match efun {
         Efun::CallOther => begin_call(live, stack, low),
@@ -101,7 +102,8 @@ fn bad_above(efun: Efun, stack: &Vec<Value>, low: usize, objects: &ObjectTable) 
 /// on as a job, or ends. Where it ends its arguments are gone from the stack. The job's values lie above what lay below them.
 ///
 /// # Errors
-/// `NotYet` where the target of `call_other` is a text. `NoMemory`.
+/// `NotYet` where the target of `call_other` is a text whose object would be loaded: no live object has the name, and it is no
+/// clone's. `NoMemory`.
 pub fn begin(
     live: &Live,
     caller: &Caller<'_>,
@@ -118,7 +120,8 @@ pub fn begin(
     ensures fit { OnOk result (IsFit live.now stack.new.items) }
     ensures there { IfOk result (IsBegunThere live.now.cells) }
     ensures spends { budget.new ≤ budget.old }
-    ensures yet { IfErr result (λ f. f ≡ CallingFault.NotYet → IsNamedTarget efun (drop (length stack.old.items - args) stack.old.items)) }
+    ensures ready { IfOk result (IsBegunReady live.now.objects) }
+    ensures yet { IfErr result (λ f. f ≡ CallingFault.NotYet → NeedsLoad live.now efun (drop (length stack.old.items - args) stack.old.items)) }
 {
     let low = stack.len() - args;
     let before = price_above(efun, stack, low, &live.cells, &live.objects);

@@ -1,35 +1,39 @@
 //! `call_other`.
-ghost use Rattle.std.specs.Prelude.{◌≡◌, ◌≤◌, IfErr, IfOk, OnOk, drop, length, map};
+ghost use Rattle.std.specs.Prelude.{◌≡◌, ◌≤◌, IfErr, IfOk, IsSome, OnOk, drop, length, map, true};
+ghost use Rattle.std.specs.Str.{chars};
 ghost use Rattle.lp_cells.specs.Cells.{Store};
 ghost use Rattle.lp_ops.specs.Operands.{operand};
 ghost use Rattle.lp_meaning.specs.EfunArguments.{arg};
-ghost use Rattle.lp_world.specs.Rows.{live_in};
+ghost use Rattle.lp_world.specs.Rows.{live_in, row_at};
 ghost use Rattle.lp_efuns.specs.declared.caller.Turn.{Turn};
 ghost use Rattle.lp_step.specs.Steps.{IsFit};
-ghost use Rattle.lp_calling.specs.Beginning.{IsBegunThere, Starts};
-ghost use Rattle.lp_calling.specs.Going.{IsStepThere, StageGoes};
-ghost use Rattle.lp_calling.specs.Targets.{IsNamedTarget, target_of};
+ghost use Rattle.lp_calling.specs.Beginning.{IsBegunReady, IsBegunThere, Starts};
+ghost use Rattle.lp_calling.specs.Going.{IsAskedThere, IsStepThere, StageGoes};
+ghost use Rattle.lp_calling.specs.Targets.{IsNamed, IsTarget, IsUnnamedTarget, NeedsLoad, target_of};
 ghost use Rattle.lp_calling.specs.declared.target.CallTarget.TheVariants as targets;
 
 use crate::ends::begin_error;
 use crate::job::{Begun, CallingFault, Job, Question, Stage, Step};
 use crate::laying::above;
-use crate::shared::text_shared;
-use crate::target::{CallTarget, target};
+use crate::target::{CallTarget, is_clone_name, target};
+use lp_efuns::arguments::{text_at, text_shared};
+use lp_efuns::names::as_name;
 use lp_instr::efun::Efun;
 use lp_values::error::ErrorKind;
 use lp_values::id::ObjId;
 use lp_values::text::Text;
-use lp_values::value::Value;
+use lp_values::value::{Living, Value};
 use lp_world::live::Live;
 use std::alloc::AllocError;
 
 /// `call_other` of a live object goes on as a job. Its values are its arguments, where they lie.
 fn begin_live(live: &Live, stack: &Vec<Value>, low: usize, o: ObjId) -> Result<Begun, CallingFault>
     requires low { low ≤ length stack.now.items }
-    requires target { (cells : Store) → targets.Live o ≡ target_of (arg (map (operand (live_in live.now.objects) cells) (drop low stack.now.items)) 0) }
+    requires live { live_in live.now.objects o ≡ true }
+    requires target { IsTarget live.now (drop low stack.now.items) o }
     ensures starts { IfOk result (λ r. (caller : _) → Starts r Efun.CallOther caller live.now low stack.now.items stack.now.items) }
     ensures there { IfOk result (λ r. (cells : Store) → IsBegunThere cells r) }
+    ensures ready { IfOk result (IsBegunReady live.now.objects) }
     ensures fault { IfErr result (λ f. f ≡ CallingFault.NoMemory) }
 {
     let name = text_shared(live.alloc, above(stack, low), 1)?;
@@ -38,6 +42,66 @@ fn begin_live(live: &Live, stack: &Vec<Value>, low: usize, o: ObjId) -> Result<B
         low,
         stage: Stage::Call(o, name),
     }))
+}
+
+/// `call_other` begins whose target names an object. One that is not live is an error.
+fn begin_found(
+    live: &Live,
+    stack: &mut Vec<Value>,
+    low: usize,
+    o: ObjId,
+) -> Result<Begun, CallingFault>
+    requires low { low ≤ length stack.old.items }
+    requires named { IsNamed live.now (drop low stack.old.items) o }
+    ensures starts { IfOk result (λ r. (caller : _) → Starts r Efun.CallOther caller live.now low stack.old.items stack.new.items) }
+    ensures fit { OnOk result (IsFit live.now stack.old.items → IsFit live.now stack.new.items) }
+    ensures there { IfOk result (λ r. (cells : Store) → IsBegunThere cells r) }
+    ensures ready { IfOk result (IsBegunReady live.now.objects) }
+    ensures fault { IfErr result (λ f. f ≡ CallingFault.NoMemory) }
+{
+    if live.objects.is_live(o) {
+        return begin_live(live, stack, low, o);
+    }
+    begin_error(live.alloc, stack, low, ErrorKind::BadTarget)
+}
+
+/// `call_other` begins whose target is a text that means a name which no live object has. A clone's name is an error; an object
+/// of another name would be loaded.
+fn begin_unnamed(
+    live: &Live,
+    stack: &mut Vec<Value>,
+    low: usize,
+    name: &str,
+) -> Result<Begun, CallingFault>
+    requires low { low ≤ length stack.old.items }
+    requires unnamed { IsUnnamedTarget live.now (drop low stack.old.items) (chars name.now) }
+    ensures starts { IfOk result (λ r. (caller : _) → Starts r Efun.CallOther caller live.now low stack.old.items stack.new.items) }
+    ensures fit { OnOk result (IsFit live.now stack.old.items → IsFit live.now stack.new.items) }
+    ensures there { IfOk result (λ r. (cells : Store) → IsBegunThere cells r) }
+    ensures ready { IfOk result (IsBegunReady live.now.objects) }
+    ensures yet { IfErr result (λ f. f ≡ CallingFault.NotYet → NeedsLoad live.now Efun.CallOther (drop low stack.old.items)) }
+{
+    if is_clone_name(name) {
+        return begin_error(live.alloc, stack, low, ErrorKind::BadTarget);
+    }
+    Err(CallingFault::NotYet)
+}
+
+/// `call_other` begins whose target is a text: the live object with the name that it means.
+fn begin_named(live: &Live, stack: &mut Vec<Value>, low: usize) -> Result<Begun, CallingFault>
+    requires low { low ≤ length stack.old.items }
+    requires target { (cells : Store) → targets.Named ≡ target_of (arg (map (operand (live_in live.now.objects) cells) (drop low stack.old.items)) 0) }
+    ensures starts { IfOk result (λ r. (caller : _) → Starts r Efun.CallOther caller live.now low stack.old.items stack.new.items) }
+    ensures fit { OnOk result (IsFit live.now stack.old.items → IsFit live.now stack.new.items) }
+    ensures there { IfOk result (λ r. (cells : Store) → IsBegunThere cells r) }
+    ensures ready { IfOk result (IsBegunReady live.now.objects) }
+    ensures yet { IfErr result (λ f. f ≡ CallingFault.NotYet → NeedsLoad live.now Efun.CallOther (drop low stack.old.items)) }
+{
+    let name = as_name(live.alloc, text_at(above(stack, low), 0))?;
+    match live.names.find(name.as_str()) {
+        Some(o) => begin_found(live, stack, low, o),
+        None => begin_unnamed(live, stack, low, name.as_str()),
+    }
 }
 
 /// `call_other` begins. Another target than a live object or a text is an error.
@@ -50,11 +114,12 @@ pub(crate) fn begin_call(
     ensures starts { IfOk result (λ r. (caller : _) → Starts r Efun.CallOther caller live.now low stack.old.items stack.new.items) }
     ensures fit { OnOk result (IsFit live.now stack.old.items → IsFit live.now stack.new.items) }
     ensures there { IfOk result (λ r. (cells : Store) → IsBegunThere cells r) }
-    ensures yet { IfErr result (λ f. f ≡ CallingFault.NotYet → IsNamedTarget Efun.CallOther (drop low stack.old.items)) }
+    ensures ready { IfOk result (IsBegunReady live.now.objects) }
+    ensures yet { IfErr result (λ f. f ≡ CallingFault.NotYet → NeedsLoad live.now Efun.CallOther (drop low stack.old.items)) }
 {
     match target(above(stack, low), &live.objects) {
         CallTarget::Live(o) => begin_live(live, stack, low, o),
-        CallTarget::Named => Err(CallingFault::NotYet),
+        CallTarget::Named => begin_named(live, stack, low),
         CallTarget::Nothing => begin_error(live.alloc, stack, low, ErrorKind::BadTarget),
     }
 }
@@ -79,6 +144,7 @@ pub(crate) fn ask_call(
     requires low { low ≤ length stack.now.items }
     ensures goes { IfOk result (λ r. (live : _) (turn : Turn) (budget : _) → StageGoes r efun (Stage.Call o name.now) low live turn stack.now.items budget live stack.now.items budget) }
     ensures there { IfOk result (λ r. (cells : Store) → IsStepThere cells r) }
+    ensures asked { IfOk result (λ r. (objects : _) → IsSome (row_at objects o.0) → IsAskedThere objects r) }
 {
     let n = count_behind(stack, low);
     Ok(Step::Asks(Question::Other(o, name.copy()?), n))

@@ -1,20 +1,21 @@
 //! Ends of efuns.
-ghost use Rattle.std.specs.Prelude.{◌≡◌, ◌<◌, ◌≤◌, IfErr, IfOk, OnOk, length, take};
+ghost use Rattle.std.specs.Prelude.{◌≡◌, ◌<◌, ◌≤◌, IfErr, IfOk, List, OnOk, Option, length, take};
 ghost use Rattle.lp_values.specs.Errors.{bad_arg, plain};
 ghost use Rattle.lp_cells.specs.Cells.{Store};
 ghost use Rattle.lp_instr.specs.EfunList.{efun_name};
 ghost use Rattle.lp_efuns.specs.declared.answer.Answer.{Answer as A};
 ghost use Rattle.lp_efuns.specs.declared.caller.Turn.{Turn};
 ghost use Rattle.lp_step.specs.Steps.{IsFit};
-ghost use Rattle.lp_calling.specs.Beginning.{IsBegunThere};
-ghost use Rattle.lp_calling.specs.Going.{IsStepThere, StageGoes};
+ghost use Rattle.lp_world.specs.declared.objects.Object.{Object};
+ghost use Rattle.lp_calling.specs.Beginning.{IsBegunReady, IsBegunThere};
+ghost use Rattle.lp_calling.specs.Going.{IsAskedThere, IsStepThere, StageGoes};
 ghost use Rattle.lp_calling.specs.declared.job.Begun.{Begun as B};
 ghost use Rattle.lp_calling.specs.declared.job.Step.{Step as S};
 
 use crate::job::{Begun, CallingFault, Stage, Step};
 use crate::laying::{cut, take_at};
-use crate::shared::{bad_of, finish};
 use lp_efuns::answer::{Answer, Did};
+use lp_efuns::plain::{bad_argument, finish};
 use lp_instr::efun::Efun;
 use lp_values::error::{ErrorKind, RunError};
 use lp_values::value::Value;
@@ -40,6 +41,7 @@ pub(crate) fn begin_error(
 ) -> Result<Begun, CallingFault>
     ensures ends { IfOk result (λ r. (r ≡ B.Ends (A.Error (plain kind))) × (stack.new.items ≡ take low stack.old.items)) }
     ensures there { IfOk result (λ r. (cells : Store) → IsBegunThere cells r) }
+    ensures ready { IfOk result (λ r. (objects : List (Option Object)) → IsBegunReady objects r) }
     ensures keeps { OnOk result ((live : _) → IsFit live stack.old.items → IsFit live stack.new.items) }
     ensures fault { IfErr result (λ f. f ≡ CallingFault.NoMemory) }
 {
@@ -57,11 +59,12 @@ pub(crate) fn begin_bad(
 ) -> Result<Begun, CallingFault>
     ensures ends { IfOk result (λ r. (r ≡ B.Ends (A.Error (bad_arg number (efun_name efun)))) × (stack.new.items ≡ take low stack.old.items)) }
     ensures there { IfOk result (λ r. (cells : Store) → IsBegunThere cells r) }
+    ensures ready { IfOk result (λ r. (objects : List (Option Object)) → IsBegunReady objects r) }
     ensures keeps { OnOk result ((live : _) → IsFit live stack.old.items → IsFit live stack.new.items) }
     ensures fault { IfErr result (λ f. f ≡ CallingFault.NoMemory) }
 {
-    let error = bad_of(alloc, efun, number)?;
-    Ok(begin_end(stack, low, Answer::Error(error)))
+    let answer = bad_argument(alloc, efun, number)?;
+    Ok(begin_end(stack, low, answer))
 }
 
 /// A job ends with the first of its values, once the price of that is paid.
@@ -77,6 +80,7 @@ pub(crate) fn end_value(
     ensures goes { (turn : Turn) → StageGoes result efun Stage.Value low live.now turn stack.old.items budget.old live.now stack.new.items budget.new }
     ensures fit { IsFit live.now stack.new.items }
     ensures there { IsStepThere live.now.cells result }
+    ensures asked { (objects : List (Option Object)) → IsAskedThere objects result }
     ensures spends { budget.new ≤ budget.old }
 {
     let v = take_at(stack, low);
@@ -95,6 +99,7 @@ pub(crate) fn end_zero(
     ensures goes { (turn : Turn) → StageGoes result efun Stage.Zero low live.now turn stack.old.items budget.old live.now stack.new.items budget.new }
     ensures fit { IsFit live.now stack.new.items }
     ensures there { IsStepThere live.now.cells result }
+    ensures asked { (objects : List (Option Object)) → IsAskedThere objects result }
     ensures spends { budget.new ≤ budget.old }
 {
     cut(stack, low);
@@ -116,6 +121,7 @@ pub(crate) fn end_error(
 ) -> Result<Step, AllocError>
     ensures ends { IfOk result (λ r. (r ≡ S.Ends (A.Error (plain kind))) × (stack.new.items ≡ take low stack.old.items)) }
     ensures there { IfOk result (λ r. (cells : Store) → IsStepThere cells r) }
+    ensures asked { IfOk result (λ r. (objects : List (Option Object)) → IsAskedThere objects r) }
     ensures keeps { OnOk result ((live : _) → IsFit live stack.old.items → IsFit live stack.new.items) }
 {
     let error = RunError::plain(alloc, kind)?;

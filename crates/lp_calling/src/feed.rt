@@ -1,10 +1,11 @@
 //! Jobs are told what was answered.
-ghost use Rattle.std.specs.Prelude.{◌≡◌, ◌<◌, ◌≤◌, IfOk, OnOk, length};
+ghost use Rattle.std.specs.Prelude.{◌≡◌, ◌<◌, ◌≤◌, IfOk, List, OnOk, Option, length};
 ghost use Rattle.lp_cells.specs.Cells.{IsThere};
 ghost use Rattle.lp_world.specs.Rows.{live_in};
+ghost use Rattle.lp_world.specs.declared.objects.Object.{Object};
 ghost use Rattle.lp_step.specs.Steps.{IsFit};
 ghost use Rattle.lp_calling.specs.Going.{StageTakes, Takes};
-ghost use Rattle.lp_calling.specs.Jobs.{IsAsking, IsJobOn, IsStageAsking, IsStageOn, questions_left, stage_left};
+ghost use Rattle.lp_calling.specs.Jobs.{IsAsking, IsJobOn, IsReady, IsStageAsking, IsStageOn, IsStageReady, questions_left, stage_left};
 
 use crate::items::take_item;
 use crate::job::{Job, Stage};
@@ -21,6 +22,7 @@ fn take_value(stack: &mut Vec<Value>, low: usize, v: Value) -> Result<Stage, All
     ensures takes { IfOk result (λ t. (o : _) (name : _) (live : _) → StageTakes (Stage.Call o name) v live low stack.old.items t stack.new.items) }
     ensures on { IfOk result (λ t. IsStageOn t low (length stack.new.items)) }
     ensures less { IfOk result (λ t. stage_left t < 1) }
+    ensures ready { IfOk result (λ t. (objects : List (Option Object)) → IsStageReady objects t) }
     ensures fit { OnOk result ((l : _) → IsThere l.cells v → IsFit l stack.old.items → IsFit l stack.new.items) }
 {
     put_at(stack, low, v)?;
@@ -40,6 +42,7 @@ fn taken(
     ensures takes { IfOk result (λ t. StageTakes stage v (live_in objects.now) low stack.old.items t stack.new.items) }
     ensures on { IfOk result (λ t. IsStageOn t low (length stack.new.items)) }
     ensures less { IfOk result (λ t. stage_left t < stage_left stage) }
+    ensures ready { IfOk result (λ t. (rows : List (Option Object)) → IsStageReady rows t) }
     ensures fit { OnOk result ((l : _) → IsThere l.cells v → IsFit l stack.old.items → IsFit l stack.new.items) }
 {
     match stage {
@@ -65,6 +68,7 @@ pub fn feed(job: &mut Job, live: &Live, stack: &mut Vec<Value>, v: Value) -> Res
     ensures takes { OnOk result (Takes job.old v live.now stack.old.items job.new stack.new.items) }
     ensures on { OnOk result (IsJobOn job.new stack.new.items) }
     ensures less { OnOk result (questions_left job.new < questions_left job.old) }
+    ensures ready { OnOk result ((objects : List (Option Object)) → IsReady objects job.new) }
     ensures fit { OnOk result (IsFit live.now stack.new.items) }
 {
     let stage = mem::replace(&mut job.stage, Stage::Zero);

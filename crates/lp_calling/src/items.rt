@@ -1,5 +1,5 @@
 //! `filter` and `map`.
-ghost use Rattle.std.specs.Prelude.{◌≡◌, ◌+◌, ◌-◌, ◌<◌, ◌≤◌, ◌++◌, All, IfErr, IfOk, OnOk, Some, drop, false, length, map, slice_get, take, true};
+ghost use Rattle.std.specs.Prelude.{◌≡◌, ◌+◌, ◌-◌, ◌<◌, ◌≤◌, ◌++◌, All, IfErr, IfOk, List, OnOk, Option, Some, drop, false, length, map, slice_get, take, true};
 ghost use Rattle.lp_values.specs.declared.value.Value.{Value as V};
 ghost use Rattle.lp_cells.specs.Cells.{IsClosed as AreClosed};
 ghost use Rattle.lp_cells.specs.Cells.{IsThere, KeepsThere, Store, with_cell};
@@ -9,21 +9,24 @@ ghost use Rattle.lp_meaning.specs.EfunArguments.{items_arg};
 ghost use Rattle.lp_world.specs.Closed.{IsClosed};
 ghost use Rattle.lp_world.specs.Rows.{live_in};
 ghost use Rattle.lp_world.specs.declared.live.Live.{Live as L};
+ghost use Rattle.lp_world.specs.declared.objects.Object.{Object};
 ghost use Rattle.lp_efuns.specs.Subjects.{subject};
 ghost use Rattle.lp_efuns.specs.declared.caller.Caller.{Caller as C};
 ghost use Rattle.lp_efuns.specs.declared.caller.Turn.{Turn};
 ghost use Rattle.lp_step.specs.Steps.{IsFit};
-ghost use Rattle.lp_calling.specs.Beginning.{IsBegunThere, Starts};
-ghost use Rattle.lp_calling.specs.Going.{IsStepThere, StageGoes, StageTakes};
-ghost use Rattle.lp_calling.specs.Jobs.{IsStageOn, added, round_efun, stage_left};
+ghost use Rattle.lp_calling.specs.Beginning.{IsBegunReady, IsBegunThere, Starts};
+ghost use Rattle.lp_calling.specs.Going.{IsAskedThere, IsStepThere, StageGoes, StageTakes};
+ghost use Rattle.lp_calling.specs.Jobs.{IsStageOn, IsStageReady, added, round_efun, stage_left};
 
 use crate::ends::{begin_bad, end_error};
 use crate::job::{Begun, CallingFault, Job, Question, Round, Stage, Step};
 use crate::laying::{above, copy_up, cut, put_all};
-use crate::shared::{finish, subject, text_shared};
 use lp_cells::cells::Cells;
 use lp_efuns::answer::Did;
+use lp_efuns::arguments::text_shared;
 use lp_efuns::caller::Caller;
+use lp_efuns::plain::finish;
+use lp_efuns::subjects::subject;
 use lp_instr::efun::Efun;
 use lp_value_efuns::argument::{argument, items_in};
 use lp_values::error::ErrorKind;
@@ -75,6 +78,7 @@ fn begin_round(
     ensures starts { IfOk result (λ r. (caller : C) → ((cells : Store) → Some o ≡ subject (live_in live.now.objects) caller.this (map (operand (live_in live.now.objects) cells) (drop low stack.old.items)) 2) → Starts r (round_efun is_filter) caller live.now low stack.old.items stack.new.items) }
     ensures fit { OnOk result (IsFit live.now stack.new.items) }
     ensures there { IfOk result (λ r. (cells : Store) → IsBegunThere cells r) }
+    ensures ready { IfOk result (λ r. (objects : List (Option Object)) → IsBegunReady objects r) }
     ensures fault { IfErr result (λ f. f ≡ CallingFault.NoMemory) }
 {
     let arguments = stack.len() - low;
@@ -107,6 +111,7 @@ pub(crate) fn begin_items(
     ensures starts { IfOk result (λ r. Starts r (round_efun is_filter) caller.now live.now low stack.old.items stack.new.items) }
     ensures fit { OnOk result (IsFit live.now stack.new.items) }
     ensures there { IfOk result (λ r. (cells : Store) → IsBegunThere cells r) }
+    ensures ready { IfOk result (λ r. (objects : List (Option Object)) → IsBegunReady objects r) }
     ensures fault { IfErr result (λ f. f ≡ CallingFault.NoMemory) }
 {
     match subject(above(stack, low), 2, caller.this, &live.objects) {
@@ -150,6 +155,7 @@ fn ask_item(round: &Round, stack: &mut Vec<Value>, low: usize) -> Result<Step, A
     ensures goes { IfOk result (λ r. (efun : _) (live : L) (turn : Turn) (budget : _) → live_in live.objects round.now.object ≡ true → StageGoes r efun (Stage.Items round.now) low live turn stack.old.items budget live stack.new.items budget) }
     ensures fit { OnOk result ((l : L) → IsFit l stack.old.items → IsFit l stack.new.items) }
     ensures there { IfOk result (λ r. (cells : Store) → IsStepThere cells r) }
+    ensures asked { IfOk result (λ r. (objects : List (Option Object)) → live_in objects round.now.object ≡ true → IsAskedThere objects r) }
 {
     let item = low + (round.arguments + round.done);
     lay_question(stack, low, round.arguments, item)?;
@@ -195,6 +201,7 @@ fn end_items(
     ensures closed { IsClosed live.new }
     ensures fit { OnOk result (IsFit live.new stack.new.items) }
     ensures there { IfOk result (IsStepThere live.new.cells) }
+    ensures asked { IfOk result (IsAskedThere live.new.objects) }
     ensures stay { KeepsThere live.old.cells live.new.cells }
     ensures spends { budget.new ≤ budget.old }
     ensures objects { live.new.objects ≡ live.old.objects }
@@ -219,6 +226,7 @@ fn end_dead(
     ensures goes { IfOk result (λ r. (efun : _) (turn : Turn) (budget : _) → StageGoes r efun (Stage.Items round.now) low live.now turn stack.old.items budget live.now stack.new.items budget) }
     ensures fit { OnOk result ((l : L) → IsFit l stack.old.items → IsFit l stack.new.items) }
     ensures there { IfOk result (λ r. (cells : Store) → IsStepThere cells r) }
+    ensures asked { IfOk result (λ r. (objects : List (Option Object)) → IsAskedThere objects r) }
 {
     end_error(live.alloc, stack, low, ErrorKind::BadTarget)
 }
@@ -239,6 +247,7 @@ pub(crate) fn step_items(
     ensures closed { IsClosed live.new }
     ensures fit { OnOk result (IsFit live.new stack.new.items) }
     ensures there { IfOk result (IsStepThere live.new.cells) }
+    ensures asked { IfOk result (IsAskedThere live.new.objects) }
     ensures stay { KeepsThere live.old.cells live.new.cells }
     ensures spends { budget.new ≤ budget.old }
     ensures objects { live.new.objects ≡ live.old.objects }
@@ -291,6 +300,7 @@ pub(crate) fn take_item(
     ensures takes { IfOk result (λ t. StageTakes (Stage.Items round) v (live_in objects.now) low stack.old.items t stack.new.items) }
     ensures on { IfOk result (λ t. IsStageOn t low (length stack.new.items)) }
     ensures less { IfOk result (λ t. stage_left t < round.count - round.done) }
+    ensures ready { IfOk result (λ t. (objects : List (Option Object)) → IsStageReady objects t) }
     ensures fit { OnOk result ((l : L) → IsThere l.cells v → IsFit l stack.old.items → IsFit l stack.new.items) }
 {
     let at = low + (round.arguments + round.done);

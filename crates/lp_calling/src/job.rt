@@ -88,8 +88,8 @@ pub enum CallingFault {
     /// Memory ran out.
     #[error("out of memory")]
     NoMemory,
-    /// The target of `call_other` is a text, whose object would be loaded. That comes once the price before is paid and the
-    /// arguments are of their kinds, and with no other efun or target.
+    /// The target of `call_other` is a text whose object would be loaded: no live object has the name that it means, and that is
+    /// no clone's. It comes once the price before is paid and the arguments are of their kinds, and with no other efun or target.
     #[error("not carried out yet")]
     NotYet,
 }

@@ -1,5 +1,5 @@
 //! `tell_object`, `write` and `printf`.
-ghost use Rattle.std.specs.Prelude.{◌≡◌, ◌≤◌, ◌++◌, ◌∷◌, [], All, IfErr, IfOk, IfSome, MatchResult, List, OnOk, Result, Err, Some, None, ℕ, drop, length, map, true};
+ghost use Rattle.std.specs.Prelude.{◌≡◌, ◌≤◌, ◌++◌, ◌∷◌, [], All, IfErr, IfOk, IfSome, MatchResult, List, OnOk, Option, Result, Err, Some, None, ℕ, drop, length, map, true};
 ghost use Rattle.std.specs.Option.{option_map};
 ghost use Rattle.lp_values.specs.declared.id.ObjId.{ObjId as Oid};
 ghost use Rattle.lp_values.specs.declared.value.Value.{Value as V};
@@ -17,21 +17,23 @@ ghost use Rattle.lp_world.specs.Closed.{IsClosed};
 ghost use Rattle.lp_world.specs.Rows.{live_in};
 ghost use Rattle.lp_world.specs.Stands.{IsPart};
 ghost use Rattle.lp_world.specs.declared.live.Live.{Live as L};
+ghost use Rattle.lp_world.specs.declared.objects.Object.{Object};
 ghost use Rattle.lp_efuns.specs.Names.{AreNamed, name_at};
 ghost use Rattle.lp_efuns.specs.Subjects.{number_of};
 ghost use Rattle.lp_efuns.specs.declared.caller.Turn.{Turn as T};
 ghost use Rattle.lp_step.specs.Steps.{IsFit};
-ghost use Rattle.lp_calling.specs.Beginning.{IsBegunThere, Starts};
-ghost use Rattle.lp_calling.specs.Going.{IsStepThere, StageGoes};
+ghost use Rattle.lp_calling.specs.Beginning.{IsBegunReady, IsBegunThere, Starts};
+ghost use Rattle.lp_calling.specs.Going.{IsAskedThere, IsStepThere, StageGoes};
 ghost use Rattle.lp_calling.specs.Targets.{Prints, reader, told_stage};
 
 use crate::ends::{begin_end, end_zero};
 use crate::job::{Begun, CallingFault, Job, Question, Stage, Step};
-use crate::known::KnownObjects;
 use crate::laying::above;
-use crate::shared::{bad_of, object_at, text_shared};
 use lp_efuns::answer::Answer;
+use lp_efuns::arguments::text_shared;
 use lp_efuns::caller::Turn;
+use lp_efuns::known::KnownObjects;
+use lp_efuns::subjects::object_at;
 use lp_events::out::Out;
 use lp_format::fault::FormatFault;
 use lp_format::sprintf::sprintf;
@@ -64,6 +66,7 @@ pub(crate) fn begin_tell(live: &Live, stack: &Vec<Value>, low: usize) -> Result<
     requires low { low ≤ length stack.now.items }
     ensures starts { IfOk result (λ r. (caller : _) → Starts r Efun.TellObject caller live.now low stack.now.items stack.now.items) }
     ensures there { IfOk result (λ r. (cells : Store) → IsBegunThere cells r) }
+    ensures ready { IfOk result (λ r. (objects : List (Option Object)) → IsBegunReady objects r) }
     ensures fault { IfErr result (λ f. f ≡ CallingFault.NoMemory) }
 {
     let text = text_shared(live.alloc, above(stack, low), 1)?;
@@ -109,6 +112,7 @@ pub(crate) fn begin_write(
     requires low { low ≤ length stack.now.items }
     ensures starts { IfOk result (λ r. (caller : _) → Starts r Efun.Write caller live.now low stack.now.items stack.now.items) }
     ensures there { IfOk result (λ r. (cells : Store) → IsBegunThere cells r) }
+    ensures ready { IfOk result (λ r. (objects : List (Option Object)) → IsBegunReady objects r) }
     ensures fault { IfErr result (λ f. f ≡ CallingFault.NoMemory) }
 {
     let text = written_text(live, above(stack, low))?;
@@ -126,7 +130,7 @@ fn format_error(alloc: Global, fault: FormatFault) -> Result<RunError, AllocErro
     match fault {
         FormatFault::BadFormat { .. } => RunError::plain(alloc, ErrorKind::BadFormat),
         FormatFault::TooFewArgs => RunError::plain(alloc, ErrorKind::TooFewArgs),
-        FormatFault::BadArg { n } => bad_of(alloc, Efun::Printf, n),
+        FormatFault::BadArg { n } => RunError::bad_arg(alloc, n, Efun::Printf.name()),
         FormatFault::TooLong => RunError::plain(alloc, ErrorKind::TextTooLong),
         FormatFault::NoMemory => Err(AllocError),
     }
@@ -162,6 +166,7 @@ pub(crate) fn begin_printf(
     ensures starts { IfOk result (λ r. (caller : _) → Starts r Efun.Printf caller live.now low stack.old.items stack.new.items) }
     ensures fit { OnOk result (IsFit live.now stack.new.items) }
     ensures there { IfOk result (λ r. (cells : Store) → IsBegunThere cells r) }
+    ensures ready { IfOk result (λ r. (objects : List (Option Object)) → IsBegunReady objects r) }
     ensures fault { IfErr result (λ f. f ≡ CallingFault.NoMemory) }
 {
     match printed(live, above(stack, low))? {
@@ -202,6 +207,7 @@ fn tell_out(
     ensures closed { IsClosed live.new }
     ensures fit { OnOk result (IsFit live.new stack.new.items) }
     ensures there { IfOk result (IsStepThere live.new.cells) }
+    ensures asked { IfOk result (IsAskedThere live.new.objects) }
     ensures cells { live.new.cells ≡ live.old.cells }
     ensures spends { budget.new ≤ budget.old }
     ensures objects { live.new.objects ≡ live.old.objects }
@@ -238,6 +244,7 @@ fn tell_live(
     ensures closed { IsClosed live.new }
     ensures fit { OnOk result (IsFit live.new stack.new.items) }
     ensures there { IfOk result (IsStepThere live.new.cells) }
+    ensures asked { IfOk result (IsAskedThere live.new.objects) }
     ensures cells { live.new.cells ≡ live.old.cells }
     ensures spends { budget.new ≤ budget.old }
     ensures objects { live.new.objects ≡ live.old.objects }
@@ -268,6 +275,7 @@ pub(crate) fn step_tell(
     ensures closed { IsClosed live.new }
     ensures fit { OnOk result (IsFit live.new stack.new.items) }
     ensures there { IfOk result (IsStepThere live.new.cells) }
+    ensures asked { IfOk result (IsAskedThere live.new.objects) }
     ensures cells { live.new.cells ≡ live.old.cells }
     ensures spends { budget.new ≤ budget.old }
     ensures objects { live.new.objects ≡ live.old.objects }
@@ -305,6 +313,7 @@ pub(crate) fn step_write(
     ensures closed { IsClosed live.new }
     ensures fit { OnOk result (IsFit live.new stack.new.items) }
     ensures there { IfOk result (IsStepThere live.new.cells) }
+    ensures asked { IfOk result (IsAskedThere live.new.objects) }
     ensures cells { live.new.cells ≡ live.old.cells }
     ensures spends { budget.new ≤ budget.old }
     ensures objects { live.new.objects ≡ live.old.objects }

@@ -3,8 +3,8 @@ ghost use Rattle.std.specs.Prelude.{◌≡◌, ◌≤◌, IfOk, OnOk, length, ta
 ghost use Rattle.lp_cells.specs.Cells.{KeepsThere};
 ghost use Rattle.lp_world.specs.Closed.{IsClosed};
 ghost use Rattle.lp_step.specs.Steps.{IsFit, KeepsVariables};
-ghost use Rattle.lp_calling.specs.Going.{Goes, IsStepThere, StageGoes, Waits};
-ghost use Rattle.lp_calling.specs.Jobs.{IsJobOn, IsStageOn, questions_left};
+ghost use Rattle.lp_calling.specs.Going.{Goes, IsAskedThere, IsStepThere, StageGoes, Waits};
+ghost use Rattle.lp_calling.specs.Jobs.{IsJobOn, IsReady, IsStageOn, IsStageReady, questions_left};
 
 use crate::call::ask_call;
 use crate::ends::{end_value, end_zero};
@@ -29,11 +29,13 @@ fn go(
     budget: &mut u64,
 ) -> Result<Step, AllocError>
     requires on { IsStageOn stage.now low (length stack.old.items) }
+    requires ready { IsStageReady live.old.objects stage.now }
     requires fit { IsFit live.old stack.old.items }
     ensures goes { IfOk result (λ r. StageGoes r efun stage.now low live.old turn.now stack.old.items budget.old live.new stack.new.items budget.new) }
     ensures closed { IsClosed live.new }
     ensures fit { OnOk result (IsFit live.new stack.new.items) }
     ensures there { IfOk result (IsStepThere live.new.cells) }
+    ensures asked { IfOk result (IsAskedThere live.new.objects) }
     ensures stay { KeepsThere live.old.cells live.new.cells }
     ensures spends { budget.new ≤ budget.old }
     ensures objects { live.new.objects ≡ live.old.objects }
@@ -62,6 +64,7 @@ pub fn next(
     budget: &mut u64,
 ) -> Result<Step, AllocError>
     requires on { IsJobOn job.old stack.old.items }
+    requires ready { IsReady live.old.objects job.old }
     requires fit { IsFit live.old stack.old.items }
     ensures goes { IfOk result (λ r. Goes r job.old live.old turn.now stack.old.items budget.old job.new live.new stack.new.items budget.new) }
     ensures waits { IfOk result (λ r. Waits r job.new stack.new.items) }
@@ -69,6 +72,7 @@ pub fn next(
     ensures closed { IsClosed live.new }
     ensures fit { OnOk result (IsFit live.new stack.new.items) }
     ensures there { IfOk result (IsStepThere live.new.cells) }
+    ensures asked { IfOk result (IsAskedThere live.new.objects) }
     ensures stay { KeepsThere live.old.cells live.new.cells }
     ensures spends { budget.new ≤ budget.old }
     ensures variables { KeepsVariables live.old.objects live.new.objects }

@@ -1,9 +1,11 @@
 //! Targets of calls.
 ghost use Rattle.std.specs.Prelude.{◌≡◌, map};
+ghost use Rattle.std.specs.Str.{chars};
 ghost use Rattle.lp_cells.specs.Cells.{Store};
 ghost use Rattle.lp_ops.specs.Operands.{operand};
 ghost use Rattle.lp_meaning.specs.EfunArguments.{arg};
-ghost use Rattle.lp_calling.specs.Targets.{target_of};
+ghost use Rattle.lp_meaning.specs.WorldSteps.{is_clone_name};
+ghost use Rattle.lp_calling.specs.Targets.{IsTargetLive, target_of};
 
 use lp_values::id::ObjId;
 use lp_values::value::{Living, Value};
@@ -21,7 +23,8 @@ pub enum CallTarget {
 
 /// What a value names as the target of a call.
 fn target_of<L: Living>(v: &Value, live: &L) -> CallTarget
-    ensures { (cells : Store) → result ≡ target_of (operand (L.live live.now) cells v.now) }
+    ensures value { (cells : Store) → result ≡ target_of (operand (L.live live.now) cells v.now) }
+    ensures live { IsTargetLive (L.live live.now) result }
 {
     match v {
         Value::Obj(o) => if live.is_live(*o) {
@@ -36,10 +39,24 @@ fn target_of<L: Living>(v: &Value, live: &L) -> CallTarget
 
 /// What the first argument names as the target of a call. Takes no memory.
 pub(crate) fn target<L: Living>(args: &[Value], live: &L) -> CallTarget
-    ensures { (cells : Store) → result ≡ target_of (arg (map (operand (L.live live.now) cells) args.now) 0) }
+    ensures value { (cells : Store) → result ≡ target_of (arg (map (operand (L.live live.now) cells) args.now) 0) }
+    ensures live { IsTargetLive (L.live live.now) result }
 {
     match args.get(0) {
         Some(v) => target_of(v, live),
         None => CallTarget::Nothing,
     }
+}
+
+/// Whether a `#` stands in a name, as in those of clones alone.
+pub(crate) fn is_clone_name(name: &str) -> bool
+    ensures { result ≡ is_clone_name (chars name.now) }
+{
+    let mut rest = name.chars();
+    while let Some(c) = rest.next() {
+        if c == '#' {
+            return true;
+        }
+    }
+    false
 }

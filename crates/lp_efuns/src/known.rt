@@ -10,11 +10,11 @@ use lp_world::objects::ObjectTable;
 
 /// The objects of a live state, with their names.
 #[derive(Clone, Copy)]
-pub(crate) struct KnownObjects<'a> {
+pub struct KnownObjects<'a> {
     /// The objects.
-    pub(crate) objects: &'a ObjectTable,
+    pub objects: &'a ObjectTable,
     /// Their names.
-    pub(crate) names: &'a Objects,
+    pub names: &'a Objects,
     ghost named: { ∥ AreNamed names.now ∥₁ },
 }
 

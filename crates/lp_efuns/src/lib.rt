@@ -11,7 +11,7 @@ mod commands;
 mod computed;
 mod connections;
 mod enabling;
-mod known;
+pub mod known;
 mod looks;
 pub mod names;
 pub mod objects;

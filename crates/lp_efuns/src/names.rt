@@ -74,7 +74,7 @@ fn text_of(alloc: Global, all: &[char]) -> Result<String, AllocError>
 }
 
 /// The name that a text means: with a `/` before it, and without `.c` at its end.
-pub(crate) fn as_name(alloc: Global, text: &[char]) -> Result<String, AllocError>
+pub fn as_name(alloc: Global, text: &[char]) -> Result<String, AllocError>
     ensures { IfOk result (λ s. chars (string_bytes s) ≡ as_name text.now) }
 {
     let mut all = with_slash(alloc, text)?;

@@ -3,6 +3,7 @@ use Rattle.lp_calling.specs.declared.job.Question.TheVariants as questions
 use Rattle.lp_calling.specs.declared.job.Stage.TheVariants as stages
 use Rattle.lp_calling.specs.declared.job.Step.TheVariants as steps
 use Rattle.lp_calling.specs.Going.{StageGoes}
+use Rattle.lp_efuns.proofs.Enabled.{row_there}
 use Rattle.lp_calling.proofs.Rounds.{item_asks, question_there}
 use Rattle.lp_calling.proofs.items.ask_item.Goals as goal
 
@@ -15,3 +16,6 @@ returns-clause-goes c = λ efun live turn budget l.
 pub returns-clause-fit : goal.returns-clause-fit
 returns-clause-fit c = λ l h.
     question_there l c.args.stack.now.items c.lay_question.new.stack.items (c.args.low + (c.args.round.now.arguments + c.args.round.now.done)) 1 (c.args.low + 3) (c.args.round.now.arguments - 3) c.in_ok-lay_question.ensures h
+
+pub returns-clause-asked : goal.returns-clause-asked
+returns-clause-asked c = λ objects l. row_there objects c.args.round.now.object l

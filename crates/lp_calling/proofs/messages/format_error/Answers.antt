@@ -7,6 +7,8 @@ use Rattle.lp_instr.specs.EfunList.{efun_name}
 use Rattle.lp_instr.specs.declared.efun.Efun.TheVariants as efuns
 use Rattle.lp_ops.specs.declared.effect.Effect.TheVariants as effects
 use Rattle.lp_meaning.specs.ComputingEfuns.{as_text}
+use Rattle.std.specs.Str.{chars}
+use Rattle.lp_value_efuns.proofs.ArgumentLemmas.{name_chars}
 use Rattle.lp_calling.proofs.messages.format_error.Goals as goal
 
 pub returns-in-BadFormat : goal.returns-in-BadFormat
@@ -21,8 +23,9 @@ returns-in-TooFewArgs c =
 
 pub returns-in-BadArg : goal.returns-in-BadArg
 returns-in-BadArg c =
-    IfOk-weaker c.bad_of.result (λ e. e ≡ bad_arg c.in-BadArg.n (efun_name efuns.Printf)) _
-    (λ e q. λ w k. ap (as_text efuns.Printf) (subst (λ f. Gives (Err f) w) c.in-BadArg.is k) ∙ ap effects.Fault (sym q)) c.bad_of.ensures
+    let name : chars c.name.result.now ≡ efun_name efuns.Printf = ap chars c.name.ensures ∙ name_chars efuns.Printf in
+    IfOk-weaker c.bad_arg.result (λ e. e ≡ bad_arg c.in-BadArg.n (chars c.name.result.now)) _
+    (λ e q. λ w k. ap (as_text efuns.Printf) (subst (λ f. Gives (Err f) w) c.in-BadArg.is k) ∙ ap effects.Fault (sym (q ∙ ap (bad_arg c.in-BadArg.n) name))) c.bad_arg.ensures
 
 pub returns-in-TooLong : goal.returns-in-TooLong
 returns-in-TooLong c =

@@ -11,3 +11,6 @@ returns-then-not-is_live-clause-goes c = λ turn.
 
 pub tell_live-requires-clause-live : goal.tell_live-requires-clause-live
 tell_live-requires-clause-live c = sym c.is_live.ensures ∙ c.if-not-is_live.false
+
+pub returns-then-not-is_live-clause-asked : goal.returns-then-not-is_live-clause-asked
+returns-then-not-is_live-clause-asked c = c.end_zero.ensures.asked _

@@ -5,7 +5,8 @@ use Rattle.lp_values.specs.declared.value.Value.TheVariants as values
 use Rattle.lp_calling.specs.declared.job.Question.TheVariants as questions
 use Rattle.lp_calling.specs.declared.job.Stage.TheVariants as stages
 use Rattle.lp_calling.specs.declared.job.Step.TheVariants as steps
-use Rattle.lp_calling.specs.Going.{StageGoes}
+use Rattle.lp_efuns.proofs.Enabled.{row_there}
+use Rattle.lp_calling.specs.Going.{IsAskedThere, StageGoes}
 use Rattle.lp_calling.proofs.Telling.{connection_told, ends_as, tell_asks}
 use Rattle.lp_calling.proofs.messages.tell_live.Goals as goal
 
@@ -26,3 +27,9 @@ returns-in-None-clause-goes c =
 
 pub returns-in-None-clause-closed : goal.returns-in-None-clause-closed
 returns-in-None-clause-closed c = c.requires.fit.closed
+
+pub returns-in-None-clause-asked : goal.returns-in-None-clause-asked
+returns-in-None-clause-asked c =
+    let a = c.args in
+    IfOk-weaker c.ask_tell.result (λ r. (r ≡ steps.Asks (questions.CatchTell a.o) 1) × (c.ask_tell.new.stack.items ≡ a.stack.now.items ++ values.Str a.text.now ∷ [])) _
+    (λ r k. subst (λ r. IsAskedThere a.live.now.objects r) (sym k.0) (row_there a.live.now.objects a.o c.requires.live)) c.ask_tell.ensures.asks

@@ -1,4 +1,4 @@
 use Rattle.lp_calling.proofs.messages.tell_out.Goals as goal
 
-pub returns-clause-told : goal.returns-clause-told
-returns-clause-told c = (c.in_ok-put_out.ensures.out, λ turn. c.end_zero.ensures.goes turn)
+pub returns-clause-asked : goal.returns-clause-asked
+returns-clause-asked c = c.end_zero.ensures.asked _
