@@ -105,6 +105,11 @@ abbrev pub IsBegunHome : List (Option Object) → Begun → Type 0
 IsBegunHome objects (begun.Ends e) = ⊤
 IsBegunHome objects (begun.Runs job) = IsSome (variables_at objects job.object)
 
+-- and was made for this
+abbrev pub IsBegunFor : LoadKind → Begun → Type 0
+IsBegunFor kind (begun.Ends e) = ⊤
+IsBegunFor kind (begun.Runs job) = job.kind ≡ kind
+
 -- Refusals
 
 -- why no object is made: the name is taken, in each world for which the state stands; of want of memory nothing is said

@@ -49,8 +49,9 @@ abbrev pub Takes : Fed → Making → Making → Type 0
 Takes fed.Goes job0 job1 = (by : Asker) (v : Value) (s : State) → rest_of job0 by (Gives v s) ≡ course_of job1 by s
 Takes (fed.Ends answer) job0 job1 = (answer ≡ endings.Value (Obj job0.object)) × ((by : Asker) (v : Value) (s : State) → rest_of job0 by (Gives v s) ≡ gives (Plain (Obj job0.object)) s)
 
--- a job later on is for the same object, and has fewer questions left
+-- a job later on is for the same object and made for the same, and has fewer questions left
 pub record IsLater (old new : Making) : Type 0 where
+  pub kind : new.kind ≡ old.kind
   pub object : new.object ≡ old.object
   pub less : questions_left new < questions_left old
 

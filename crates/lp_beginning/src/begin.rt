@@ -6,7 +6,7 @@ ghost use Rattle.lp_swapfile.specs.Device.{Bytes};
 ghost use Rattle.lp_targets.specs.Brought.{program_at};
 ghost use Rattle.lp_world.specs.Closed.{IsClosed};
 ghost use Rattle.lp_world.specs.Rows.{variables_at};
-ghost use Rattle.lp_beginning.specs.Beginning.{Begins, BringsFirst, HasMade, IsBegunHome, IsFull, IsRefusal, IsRefusedFor, StandsStill, brought_by, refusal_of};
+ghost use Rattle.lp_beginning.specs.Beginning.{Begins, BringsFirst, HasMade, IsBegunFor, IsBegunHome, IsFull, IsRefusal, IsRefusedFor, StandsStill, brought_by, refusal_of};
 
 use crate::fault::MakingFault;
 use crate::job::{Begun, LoadKind, Making};
@@ -44,6 +44,7 @@ fn make(
     requires inside { IsSome (program_at live.old.versions version) }
     ensures made { IfOk result (λ job. HasMade job kind (chars name.now) version parts.items live.old live.new) }
     ensures home { IfOk result (λ job. IsSome (variables_at live.new.objects job.object)) }
+    ensures kind { IfOk result (λ job. job.kind ≡ kind) }
     ensures refused { IfErr result (λ e. (told : Option Bytes) → IsRefusedFor told live.old (chars name.now) e) }
     ensures refusal { IfErr result IsRefusal }
     ensures still { OnErr result ((told : Option Bytes) → StandsStill told live.old told live.new) }
@@ -93,6 +94,7 @@ pub fn begin<W: Truthful>(
     requires closed { IsClosed live.old }
     ensures begins { IfOk result (λ r. Begins r kind (chars name.now) version (W.content swap.old) live.old live.new) }
     ensures home { IfOk result (IsBegunHome live.new.objects) }
+    ensures kind { IfOk result (IsBegunFor kind) }
     ensures refused { IfErr result (IsRefusedFor (W.content swap.old) live.old (chars name.now)) }
     ensures still { OnErr result (W.is_truthful swap.new → StandsStill (W.content swap.old) live.old (W.content swap.new) live.new) }
     ensures brings { BringsFirst (W.content swap.old) (W.content swap.new) (W.last swap.new) (W.read_faults swap.old) (W.read_faults swap.new) (W.write_faults swap.old) (W.write_faults swap.new)

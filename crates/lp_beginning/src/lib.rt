@@ -6,7 +6,7 @@ pub mod begin;
 pub mod fault;
 pub mod feed;
 pub mod job;
-mod looking;
+pub mod looking;
 pub mod next;
 pub mod parts;
 pub mod report;

@@ -14,7 +14,7 @@ use lp_world::shared::SharedProgram;
 use lp_world::versions::{ProgramState, VersionTable};
 
 /// The program of a version that is in memory.
-pub(crate) fn program_of(versions: &VersionTable, p: ProgId) -> Option<&SharedProgram>
+pub fn program_of(versions: &VersionTable, p: ProgId) -> Option<&SharedProgram>
     ensures { option_copied result ≡ program_at versions.now p }
 {
     match versions.get(p) {

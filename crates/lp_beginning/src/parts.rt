@@ -34,7 +34,7 @@ fn enter_known<W: SwapFile>(live: &mut Live, swap: &mut W, p: ProgId) -> Result<
 
 /// Brings the program of a version into memory. Where the state does not have the version, or the device does not tell the
 /// truth, the answer is want of memory.
-pub(crate) fn bring_program<W: Truthful>(
+pub fn bring_program<W: Truthful>(
     live: &mut Live,
     swap: &mut W,
     p: ProgId,
