@@ -1,9 +1,10 @@
 //! Names of blueprints and of clones.
-ghost use Rattle.std.specs.Prelude.{◌≡◌, ◌++◌, IfOk, codes};
+ghost use Rattle.std.specs.Prelude.{◌≡◌, ◌≤◌, ◌++◌, IfOk, codes, length};
+ghost use Rattle.std.specs.List.{position_or_len};
 ghost use Rattle.std.specs.Fmt.{decimal};
 ghost use Rattle.std.specs.Str.{chars};
 ghost use Rattle.std.specs.String.{string_bytes};
-ghost use Rattle.lp_meaning.specs.WorldSteps.{is_clone_name, load_name};
+ghost use Rattle.lp_meaning.specs.WorldSteps.{is_clone_name, is_hash, load_name};
 
 use lp_values::decimal::spelling;
 use lp_values::text::code_points;
@@ -33,9 +34,10 @@ fn text_of(alloc: Global, all: &[char]) -> Result<String, AllocError>
     Ok(s)
 }
 
-/// How many characters of a name stand before its first `#`.
+/// How many characters of a name stand before its `#`: all of them where it has none.
 fn load_len(name: &[char]) -> usize
-    ensures { take result name.now ≡ load_name name.now }
+    ensures value { result ≡ position_or_len is_hash name.now }
+    ensures within { result ≤ length name.now }
 {
     let mut n = 0;
     while n < name.len() && name[n] != '#' {
@@ -48,9 +50,10 @@ fn load_len(name: &[char]) -> usize
 pub(crate) fn load_name(alloc: Global, name: &str) -> Result<String, AllocError>
     ensures { IfOk result (λ s. chars (string_bytes s) ≡ load_name (chars name.now)) }
 {
-    let all = code_points(alloc, name)?;
+    let mut all = code_points(alloc, name)?;
     let n = load_len(all.as_slice());
-    text_of(alloc, &all.as_slice()[..n])
+    all.truncate(n);
+    text_of(alloc, all.as_slice())
 }
 
 /// The characters of the name of a clone with a number.
