@@ -11,11 +11,19 @@ use Rattle.lp_instr.specs.EfunList.{efun_name}
 use Rattle.lp_instr.specs.declared.efun.Efun.{Efun}
 use Rattle.lp_instr.specs.declared.efun.Efun.TheVariants as efuns
 use Rattle.lp_swapfile.specs.Device.{Bytes}
-use Rattle.lp_language.specs.Course.{Course, Failed, Over, Scene, Spent, State, Stops, and_then, here}
+use Rattle.lp_language.specs.Course.{Failed, Over, Scene, Spent, State, Stops, and_then, here}
 use Rattle.lp_language.specs.Operations.{cells_of, living, with_store}
 use Rattle.lp_meaning.specs.Askers.{Asker}
-use Rattle.lp_meaning.specs.CallingEfuns.{calls}
-use Rattle.lp_meaning.specs.EfunArguments.{first_bad, opened_args, price_before}
+use Rattle.lp_meaning.specs.CallingEfuns.{calls, clone_object}
+use Rattle.lp_meaning.specs.EfunArguments.{arg, first_bad, opened_args, price_before}
+use Rattle.lp_meaning.specs.FileLoads.{clone_of}
+use Rattle.lp_meaning.specs.WorldSteps.{as_name, load_name}
+use Rattle.lp_ops.specs.Operands.{opened}
+use Rattle.lp_values.specs.declared.id.ObjId.{ObjId}
+use Rattle.lp_values.specs.declared.value.Value.TheVariants.{Int, Obj, Str}
+use Rattle.std.specs.Prelude.{Bool, [], ◌∷◌, pos, slice_get, unwrap_or}
+use Rattle.lp_cloning.proofs.Cloned.{starts_as}
+use Rattle.lp_cloning.proofs.Told.{with_price}
 use Rattle.lp_meaning.specs.Questions.{efun_in, kinds_looked_at}
 use Rattle.lp_world.specs.Rows.{live_in}
 use Rattle.lp_world.specs.declared.live.Live.{Live}
@@ -27,8 +35,9 @@ use Rattle.lp_beginning.specs.Beginning.{Fits}
 use Rattle.lp_beginning.specs.Ends.{IsValueEnd}
 use Rattle.lp_cloning.specs.declared.job.Begun.{Begun}
 use Rattle.lp_cloning.specs.declared.job.Begun.TheVariants as begun
-use Rattle.lp_cloning.specs.Arguments.{ActsAs, IsRefused, IsSpent}
-use Rattle.lp_cloning.specs.Beginning.{Begins, BeginsAs}
+use Rattle.lp_cloning.specs.Arguments.{ActsAs, IsBlueprintName, IsRefused, IsSpent, NamesBlueprint}
+use Rattle.lp_beginning.specs.Reports.{IsObjectName}
+use Rattle.lp_cloning.specs.Beginning.{Begins, StartsAs}
 use Rattle.lp_cloning.specs.Jobs.{ended}
 
 abbrev e : Efun
@@ -138,3 +147,33 @@ module _ (live : Live) (stack0 : List Value) (n args old : ℕ) (there : All (Is
         λ g by turn s w h. let j = i.1 g by turn (record s { budget = s.budget - before }) w (paid_at before paid g turn s z h) in
             (j.0, j.1, acting_course before low vs g turn by c s q k h less f d ∙ j.2),
       )
+
+-- what the efun does is what `clone_object` means
+does : (c : Scene) (vs : List Value) (by : Asker) (s : State) → calls e by c s vs (opened_args s vs) ≡ clone_object by s (arg (opened_args s vs) 0)
+unfolding calls
+does c vs by s = refl
+
+-- What it does, once it is known which blueprint its argument names.
+pub named_acts : (r : Begun) (told : Option Bytes) (live0 live1 : Live) (below : ℕ) (stack0 stack1 : List Value) (name : List ℕ) → IsBlueprintName live0 (drop below stack0) name → stack1 ≡ take below stack0 → StartsAs r (λ by s. clone_of by name s) told live0 live1
+    → ActsAs r told live0 below stack0 live1 stack1
+named_acts r told live0 live1 below stack0 stack1 name i t h = λ c budget low vs q k. (
+  t ∙ ap (take below) q ∙ take_at low vs below k,
+  with_price r (λ by s. calls e by c s vs (opened_args s vs)) told live0 live1 budget
+      (starts_as r (λ by s. clone_of by name s) (λ by s. calls e by c s vs (opened_args s vs)) told live0 live1
+      (λ g by turn b s w f. does c vs by s ∙ subst (λ ws. clone_object by s (arg (opened_args s ws) 0) ≡ clone_of by name s) (ap (drop below) q ∙ drop_at low vs below k) (i g turn b by s f.at)) h),
+)
+
+-- A text names its name, and an object that of its blueprint.
+pub text_named : (live : Live) (t name : List ℕ) → name ≡ as_name t → NamesBlueprint live (Str t) name
+text_named live t name e g turn b by s h = ap (λ z. clone_of by z s) (sym e)
+
+pub object_named_so : (live : Live) (o : ObjId) (text name : List ℕ) → live_in live.objects o ≡ true → IsObjectName live o text → name ≡ load_name text → NamesBlueprint live (Obj o) name
+object_named_so live o text name l i e g turn b by s h =
+    let is : living s o ≡ true = ap (λ (f : ObjId → Bool). f o) (sym (live_same g.told g.programs live s.world h.stands)) ∙ l in
+    ap (λ (b : Bool). clone_object by s (opened (living s) (cells_of s) (unwrap_or (if b then Some (Obj o) else None) (Int (pos 0))))) is
+    ∙ ap (λ z. clone_of by (load_name z) s) (sym (i g.told g.programs s.world h.stands)) ∙ ap (λ z. clone_of by z s) (sym e)
+
+pub first_named : (live : Live) (vs : List Value) (v : Value) (name : List ℕ) → slice_get vs 0 ≡ Some v → NamesBlueprint live v name → IsBlueprintName live vs name
+first_named live [] v name at h = absurd cc
+first_named live (u ∷ vs) v name at h = λ g turn b by s a.
+    let is : u ≡ v = ap (λ o. unwrap_or o u) at in ap (λ x. clone_object by s (arg (opened_args s (x ∷ vs)) 0)) is ∙ h g turn b by s a

@@ -46,11 +46,11 @@ none_less n = elim (cases_Bool (nat_lt n 0)) [
 
 value_free : (v : Value) (s : State) → ended v s ≡ Over (Gives v s)
 value_free v s =
-    ap (λ (b : Bool). if b then spent s else Over (Gives v (record s { budget = s.budget - 0 }))) (none_less s.budget)
+    ap (λ (b : Bool). Over (if b then spent s else Gives v (record s { budget = s.budget - 0 }))) (none_less s.budget)
     ∙ ap (λ n. Over (Gives v (record s { budget = n }))) (let z : s.budget - 0 ≡ s.budget = omega arith in z)
   where
-    spent : State → Course Value
-    spent s = Over (Stops (here Spent) (record s { budget = 0 }))
+    spent : State → End Value
+    spent s = Stops (here Spent) (record s { budget = 0 })
 
 priced_over : (g : Setting) (live : Live) (turn : Turn) (budget : ℕ) (e : Ending) (c : Course Value) (end : End Value) → c ≡ Over end → IsValueEnd g.programs e end → Fits g live turn budget (state_at end) → IsOverAt g live turn budget e (and_then c ended)
 priced_over g live turn budget e c (Gives v s) o i f = record { end = Gives v s; over = ap (λ x. and_then x ended) o ∙ value_free v s; is = i; fits = f }
