@@ -29,7 +29,7 @@ use Rattle.lp_world.specs.Rows.{live_in}
 use Rattle.lp_world.specs.declared.live.Live.{Live}
 use Rattle.lp_world.proofs.Keeping.{live_same}
 use Rattle.lp_efuns.specs.declared.caller.Turn.{Turn}
-use Rattle.lp_efuns.specs.Turns.{At, Setting}
+use Rattle.lp_efuns.specs.Turns.{Setting}
 use Rattle.lp_efuns.proofs.Parted.{price_same}
 use Rattle.lp_beginning.specs.Beginning.{Fits}
 use Rattle.lp_beginning.specs.Ends.{IsValueEnd}

@@ -13,7 +13,7 @@ use Rattle.lp_code.specs.declared.program.RawProgram.{RawProgram}
 use Rattle.lp_swapfile.specs.Device.{Bytes}
 use Rattle.lp_objects.specs.declared.objects.Objects.{Objects}
 use Rattle.lp_objects.specs.Stands as names
-use Rattle.lp_language.specs.World.{World, object_at, version_at}
+use Rattle.lp_language.specs.World.{World, version_at}
 use Rattle.lp_language.specs.Course as course
 use Rattle.lp_language.specs.Course.{Course, End, Failed, Gives, IsFaulty, IsSound, Over, Plain, Reply, State, Stops, WasRead, and_then, here, stops}
 use Rattle.lp_language.specs.Resolve.{Heir, Heritage, version_of}
@@ -26,7 +26,7 @@ use Rattle.lp_world.specs.Rows.{row_at}
 use Rattle.lp_world.specs.Stands.{Stands, named_of}
 use Rattle.std.specs.Prelude.{map}
 use Rattle.lp_inherit.specs.Heirs.{table}
-use Rattle.lp_part_laws.specs.Versions.{AreCompiled, FitsVersion, heritage_in}
+use Rattle.lp_part_laws.specs.Versions.{AreCompiled, heritage_in}
 use Rattle.lp_part_laws.proofs.Trees.{version_settled}
 use Rattle.lp_targets.specs.Brought.{StaysInMemory, program_at}
 use Rattle.lp_targets.proofs.Worlds.{version_is}

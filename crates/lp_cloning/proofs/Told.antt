@@ -1,5 +1,5 @@
 -- What follows a load, and the price of a clone.
-use Rattle.std.proofs.Common.{◌≡◌, ◌∙◌, ℕ, arith, refl, sym, ap, subst, Bool, true, false, List, Option, Some, None, inl, inr, nat_lt}
+use Rattle.std.proofs.Common.{◌≡◌, ◌∙◌, ℕ, arith, sym, ap, subst, Bool, false, List, Option, Some, None, inl, inr, nat_lt}
 use Rattle.std.specs.Prelude.{◌-◌, if◌then◌else◌, map}
 use Rattle.std.proofs.lemmas.Bool.{cases_Bool, ltb-true}
 use Rattle.std.specs.Str.{chars}

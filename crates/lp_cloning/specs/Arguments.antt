@@ -1,5 +1,5 @@
 -- What the arguments of `clone_object` name.
-use Rattle.std.specs.Prelude.{◌≡◌, ◌++◌, ⊤, ℕ, List, [], ◌∷◌, None, length}
+use Rattle.std.specs.Prelude.{◌≡◌, ◌++◌, ℕ, List, None, length}
 use Rattle.lp_values.specs.declared.value.Value.{Value}
 use Rattle.lp_values.specs.Errors.{bad_arg}
 use Rattle.lp_instr.specs.EfunList.{efun_name}

@@ -131,11 +131,7 @@ fn blueprint_name(live: &Live, args: &[Value]) -> Result<String, AllocError>
 }
 
 /// A clone of the blueprint with a name: it is loaded where it does not live. A clone's name is an error.
-fn clone_of<W: Truthful>(
-    live: &mut Live,
-    swap: &mut W,
-    name: String,
-) -> Result<Begun, CloningFault>
+fn clone_of<W: Truthful>(live: &mut Live, swap: &mut W, name: String) -> Result<Begun, CloningFault>
     requires closed { IsClosed live.old }
     ensures starts { IfOk result (λ r. StartsAs r (λ by s. clone_of by (chars (string_bytes name)) s) (W.content swap.old) live.old live.new) }
     ensures ready { IfOk result (IsReady live.new.objects) }

@@ -1,4 +1,4 @@
-use Rattle.std.proofs.Common.{◌≡◌, ◌-◌, length, nat_lt, rules, take}
+use Rattle.std.proofs.Common.{◌≡◌, ◌-◌, length, nat_lt, rules}
 use Rattle.lp_efuns.proofs.Called.{paid_is, unpaid_is}
 use Rattle.lp_targets.proofs.Lookups.{if_ok}
 use Rattle.lp_cloning.proofs.Arguing.{act_begins, bad_begins, spent_begins}

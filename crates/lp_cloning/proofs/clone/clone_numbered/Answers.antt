@@ -1,6 +1,5 @@
 use Rattle.std.proofs.Common.{◌∙◌, ap}
 use Rattle.std.specs.Str.{chars}
-use Rattle.lp_world.specs.declared.live.Live.{Live}
 use Rattle.lp_targets.proofs.Lookups.{if_ok}
 use Rattle.lp_cloning.proofs.Cloned.{numbered_starts, numbers}
 use Rattle.lp_cloning.proofs.clone.clone_numbered.Goals as goal
