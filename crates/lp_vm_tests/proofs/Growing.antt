@@ -1,5 +1,5 @@
 -- A version more, and an object more: the state stands for a world still.
-use Rattle.std.proofs.Common.{◌≡◌, ◌≢◌, ◌∙◌, ◌++◌, ◌+◌, ◌<◌, ℕ, arith, Bool, true, false, List, [], ◌∷◌, Option, Some, None, IsSome, All, refl, ap, sym, subst, length, slice_get, unwrap_or}
+use Rattle.std.proofs.Common.{Result, Ok, Err, IfOk, OnOk, ◌≡◌, ◌≢◌, ◌∙◌, ◌++◌, ◌+◌, ◌<◌, ℕ, arith, Bool, true, false, List, [], ◌∷◌, Option, Some, None, IsSome, All, refl, ap, sym, subst, length, slice_get, unwrap_or}
 use Rattle.std.specs.Prelude.{◌^◌}
 use Rattle.std.specs.Str.{IsAscii, chars}
 use Rattle.std.proofs.lemmas.List.Elements.{All-weaker}
@@ -27,6 +27,18 @@ use Rattle.lp_making.specs.Versions.{StandsWithVersion}
 use Rattle.lp_vm_tests.specs.Playing.{IsSet, IsSetWith}
 use Rattle.lp_vm_tests.specs.Present.{IsNext}
 use Rattle.lp_vm_tests.proofs.Views.{each_table, tables_with}
+
+-- Answers
+
+pub on_ok : {A E : Type 0} (r : Result A E) (P Q : Type 0) → (P → Q) → OnOk r P → OnOk r Q
+on_ok (Ok x) P Q f p = f p
+on_ok (Err e) P Q f p = tt
+
+pub if_ok : {A E : Type 0} (r : Result A E) (N : A → Type 0) (P Q R : Type 0) (S : A → Type 0) → ((x : A) → N x → P → Q → R → S x) → IfOk r N → OnOk r P → OnOk r Q → OnOk r R → IfOk r S
+if_ok (Ok x) N P Q R S f n p q r = f x n p q r
+if_ok (Err e) N P Q R S f n p q r = tt
+
+-- A version
 
 last_there : {A : Type 0} (xs : List A) (x : A) (k : ℕ) → k ≡ length xs → slice_get (xs ++ x ∷ []) k ≡ Some x
 last_there xs x k e = ap (slice_get (xs ++ x ∷ [])) (let z : k ≡ length xs + 0 = omega (arith, e) in z) ∙ past xs (x ∷ []) 0
@@ -70,6 +82,14 @@ grown calls fits old new path p n s x ascii number made stands small closed =
       };
       there = subst (λ (o : Option (Option Version)). IsSome (program_of (version_state (unwrap_or o None)))) (sym there) (subst (λ q. IsSome (program_of (Some q))) (sym made.is.state) refl);
     }
+
+pub added : CallsFindRows → NewVersionFits → (old new : Live) (path file : List ℕ) (p q : RawProgram) (n : ProgId) → IsSet old → IsNext old path p → IsAscii path → file ≡ chars path → q ≡ p
+    → n.0 ≡ length old.versions → IsNewVersion old new file q → StandsWithVersion old new file q → length q.instrs < 2 ^ 32 → IsClosed new → IsSetWith new n
+added calls fits old new path file p q n s x ascii e f number made stands small closed =
+    grown calls fits old new path p n s x ascii number (subst (λ r. IsNewVersion old new (chars path) r) f (subst (λ t. IsNewVersion old new t q) e made))
+    (subst (λ r. StandsWithVersion old new (chars path) r) f (subst (λ t. StandsWithVersion old new t q) e stands)) (subst (λ (r : RawProgram). length r.instrs < 2 ^ 32) f small) closed
+
+-- An object
 
 -- what was live is live
 live_before : (xs : List world.Object) (x : world.Object) (k : ℕ) (o : Option world.Object) → slice_get xs k ≡ o → (unwrap_or o no_object).is_live ≡ true → (unwrap_or (slice_get (xs ++ x ∷ []) k) no_object).is_live ≡ true

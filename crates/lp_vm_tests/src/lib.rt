@@ -10,3 +10,10 @@ pub mod game;
 pub mod loading;
 pub mod playing;
 pub mod present;
+
+#[cfg(test)]
+mod ends;
+#[cfg(test)]
+mod rows;
+#[cfg(test)]
+mod telling;
