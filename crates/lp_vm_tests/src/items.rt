@@ -55,16 +55,19 @@ const MESSAGES: [File; 2] = [
         "/b",
         "string all;
     void catch_tell(string s) { all = all ? all + \",\" + s : s; }
-    string heard() { return all; }",
+    string heard() { return all; }
+    string plays() { enable_commands(); write(\"here\"); return all; }",
     ),
 ];
 
-// Without a player `write` goes to the log; an object without a connection gets a message by `catch_tell`.
-const MESSAGE_ROWS: [Row; 4] = [
+// Without a player `write` goes to the log, and else to the player; an object without a connection gets a message by
+// `catch_tell`.
+const MESSAGE_ROWS: [Row; 5] = [
     (0, "says", &[], "0 <log hello <log 5 <log /a <log <ARRAY>"),
     (0, "prints", &[], "0 <log 1-x"),
     (0, "tells", &[Obj(1)], "'one,two'"),
     (0, "lost", &[Obj(1)], "3"),
+    (1, "plays", &[], "'here'"),
 ];
 
 #[test]

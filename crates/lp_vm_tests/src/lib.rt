@@ -12,7 +12,15 @@ pub mod playing;
 pub mod present;
 
 #[cfg(test)]
+mod budgets;
+#[cfg(test)]
 mod ends;
+#[cfg(test)]
+mod items;
+#[cfg(test)]
+mod modifiers;
+#[cfg(test)]
+mod outside;
 #[cfg(test)]
 mod rows;
 #[cfg(test)]
