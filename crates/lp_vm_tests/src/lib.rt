@@ -1,0 +1,27 @@
+//! What calls of LPC functions do on the live state, from LPC texts to how they end: a small game is made of files, and its
+//! functions are called as the driver calls them. Initialisers and `create` do not run in it.
+//!
+//! The tests stand here and not beside the code, so that no library is proved twice.
+#![tactic(auto)]
+
+pub mod device;
+pub mod fault;
+pub mod game;
+pub mod loading;
+pub mod playing;
+pub mod present;
+
+#[cfg(test)]
+mod budgets;
+#[cfg(test)]
+mod ends;
+#[cfg(test)]
+mod items;
+#[cfg(test)]
+mod modifiers;
+#[cfg(test)]
+mod outside;
+#[cfg(test)]
+mod rows;
+#[cfg(test)]
+mod telling;
