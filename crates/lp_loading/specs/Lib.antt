@@ -1,0 +1,4 @@
+pub mod Present
+pub mod Compiling
+pub mod Loads
+pub mod Going
