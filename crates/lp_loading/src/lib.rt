@@ -3,4 +3,6 @@
 //! Reading and checking the file is no question: the job compiles it at once, which gives what the front end tells.
 #![tactic(auto)]
 
+pub mod compiling;
 pub mod job;
+mod present;

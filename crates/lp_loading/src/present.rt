@@ -19,14 +19,24 @@ use lp_values::id::{ObjId, ProgId};
 use lp_world::live::Live;
 use lp_world::objects::ObjectTable;
 use lp_world::versions::{ProgramState, VersionTable};
+use std::marker::Model;
 
-/// The live state, the versions that a load made for parents, and the names of the simul efuns.
-#[derive(Clone, Copy)]
+/// The live state, the versions that a load made for parents, and the names of the simul efuns. The state stands for a world.
+#[derive(Drop)]
 pub(crate) struct Present<'a> {
-    pub(crate) live: &'a Live,
-    pub(crate) made: &'a [MadeFor],
-    pub(crate) simuls: &'a Names2,
-    ghost ready: { ∥ IsReadyFor live.now ∥₁ },
+    live: &'a Live,
+    made: &'a [MadeFor],
+    simuls: &'a Names2,
+}
+
+impl<'a> Model for Present<'a> {
+    ghost use Rattle.lp_loading.specs.Present.{IsReadyFor, Sight};
+
+    ghost Value = { Sight };
+
+    ghost view = { λ p. record { live = p.live.now; made = p.made.now; simuls = p.simuls.now } };
+
+    ghost invariant = { λ p. IsReadyFor p.live.now };
 }
 
 /// What is loaded in a state that stands for a world.
@@ -36,9 +46,7 @@ pub(crate) fn present_in<'a>(
     simuls: &'a Names2,
 ) -> Present<'a>
     requires ready { IsReadyFor live.now }
-    ensures live { result.live.now ≡ live.now }
-    ensures made { result.made.now ≡ made.now }
-    ensures simuls { result.simuls.now ≡ simuls.now }
+    ensures { result ≡ record { live = live.now; made = made.now; simuls = simuls.now } }
 {
     Present { live, made, simuls }
 }
@@ -149,9 +157,9 @@ fn tables_of(versions: &VersionTable, p: ProgId) -> Option<&Tables>
 impl Loaded for Present<'_> {
     ghost use Rattle.lp_loading.specs.Present.{all_made, known_of};
 
-    ghost known = { λ p. known_of (all_made p.made.now) p.live.now };
+    ghost known = { λ p. known_of (all_made p.made) p.live };
 
-    ghost simuls = { λ p. p.simuls.now };
+    ghost simuls = { λ p. p.simuls };
 
     fn parent(&self, path: &str) -> Option<(ProgId, &Tables)> {
         match version_of_file(self.live, self.made, path) {
