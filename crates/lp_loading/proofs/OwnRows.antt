@@ -1,6 +1,6 @@
 -- Rows of a file's own functions, and of its initialisers.
 use Rattle.std.proofs.Common.{◌≡◌, ◌∙◌, ◌&&◌, ◌||◌, ◌+◌, ◌-◌, ◌<◌, ◌++◌, ℕ, zero, suc, Bool, true, false, List, [], ◌∷◌, Option, Some, None, refl, ap, sym, subst, map, length, nat_eq, codes, arith}
-use Rattle.std.specs.Prelude.{not, slice_get, unwrap_or, if◌then◌else◌}
+use Rattle.std.specs.Prelude.{is_some, not, slice_get, unwrap_or, if◌then◌else◌}
 use Rattle.std.specs.List.{list_any}
 use Rattle.std.proofs.lemmas.List.{length-map}
 use Rattle.std.proofs.lemmas.Bool.{eqb-true}
@@ -11,7 +11,7 @@ use Rattle.lp_code.specs.declared.program.RawProgram.{RawProgram}
 use Rattle.lp_instr.specs.EfunList.{is_name}
 use Rattle.lp_instr.specs.Code.{Code}
 use Rattle.lp_isa.specs.Programs.{AreFuns, AreInit, FunRow, IsReached, Reached, fun_from, fun_in, own_functions}
-use Rattle.lp_language.specs.Resolve.{Found, Function, Heir, Heritage, Part, has_initialiser, own_function, found_in, or_else, own_variables, parents_of, parents_parts, part_at, part_count, parts, parts_before, resolve, resolve_last, version_of}
+use Rattle.lp_language.specs.Resolve.{Found, Function, Heir, Heritage, Part, callable_found, has_initialiser, own_function, found_in, or_else, own_names, own_variables, parents_of, parents_parts, part_at, part_count, parts, parts_before, resolve, resolve_last, version_of}
 use Rattle.lp_layout.proofs.RowLaid.{same_name}
 use Rattle.lp_inherit.specs.Heirs.{table, tables}
 use Rattle.lp_inherit.proofs.Meanings.{count_parts}
@@ -24,7 +24,10 @@ use Rattle.lp_part_laws.proofs.Lists.{get_map, got_map, is_below, one_value, pas
 use Rattle.lp_part_laws.proofs.Places.{count_parents}
 use Rattle.lp_part_laws.proofs.Rows.{fit_reached, function_at}
 use Rattle.lp_part_laws.proofs.Texts.{own_named}
-use Rattle.lp_loading.specs.Rows.{InitialisersAreTold, has_initialisers, is_function_row, is_own_row, is_there, own_part}
+use Rattle.lp_targets.proofs.Wanting.{wanted_reached}
+use Rattle.lp_targets.specs.Callees.{wanted_in}
+use Rattle.lp_targets.specs.declared.wants.Want.TheVariants as wants
+use Rattle.lp_loading.specs.Rows.{InitialisersAreTold, NamesAreOwn, OpenIsCallable, has_initialisers, is_function_row, is_own_row, is_there, names_from, own_part}
 
 -- The place of a function among those of its file, where each name is there once.
 
@@ -215,3 +218,55 @@ initialisers_are_told h p fits = by (has_initialiser (own_variables (version_of 
             ap (λ d. not d && not (is_function_row p (length p.funs - 1))) (some_last (length gs) l)
             ∙ ap (λ m. not (is_function_row p m)) k
             ∙ ap not (function_is h p (length gs) r.0 fits r.1)
+
+-- Names
+
+-- The rows of a file that are functions have their names, in order.
+names_are : (h : Heritage) (p : RawProgram) (code : Code) (k : ℕ) (fs : List Function) (rs : List CodeRow) → AreFuns h code fs (map row_of rs)
+    → ((j : ℕ) (f : Function) (r : CodeRow) → slice_get fs j ≡ Some f → slice_get rs j ≡ Some r → is_own_row p (k + j) (Some r) ≡ true) → ((r : CodeRow) → is_own_row p (k + length fs) (Some r) ≡ false)
+    → names_from p k rs ≡ map (λ (f : Function). f.name) fs
+names_are h p code k [] rs a yes no = by (has_initialiser (own_variables (version_of h).items)) rs a
+  where
+    one : (r : CodeRow) → is_own_row p k (Some r) ≡ false
+    one r = let z : k ≡ k + 0 = omega arith in ap (λ m. is_own_row p m (Some r)) z ∙ no r
+
+    by : (b : Bool) (rs : List CodeRow) → AreInit h code b (map row_of rs) → names_from p k rs ≡ []
+    by true [] i = let z = ap length i.1 in absurd (omega (arith, z))
+    by true (r ∷ []) i = ap (λ b. (if b then r.name ∷ [] else []) ++ []) (one r)
+    by true (r ∷ s ∷ rs) i = let z = ap length i.1 in absurd (omega (arith, z))
+    by false [] i = refl
+    by false (r ∷ rs) i = let z = ap length i in absurd (omega (arith, z))
+names_are h p code k (f ∷ fs) [] a yes no = absurd a
+names_are h p code k (f ∷ fs) (r ∷ rs) a yes no =
+    let z : k ≡ k + 0 = omega arith in
+    let here : is_own_row p k (Some r) ≡ true = ap (λ m. is_own_row p m (Some r)) z ∙ yes zero f r refl refl in
+    ap (λ b. (if b then r.name ∷ [] else []) ++ names_from p (suc k) rs) here
+    ∙ ap (λ w. w ∷ names_from p (suc k) rs) a.0.name
+    ∙ ap (λ ws. f.name ∷ ws)
+    (names_are h p code (suc k) fs rs a.1
+    (λ j g s d e. let m : suc k + j ≡ k + suc j = omega arith in ap (λ n. is_own_row p n (Some s)) m ∙ yes (suc j) g s d e)
+    (λ s. let m : suc k + length fs ≡ k + suc (length fs) = omega arith in ap (λ n. is_own_row p n (Some s)) m ∙ no s))
+
+own_names_are : (is : List ItemTree) → map (λ (f : Function). f.name) (own_functions is) ≡ own_names is
+own_names_are [] = refl
+own_names_are (Inherit line path ∷ is) = own_names_are is
+own_names_are (Proto line ms ty name ps ∷ is) = own_names_are is
+own_names_are (Fun line ms ty name ps b ∷ is) = ap (λ ws. name ∷ ws) (own_names_are is)
+own_names_are (Var line ms b ds ∷ is) = own_names_are is
+
+pub names_are_own : NamesAreOwn
+names_are_own h p fits =
+    let fs : List Function = own_functions (version_of h).items in
+    names_are h p (program_of p (tables (parents_of h))).code 0 fs p.funs (fits.stands h fits.own).funs
+    (λ j f r d e. let m : 0 + j ≡ j = omega arith in ap (λ n. is_own_row p n (Some r)) m ∙ ap (is_own_row p j) (sym e) ∙ function_is h p j f fits d)
+    (λ r. let m : 0 + length fs ≡ length fs = omega arith in ap (λ n. is_own_row p n (Some r)) m ∙ behind_is_none h p r.name fits)
+    ∙ own_names_are (version_of h).items
+
+pub open_is_callable : OpenIsCallable
+open_is_callable h p name fits = by (callable_found false (resolve h name)) (wanted_in (wants.Callable false) (slot_named p.tables.slots name)) (wanted_reached h p (wants.Callable false) name fits)
+  where
+    by : (x : Option Found) (o : Option Reached) → IsReached h x o → is_some o ≡ is_some x
+    by None None r = refl
+    by None (Some y) r = absurd r
+    by (Some x) None r = absurd r
+    by (Some x) (Some y) r = refl
