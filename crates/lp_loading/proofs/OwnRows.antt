@@ -225,10 +225,10 @@ initialisers_are_told h p fits = by (has_initialiser (own_variables (version_of 
 names_are : (h : Heritage) (p : RawProgram) (code : Code) (k : ℕ) (fs : List Function) (rs : List CodeRow) → AreFuns h code fs (map row_of rs)
     → ((j : ℕ) (f : Function) (r : CodeRow) → slice_get fs j ≡ Some f → slice_get rs j ≡ Some r → is_own_row p (k + j) (Some r) ≡ true) → ((r : CodeRow) → is_own_row p (k + length fs) (Some r) ≡ false)
     → names_from p k rs ≡ map (λ (f : Function). f.name) fs
-names_are h p code k [] rs a yes no = by (has_initialiser (own_variables (version_of h).items)) rs a
+names_are h p code k [] rs a hits misses = by (has_initialiser (own_variables (version_of h).items)) rs a
   where
     one : (r : CodeRow) → is_own_row p k (Some r) ≡ false
-    one r = let z : k ≡ k + 0 = omega arith in ap (λ m. is_own_row p m (Some r)) z ∙ no r
+    one r = let z : k ≡ k + 0 = omega arith in ap (λ m. is_own_row p m (Some r)) z ∙ misses r
 
     by : (b : Bool) (rs : List CodeRow) → AreInit h code b (map row_of rs) → names_from p k rs ≡ []
     by true [] i = let z = ap length i.1 in absurd (omega (arith, z))
@@ -236,16 +236,16 @@ names_are h p code k [] rs a yes no = by (has_initialiser (own_variables (versio
     by true (r ∷ s ∷ rs) i = let z = ap length i.1 in absurd (omega (arith, z))
     by false [] i = refl
     by false (r ∷ rs) i = let z = ap length i in absurd (omega (arith, z))
-names_are h p code k (f ∷ fs) [] a yes no = absurd a
-names_are h p code k (f ∷ fs) (r ∷ rs) a yes no =
+names_are h p code k (f ∷ fs) [] a hits misses = absurd a
+names_are h p code k (f ∷ fs) (r ∷ rs) a hits misses =
     let z : k ≡ k + 0 = omega arith in
-    let here : is_own_row p k (Some r) ≡ true = ap (λ m. is_own_row p m (Some r)) z ∙ yes zero f r refl refl in
+    let here : is_own_row p k (Some r) ≡ true = ap (λ m. is_own_row p m (Some r)) z ∙ hits zero f r refl refl in
     ap (λ b. (if b then r.name ∷ [] else []) ++ names_from p (suc k) rs) here
     ∙ ap (λ w. w ∷ names_from p (suc k) rs) a.0.name
     ∙ ap (λ ws. f.name ∷ ws)
     (names_are h p code (suc k) fs rs a.1
-    (λ j g s d e. let m : suc k + j ≡ k + suc j = omega arith in ap (λ n. is_own_row p n (Some s)) m ∙ yes (suc j) g s d e)
-    (λ s. let m : suc k + length fs ≡ k + suc (length fs) = omega arith in ap (λ n. is_own_row p n (Some s)) m ∙ no s))
+    (λ j g s d e. let m : suc k + j ≡ k + suc j = omega arith in ap (λ n. is_own_row p n (Some s)) m ∙ hits (suc j) g s d e)
+    (λ s. let m : suc k + length fs ≡ k + suc (length fs) = omega arith in ap (λ n. is_own_row p n (Some s)) m ∙ misses s))
 
 own_names_are : (is : List ItemTree) → map (λ (f : Function). f.name) (own_functions is) ≡ own_names is
 own_names_are [] = refl

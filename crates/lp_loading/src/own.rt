@@ -6,7 +6,7 @@ ghost use Rattle.lp_part_laws.specs.Parts.{reached_in};
 ghost use Rattle.lp_plan_laws.specs.Tables.{reached_by};
 ghost use Rattle.lp_targets.specs.Callees.{is_callable_number, wanted_row};
 ghost use Rattle.lp_targets.specs.declared.wants.Want.TheVariants as wants;
-ghost use Rattle.lp_loading.specs.Rows.{InitialisersAreTold, NamesAreOwn, OpenIsCallable, has_initialisers as has, is_function_row as is_row, is_open as open, is_there as there, open_names, own_name, own_part as last_part};
+ghost use Rattle.lp_loading.specs.Rows.{InitialisersAreTold, NamesAreOwn, OpenIsCallable, has_initialisers as has, is_function_row as is_row, is_open as may_call, is_there as there, open_names, own_name, own_part as last_part};
 
 use lp_code::name::Name;
 use lp_code::program::{FunRow, RawProgram};
@@ -116,7 +116,7 @@ fn is_open_row(slot: &Slot) -> bool
 
 /// Whether every object may call the function of a name.
 fn is_open(whole: &RawProgram, name: &str) -> bool
-    ensures { result ≡ open whole.now name.now }
+    ensures { result ≡ may_call whole.now name.now }
 {
     match row_named(whole, name) {
         Some(slot) => is_open_row(slot),
@@ -133,7 +133,7 @@ fn put_name(
     k: usize,
     names: &mut Vec<Name>,
 ) -> Result<(), AllocError>
-    ensures { OnOk result (names.new.items ≡ names.old.items ++ filter (open whole.now) (own_name raw.now k row.now)) }
+    ensures { OnOk result (names.new.items ≡ names.old.items ++ filter (may_call whole.now) (own_name raw.now k row.now)) }
 {
     if is_own_row(raw, row, k) && is_open(whole, row.name.as_str()) {
         names.push(row.name.copy(alloc)?)?;
