@@ -1,2 +1,4 @@
+pub mod OwnRows
+pub mod Outside
 pub mod Worlds
 pub mod Parents

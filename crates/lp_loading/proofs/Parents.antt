@@ -47,11 +47,11 @@ missing_not_known : (k : Known) (ps : List Inherited) (file : List ℕ) → IsFi
 missing_not_known k [] file h = absurd h
 missing_not_known k (p ∷ ps) file h = missing_by k p ps file (k p.file) refl (missing_not_known k ps file) h
 
-pub is_unknown : (files : Store) (path : List ℕ) (made : List Made) (live : Live) (simuls : List (List ℕ)) (f : CompileFault) → IsRefused files path (known_of made live) simuls f → IsUnknown f made live
-is_unknown files path made live simuls (refusals.Need file) h = missing_not_known (known_of made live) (files.parents_in h.items) (string_bytes file) h.missing
-is_unknown files path made live simuls (refusals.Faults fs) h = tt
-is_unknown files path made live simuls refusals.TooLarge h = tt
-is_unknown files path made live simuls refusals.NoMemory h = tt
+pub is_unknown : (store : Store) (path : List ℕ) (made : List Made) (live : Live) (simuls : List (List ℕ)) (f : CompileFault) → IsRefused store path (known_of made live) simuls f → IsUnknown f made live
+is_unknown store path made live simuls (refusals.Need file) h = missing_not_known (known_of made live) (files.parents_in h.items) (string_bytes file) h.missing
+is_unknown store path made live simuls (refusals.Faults fs) h = tt
+is_unknown store path made live simuls refusals.TooLarge h = tt
+is_unknown store path made live simuls refusals.NoMemory h = tt
 
 module _ (sound : CompiledIsSound) (told_refusals : RefusedIsTold) (reads : StoresAreRead) (names : FilesAreOfNames) (told : Option Bytes) (programs : List RawProgram) (live : Live) (w : World) (made : List Made) (h : IsWorldOf told programs live w) (name : List ℕ) (simuls : List (List ℕ)) where
   abbrev mem : Known
@@ -130,15 +130,15 @@ module _ (sound : CompiledIsSound) (told_refusals : RefusedIsTold) (reads : Stor
     first_lacks : (ps : List Parent) (file : List ℕ) → list_all is_ascii file ≡ true → version_of_file made live file ≡ None → IsFirstMissing mem (map by_file ps) file
         → (p : Parent) × (first_missing w made ps ≡ Some p) × (file ≡ file_bytes p.name)
     first_lacks [] file a n m = absurd m
-    first_lacks (p ∷ ps) file a n m = by (mem (file_bytes p.name)) refl m
+    first_lacks (p ∷ ps) file a n m = by (first_lacks ps file a n) (mem (file_bytes p.name)) refl m
       where
-        by : (o : Option Tables) → mem (file_bytes p.name) ≡ o → IsMissingThere o (file_bytes p.name) file (IsFirstMissing mem (map by_file ps) file) → (q : Parent) × (first_missing w made (p ∷ ps) ≡ Some q) × (file ≡ file_bytes q.name)
-        by None e k =
+        by : (IsFirstMissing mem (map by_file ps) file → (q : Parent) × (first_missing w made ps ≡ Some q) × (file ≡ file_bytes q.name)) → (o : Option Tables) → mem (file_bytes p.name) ≡ o → IsMissingThere o (file_bytes p.name) file (IsFirstMissing mem (map by_file ps) file) → (q : Parent) × (first_missing w made (p ∷ ps) ≡ Some q) × (file ≡ file_bytes q.name)
+        by ih None e k =
             let lacks : known_version w made p.name ≡ None =
             what_is_not told programs live w made p.name h.stands (ap (list_all is_ascii) (sym k) ∙ a) (ap (version_of_file made live) (sym k) ∙ n) in
             (p, ap (λ (o : Option ProgId). cond (not (is_some o)) (Some p) (first_missing w made ps)) lacks, k)
-        by (Some t) e k =
-            let q = first_lacks ps file a n k in
+        by ih (Some t) e k =
+            let q = ih k in
             let has = (what_is_known told programs live w made p.name t h e).known in
             (q.0, ap (λ (o : Option ProgId). cond (not (is_some o)) (Some p) (first_missing w made ps)) has ∙ q.1, q.2)
 
@@ -166,25 +166,25 @@ module _ (sound : CompiledIsSound) (told_refusals : RefusedIsTold) (reads : Stor
 
 -- Attempts
 
-pub made_found : CompiledIsSound → RefusedIsTold → StoresAreRead → FilesAreOfNames → (told : Option Bytes) (live : Live) (made : List Made) (path name : List ℕ) (own : ProgId) (simuls : List (List ℕ)) (p : RawProgram)
-    → Compiles live.store path own (known_of made live) simuls p → path ≡ file_bytes name → CompilesTo (compiled.Made p) made name own simuls told live told live
-made_found sound refused reads names told live made path name own simuls p c e programs w h = record {
+pub made_found : CompiledIsSound → RefusedIsTold → StoresAreRead → FilesAreOfNames → (told : Option Bytes) (live : Live) (made : List Made) (file name : List ℕ) (own : ProgId) (simuls : List (List ℕ)) (p : RawProgram)
+    → Compiles live.store file own (known_of made live) simuls p → file ≡ file_bytes name → CompilesTo (compiled.Made p) made name own simuls told live told live
+made_found sound refused reads names told live made file name own simuls p c e programs w h = record {
   world = h;
   front_end = λ front real.
       program_for sound refused reads names told programs live w made h name simuls front real own p (subst (λ x. Compiles live.store x own (known_of made live) simuls p) e c);
 }
 
-pub refused_found : CompiledIsSound → RefusedIsTold → StoresAreRead → FilesAreOfNames → (told0 told1 : Option Bytes) (live0 live1 : Live) (made : List Made) (path : List ℕ) (own : ProgId) (simuls : List (List ℕ)) (f : CompileFault) (r : Result (Option Compiled) LoadFault) (Less : Type 0)
-    → IsRefused live0.store path (known_of made live0) simuls f → OnOk r (KeepsWorlds told0 live0 told1 live1) → live1.store ≡ live0.store
-    → IfOk r (λ o. MatchOption o Less (λ c. IsRefusedTo c f made live0)) → IfOk r (λ o. MatchOption o Less (λ c. (name : List ℕ) → path ≡ file_bytes name → CompilesTo c made name own simuls told0 live0 told1 live1))
-refused_found sound refused reads names told0 told1 live0 live1 made path own simuls f (Ok None) Less i k s t = t
-refused_found sound refused reads names told0 told1 live0 live1 made path own simuls f (Ok (Some c)) Less i k s t = λ name e programs w h. record {
+pub refused_found : CompiledIsSound → RefusedIsTold → StoresAreRead → FilesAreOfNames → (told0 told1 : Option Bytes) (live0 live1 : Live) (made : List Made) (file : List ℕ) (own : ProgId) (simuls : List (List ℕ)) (f : CompileFault) (r : Result (Option Compiled) LoadFault) (Less : Type 0)
+    → IsRefused live0.store file (known_of made live0) simuls f → OnOk r (KeepsWorlds told0 live0 told1 live1) → live1.store ≡ live0.store
+    → IfOk r (λ o. MatchOption o Less (λ c. IsRefusedTo c f made live0)) → IfOk r (λ o. MatchOption o Less (λ c. (name : List ℕ) → file ≡ file_bytes name → CompilesTo c made name own simuls told0 live0 told1 live1))
+refused_found sound refused reads names told0 told1 live0 live1 made file own simuls f (Ok None) Less i k s t = t
+refused_found sound refused reads names told0 told1 live0 live1 made file own simuls f (Ok (Some c)) Less i k s t = λ name e programs w h. record {
   world = k programs w h;
   front_end = λ front real.
       subst (λ st. IsCompiledTo c front st programs w made name own simuls) (sym s)
       (refused_to sound refused reads names told0 programs live0 w made h name simuls front real own f (subst (λ x. IsRefused live0.store x (known_of made live0) simuls f) e i) c t);
 }
-refused_found sound refused reads names told0 told1 live0 live1 made path own simuls f (Err e) Less i k s t = tt
+refused_found sound refused reads names told0 told1 live0 live1 made file own simuls f (Err e) Less i k s t = tt
 
 -- Worlds that stay
 

@@ -1,11 +1,12 @@
 -- What is loaded of a state is what is known in a world for which it stands.
-use Rattle.std.proofs.Common.{◌≡◌, ◌∙◌, ◌+◌, ◌-◌, ◌++◌, ◌<◌, ℕ, zero, suc, nat_lt, Bool, true, false, ◌&&◌, List, [], ◌∷◌, Option, Some, None, refl, ap, sym, subst, map, take, drop, codes, slice_get, unwrap_or, length, length-append, option_map, encode_utf8_all, if◌then◌else◌, arith}
+use Rattle.std.proofs.Common.{◌≡◌, ◌≢◌, ◌∙◌, inl, inr, ◌+◌, ◌-◌, ◌++◌, ◌<◌, ℕ, zero, suc, nat_lt, Bool, true, false, ◌&&◌, List, [], ◌∷◌, Option, Some, None, refl, ap, sym, subst, map, take, drop, codes, slice_get, unwrap_or, length, length-append, option_map, encode_utf8_all, if◌then◌else◌, arith}
 use Rattle.std.specs.Char.{is_ascii}
 use Rattle.std.specs.List.{list_all}
 use Rattle.std.specs.Str.{IsAscii}
-use Rattle.std.proofs.lemmas.Bool.{ltb-true}
+use Rattle.std.proofs.lemmas.Bool.{cases_Bool, ltb-true}
+use Rattle.std.proofs.lemmas.Bool.Decides.{Decides-eqb}
 use Rattle.std.proofs.lemmas.List.{take_at, drop_at}
-use Rattle.std.proofs.lemmas.Slice.Eq.{bytes_eq-Decides}
+use Rattle.std.proofs.lemmas.Slice.Eq.{bytes_eq-Decides, ends_is}
 use Rattle.std.proofs.lemmas.Str.{IsAscii-take, IsUtf8-from_ascii, chars-IsAscii, encodes-IsAscii, encodes_same}
 use Rattle.lp_values.specs.declared.id.ObjId.{ObjId}
 use Rattle.lp_values.specs.declared.id.ProgId.{ProgId}
@@ -58,15 +59,15 @@ record IsLiveAt (xs : List world.Object) (n : ℕ) (o : ObjId) : Type 0 where
 
 live_at : (name : List ℕ) (n : ℕ) (xs : List world.Object) (o : ObjId) → named_from name n xs ≡ Some o → IsLiveAt xs n o
 live_at name n [] o e = absurd cc
-live_at name n (x ∷ xs) o e = by x.is_live (is_name x.name name) refl e
+live_at name n (x ∷ xs) o e = by (live_at name (suc n) xs o) x.is_live (is_name x.name name) refl e
   where
-    later : named_from name (suc n) xs ≡ Some o → IsLiveAt (x ∷ xs) n o
-    later f = let i = live_at name (suc n) xs o f in record { place = suc i.place; object = i.object; number = let k : o.0 ≡ suc n + i.place = i.number in omega (arith, k); there = i.there; live = i.live }
+    later : IsLiveAt xs (suc n) o → IsLiveAt (x ∷ xs) n o
+    later i = record { place = suc i.place; object = i.object; number = let k : o.0 ≡ suc n + i.place = i.number in omega (arith, k); there = i.there; live = i.live }
 
-    by : (a b : Bool) → x.is_live ≡ a → (if a && b then Some (record { 0 = n }) else named_from name (suc n) xs) ≡ Some o → IsLiveAt (x ∷ xs) n o
-    by true true l f = record { place = zero; object = x; number = let k : n ≡ o.0 = ap (λ (q : Option ObjId). (unwrap_or q (record { 0 = n })).0) f in omega (arith, k); there = refl; live = l }
-    by true false l f = later f
-    by false b l f = later f
+    by : (named_from name (suc n) xs ≡ Some o → IsLiveAt xs (suc n) o) → (a b : Bool) → x.is_live ≡ a → (if a && b then Some (record { 0 = n }) else named_from name (suc n) xs) ≡ Some o → IsLiveAt (x ∷ xs) n o
+    by ih true true l f = record { place = zero; object = x; number = let k : n ≡ o.0 = ap (λ (q : Option ObjId). (unwrap_or q (record { 0 = n })).0) f in omega (arith, k); there = refl; live = l }
+    by ih true false l f = later (ih f)
+    by ih false b l f = later (ih f)
 
 -- the row of a live object
 live_row : (told : Option Bytes) (programs : List RawProgram) (live : Live) (w : World) (o : ObjId) (x : world.Object) → Stands told programs live w → slice_get w.objects o.0 ≡ Some x → x.is_live ≡ true
@@ -108,15 +109,15 @@ letters c cs e a zero = ltb-true c 128 e
 letters c cs e a (suc i) = a i
 
 pub ascii_text : (cs : List ℕ) → list_all is_ascii cs ≡ true → IsAscii cs
-ascii_text [] e i = none i
+ascii_text [] e = none
   where
-    none : (i : ℕ) → 0 < 128
+    none : IsAscii []
     none i = omega arith
-ascii_text (c ∷ cs) e = by (is_ascii c) refl e
+ascii_text (c ∷ cs) e = by (ascii_text cs) (is_ascii c) refl e
   where
-    by : (b : Bool) → is_ascii c ≡ b → b && list_all is_ascii cs ≡ true → IsAscii (c ∷ cs)
-    by true i f = letters c cs i (ascii_text cs f)
-    by false i f = absurd cc
+    by : (list_all is_ascii cs ≡ true → IsAscii cs) → (b : Bool) → is_ascii c ≡ b → (b && list_all is_ascii cs) ≡ true → IsAscii (c ∷ cs)
+    by ih true i f = letters c cs i (ih f)
+    by ih false i f = absurd cc
 
 abbrev dot_c : List ℕ
 dot_c = codes ".c"
@@ -137,6 +138,20 @@ not_itself name = by (is_name name (file_of_name name)) refl
     by : (b : Bool) → is_name name (file_of_name name) ≡ b → b ≡ false
     by true e = let q : name ≡ name ++ dot_c = (bytes_eq-Decides name (name ++ dot_c)).0 e in absurd (omega (arith, ap length q, length-append name dot_c))
     by false e = refl
+
+-- a path that does not end so has no version
+no_ending : (path : List ℕ) → ((front : List ℕ) → path ≢ front ++ codes ".c") → without_c path ≡ path
+no_ending path h = elim (cases_Bool (is_name (drop (length path - 2) path) (codes ".c"))) [
+  | inl t ↦
+      let d : drop (length path - 2) path ≡ codes ".c" = (bytes_eq-Decides (drop (length path - 2) path) (codes ".c")).0 t in
+      let p : is_name (codes ".c") (drop (length path - 2) path) ≡ true = (bytes_eq-Decides (codes ".c") (drop (length path - 2) path)).1 (sym d) in
+      absurd (h (take (length path - 2) path) ((ends_is Decides-eqb path (codes ".c") (is_name (codes ".c") (drop (length path - 2) path)) refl).0 p))
+  | inr f ↦ ap (λ b. if b then take (length path - 2) path else path) f
+]
+
+pub no_file : (made : List Made) (live : Live) (path : List ℕ) → ((front : List ℕ) → path ≢ front ++ codes ".c") → version_in_file made live path ≡ None
+no_file made live path h =
+    ap (λ p. if is_name p path then None else version_named made live p) (no_ending path h) ∙ ap (λ b. if b then None else version_named made live path) ((bytes_eq-Decides path path).1 refl)
 
 -- A path of letters of ASCII that is the file of a name is that name with `.c`.
 pub record IsFileOf (path name : List ℕ) : Type 0 where

@@ -1,4 +1,5 @@
 pub mod Present
+pub mod Rows
 pub mod Compiling
 pub mod Loads
 pub mod Going

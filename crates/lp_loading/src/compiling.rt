@@ -3,6 +3,7 @@ ghost use Rattle.std.specs.Prelude.{◌≡◌, ◌<◌, IfErr, IfOk, IsSome, Lis
 ghost use Rattle.std.specs.Bool.{OnTrue};
 ghost use Rattle.lp_compile.specs.Compiles.{Compiles, IsRefused};
 ghost use Rattle.lp_making.specs.Objects.{program_at};
+ghost use Rattle.lp_efuns.specs.Names.{AreNamed};
 ghost use Rattle.lp_front_end.specs.Parents.{file_bytes};
 ghost use Rattle.lp_world.specs.Closed.{IsClosed};
 ghost use Rattle.lp_world.specs.Rows.{row_at};
@@ -111,6 +112,7 @@ fn needed<W: Truthful>(
     file: String,
 ) -> Result<Option<Compiled>, LoadFault>
     requires closed { IsClosed live.old }
+    requires named { AreNamed live.old.names }
     requires unknown { known_of (all_made made.now) live.old (string_bytes file) ≡ None }
     ensures closed { IsClosed live.new }
     ensures worlds { OnOk result (KeepsWorlds (W.content swap.old) live.old (W.content swap.new) live.new) }
@@ -137,6 +139,7 @@ fn refused<W: Truthful>(
     fault: CompileFault,
 ) -> Result<Option<Compiled>, LoadFault>
     requires closed { IsClosed live.old }
+    requires named { AreNamed live.old.names }
     requires unknown { IsUnknown fault (all_made made.now) live.old }
     ensures closed { IsClosed live.new }
     ensures worlds { OnOk result (KeepsWorlds (W.content swap.old) live.old (W.content swap.new) live.new) }

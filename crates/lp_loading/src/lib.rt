@@ -5,4 +5,5 @@
 
 pub mod compiling;
 pub mod job;
+pub mod own;
 mod present;

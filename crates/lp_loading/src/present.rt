@@ -1,8 +1,9 @@
 //! What a file that is compiled for a load meets: versions made for parents, and live blueprints, with the tables of their programs.
-ghost use Rattle.std.specs.Prelude.{◌≡◌, map};
+ghost use Rattle.std.specs.Prelude.{◌≡◌, IsAscii};
 ghost use Rattle.std.specs.Char.{is_ascii as ascii};
 ghost use Rattle.std.specs.List.{list_all};
 ghost use Rattle.std.specs.Option.{option_map};
+ghost use Rattle.lp_efuns.specs.Names.{AreNamed};
 ghost use Rattle.lp_meaning.specs.FileLoads.{made_for as made_in};
 ghost use Rattle.lp_meaning.specs.WorldSteps.{is_clone_name as is_clone};
 ghost use Rattle.lp_loaded.specs.Present.{serial_of, tables_in, tables_of as tables_at, version_at, version_in};
@@ -33,6 +34,11 @@ impl<'a> Model for Present<'a> {
     ghost use Rattle.lp_loading.specs.Present.{IsReadyFor, Sight};
 
     ghost Value = { Sight };
+
+    ghost use Rattle.lp_world.specs.contracts.live.Live as l;
+    ghost use Rattle.std.specs.Coded.{codes};
+
+    ghost coded = { Prim.hlevel (codes, l.the_row.coded) };
 
     ghost view = { λ p. record { live = p.live.now; made = p.made.now; simuls = p.simuls.now } };
 
@@ -83,6 +89,8 @@ fn is_clone_name(name: &[u8]) -> bool
 
 /// The live blueprint with a name.
 fn blueprint(names: &Objects, name: &str) -> Option<ObjId>
+    requires named { AreNamed names.now }
+    requires ascii { IsAscii name.now }
     ensures { result ≡ serial_of names.now name.now }
 {
     if is_clone_name(name.as_bytes()) {
@@ -103,6 +111,8 @@ fn version_of_object(objects: &ObjectTable, ob: ObjId) -> Option<ProgId>
 
 /// The version of the live blueprint with a name.
 fn blueprint_version(live: &Live, name: &str) -> Option<ProgId>
+    requires named { AreNamed live.now.names }
+    requires ascii { IsAscii name.now }
     ensures { result ≡ version_at live.now (serial_of live.now.names name.now) }
 {
     match blueprint(&live.names, name) {
@@ -113,6 +123,8 @@ fn blueprint_version(live: &Live, name: &str) -> Option<ProgId>
 
 /// The version of the parent with a name: the one made for it, or else that of its live blueprint. Takes no memory.
 pub(crate) fn version_named(live: &Live, made: &[MadeFor], name: &str) -> Option<ProgId>
+    requires named { AreNamed live.now.names }
+    requires ascii { IsAscii name.now }
     ensures { result ≡ named (all_made made.now) live.now name.now }
 {
     match made_for(made, name) {
@@ -123,6 +135,8 @@ pub(crate) fn version_named(live: &Live, made: &[MadeFor], name: &str) -> Option
 
 /// The version of the parent with a file, whose path ends in `.c`.
 fn version_in_file(live: &Live, made: &[MadeFor], path: &str) -> Option<ProgId>
+    requires named { AreNamed live.now.names }
+    requires ascii { IsAscii path.now }
     ensures { result ≡ version_in_file (all_made made.now) live.now path.now }
 {
     match path.strip_suffix(".c") {
@@ -133,6 +147,7 @@ fn version_in_file(live: &Live, made: &[MadeFor], path: &str) -> Option<ProgId>
 
 /// The version of the parent with a file, whose path has letters of ASCII alone. Takes no memory.
 pub(crate) fn version_of_file(live: &Live, made: &[MadeFor], path: &str) -> Option<ProgId>
+    requires { AreNamed live.now.names }
     ensures { result ≡ version_of (all_made made.now) live.now path.now }
 {
     if !is_ascii(path) {
