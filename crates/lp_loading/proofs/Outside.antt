@@ -1,5 +1,5 @@
 -- Programs that come into memory: fewer are out.
-use Rattle.std.proofs.Common.{◌≡◌, ◌∙◌, ◌<◌, ℕ, zero, suc, Bool, true, false, List, [], ◌∷◌, Option, Some, None, IsSome, Result, Ok, Err, OnOk, refl, ap, sym, subst, arith, cond, slice_get, unwrap_or}
+use Rattle.std.proofs.Common.{◌≡◌, ◌∙◌, ◌+◌, ◌<◌, ℕ, zero, suc, Bool, true, false, List, [], ◌∷◌, Option, Some, None, IsSome, Result, Ok, Err, OnOk, refl, ap, sym, subst, arith, cond, slice_get, unwrap_or}
 use Rattle.std.specs.Prelude.{slice_set}
 use Rattle.lp_values.specs.declared.id.ProgId.{ProgId}
 use Rattle.lp_swapper.specs.declared.ticket.Ticket.{Ticket}
@@ -13,20 +13,23 @@ use Rattle.lp_residence.specs.Owners.{program_of, ticket_at, ticket_of_version}
 use Rattle.lp_residence.specs.declared.owner.Owner.TheVariants as owners
 use Rattle.lp_residence.proofs.RowChanges.{row_there}
 use Rattle.lp_making.specs.Objects.{program_at}
-use Rattle.lp_loading.specs.Present.{is_out, is_swapped, out_count}
+use Rattle.lp_loading.specs.Present.{is_out, is_swapped, one_if, out_count}
 use Rattle.lp_loading.specs.declared.job.LoadFault.{LoadFault}
-
-abbrev count : Bool → ℕ
-count b = cond b 1 0
 
 out_set : (rows : List (Option Version)) (n : ℕ) (x y : Option Version) → slice_get rows n ≡ Some x → is_out x ≡ true → is_out y ≡ false → out_count (slice_set rows n y) < out_count rows
 out_set [] n x y e a b = absurd cc
 out_set (z ∷ rows) zero x y e a b =
     let same : z ≡ x = ap (λ o. unwrap_or o z) e in
-    let here : count (is_out z) ≡ 1 = ap count (ap is_out same ∙ a) in
-    let there : count (is_out y) ≡ 0 = ap count b in
-    omega (arith, here, there)
-out_set (z ∷ rows) (suc n) x y e a b = let i = out_set rows n x y e a b in omega (arith, i)
+    let old : out_count (z ∷ rows) ≡ 1 + out_count rows = ap (λ q. one_if q + out_count rows) (ap is_out same ∙ a) in
+    let new : out_count (y ∷ rows) ≡ 0 + out_count rows = ap (λ q. one_if q + out_count rows) b in
+    let l : out_count (y ∷ rows) < out_count (z ∷ rows) = omega (arith, old, new) in
+    l
+out_set (z ∷ rows) (suc n) x y e a b =
+    let i = out_set rows n x y e a b in
+    let old : out_count (z ∷ rows) ≡ one_if (is_out z) + out_count rows = refl in
+    let new : out_count (z ∷ slice_set rows n y) ≡ one_if (is_out z) + out_count (slice_set rows n y) = refl in
+    let l : out_count (z ∷ slice_set rows n y) < out_count (z ∷ rows) = omega (arith, old, new, i) in
+    l
 
 -- a program that was out is in memory
 pub less_out : (old new : Live) (p : ProgId) → IsSome (row_at old.versions p.0) → program_at old.versions p ≡ None → IsEntered (owners.Program p) old new (ticket_at old (owners.Program p))

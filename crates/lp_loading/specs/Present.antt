@@ -1,6 +1,6 @@
 -- What a file that is compiled for a load meets of the live state: the versions that the load made for parents, and the live
 -- blueprints of other files, with the tables of their programs.
-use Rattle.std.specs.Prelude.{◌≡◌, ℕ, List, ◌∷◌, [], Bool, true, false, Option, Some, None, count_by, map, if◌then◌else◌}
+use Rattle.std.specs.Prelude.{◌≡◌, ◌+◌, ℕ, List, ◌∷◌, [], Bool, true, false, Option, Some, None, map, if◌then◌else◌}
 use Rattle.std.specs.Char.{is_ascii}
 use Rattle.std.specs.List.{list_all}
 use Rattle.lp_values.specs.declared.id.ProgId.{ProgId}
@@ -80,5 +80,10 @@ abbrev pub is_out : Option Version → Bool
 is_out None = false
 is_out (Some v) = is_swapped v.state
 
+abbrev pub one_if : Bool → ℕ
+one_if true = 1
+one_if false = 0
+
 abbrev pub out_count : List (Option Version) → ℕ
-out_count rows = count_by is_out rows
+out_count [] = 0
+out_count (r ∷ rs) = one_if (is_out r) + out_count rs
