@@ -2,3 +2,4 @@ pub mod OwnRows
 pub mod Outside
 pub mod Worlds
 pub mod Parents
+pub mod SeenNames

@@ -84,6 +84,15 @@ serial_same told programs live w name h a =
     ap (λ o. if is_clone_name name then None else o)
     (h.names.listed name (IsUtf8-from_ascii name a) ∙ ap (named.object_named (map named_of w.objects)) (chars-IsAscii name a) ∙ same_named w name)
 
+-- the version of an object that is found by its name
+pub named_version : (told : Option Bytes) (programs : List RawProgram) (live : Live) (w : World) (name : List ℕ) (o : ObjId) → Stands told programs live w → object_named w name ≡ Some o
+    → version_in (row_at live.objects o.0) ≡ Some (object_at w o).version
+named_version told programs live w name o h e =
+    let i = live_at name 0 w.objects o e in
+    let at : i.place ≡ o.0 = (let k : o.0 ≡ 0 + i.place = i.number in omega (arith, k)) in
+    let there : slice_get w.objects o.0 ≡ Some i.object = ap (slice_get w.objects) (sym at) ∙ i.there in
+    live_row told programs live w o i.object h there i.live ∙ ap (λ (q : Option world.Object). Some (unwrap_or q no_object).version) (sym there)
+
 blueprint_same : (told : Option Bytes) (programs : List RawProgram) (live : Live) (w : World) (name : List ℕ) → Stands told programs live w → IsAscii name
     → version_at live (serial_of live.names name) ≡ option_map (λ o. (object_at w o).version) (blueprint w name)
 blueprint_same told programs live w name h a = ap (version_at live) (serial_same told programs live w name h a) ∙ by (is_clone_name name) (object_named w name) refl
@@ -91,11 +100,7 @@ blueprint_same told programs live w name h a = ap (version_at live) (serial_same
     by : (b : Bool) (o : Option ObjId) → object_named w name ≡ o → version_at live (if b then None else o) ≡ option_map (λ o. (object_at w o).version) (if b then None else o)
     by true o e = refl
     by false None e = refl
-    by false (Some o) e =
-        let i = live_at name 0 w.objects o e in
-        let at : i.place ≡ o.0 = (let k : o.0 ≡ 0 + i.place = i.number in omega (arith, k)) in
-        let there : slice_get w.objects o.0 ≡ Some i.object = ap (slice_get w.objects) (sym at) ∙ i.there in
-        live_row told programs live w o i.object h there i.live ∙ ap (λ (q : Option world.Object). Some (unwrap_or q no_object).version) (sym there)
+    by false (Some o) e = named_version told programs live w name o h e
 
 -- the version of a parent, by its name
 pub version_same : (told : Option Bytes) (programs : List RawProgram) (live : Live) (w : World) (made : List Made) (name : List ℕ) → Stands told programs live w → IsAscii name → version_named made live name ≡ known_version w made name

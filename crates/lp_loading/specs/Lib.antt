@@ -2,4 +2,5 @@ pub mod Present
 pub mod Rows
 pub mod Compiling
 pub mod Loads
+pub mod Simuls
 pub mod Going

@@ -55,14 +55,14 @@ fn compile_present(
 }
 
 /// Whether the state has a version.
-fn has_version(versions: &VersionTable, p: ProgId) -> bool
+pub(crate) fn has_version(versions: &VersionTable, p: ProgId) -> bool
     ensures { OnTrue result (IsSome (row_at versions.now p.0)) }
 {
     versions.get(p).is_some()
 }
 
 /// Why a program was not brought in, as why a load is not carried out.
-fn load_fault(e: EnterFault) -> LoadFault {
+pub(crate) fn load_fault(e: EnterFault) -> LoadFault {
     match e {
         EnterFault::Swap(cause) => LoadFault::Swap(cause),
         EnterFault::NoMemory => LoadFault::NoMemory,
@@ -70,7 +70,7 @@ fn load_fault(e: EnterFault) -> LoadFault {
 }
 
 /// That the device told the truth, or else want of memory.
-fn told_truth<W: Truthful>(swap: &W) -> Result<(), LoadFault>
+pub(crate) fn told_truth<W: Truthful>(swap: &W) -> Result<(), LoadFault>
     ensures { OnOk result (W.is_truthful swap.now) }
 {
     if swap.tells_truth() {

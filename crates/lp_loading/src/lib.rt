@@ -7,3 +7,4 @@ pub mod compiling;
 pub mod job;
 pub mod own;
 mod present;
+mod simuls;

@@ -100,7 +100,7 @@ fn blueprint(names: &Objects, name: &str) -> Option<ObjId>
 }
 
 /// The version of an object that is there.
-fn version_of_object(objects: &ObjectTable, ob: ObjId) -> Option<ProgId>
+pub(crate) fn version_of_object(objects: &ObjectTable, ob: ObjId) -> Option<ProgId>
     ensures { result ≡ version_in (row_at objects.now ob.0) }
 {
     match objects.get(ob) {
