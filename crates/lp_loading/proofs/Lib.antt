@@ -3,3 +3,4 @@ pub mod Outside
 pub mod Worlds
 pub mod Parents
 pub mod SeenNames
+pub mod Making

@@ -3,4 +3,5 @@ pub mod Rows
 pub mod Compiling
 pub mod Loads
 pub mod Simuls
+pub mod Versions
 pub mod Going

@@ -8,3 +8,4 @@ pub mod job;
 pub mod own;
 mod present;
 mod simuls;
+mod versions;
