@@ -4,3 +4,4 @@ pub mod Worlds
 pub mod Parents
 pub mod SeenNames
 pub mod Making
+pub mod Telling

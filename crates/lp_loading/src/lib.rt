@@ -5,6 +5,7 @@
 
 pub mod compiling;
 pub mod job;
+pub mod laws;
 pub mod own;
 mod present;
 mod simuls;
