@@ -5,3 +5,5 @@ pub mod Parents
 pub mod SeenNames
 pub mod Making
 pub mod Telling
+pub mod Paying
+pub mod Parting

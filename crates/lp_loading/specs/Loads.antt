@@ -37,6 +37,11 @@ asked_of (questions.Create o) = Apply o (codes "create")
 abbrev pub loads_of : List Loading → List course.Loading
 loads_of ls = map loading_of (reverse ls)
 
+-- how many loads for an `inherit` led to one behind these, the innermost last, or as many where there are none
+abbrev pub last_nested : ℕ → List Loading → ℕ
+last_nested n [] = n
+last_nested n (l ∷ ls) = last_nested (suc l.nested) ls
+
 -- The load is under way while it asks: it is the innermost.
 abbrev pub IsUnderWay : LoadJob → List Loading → Asker → Type 0
 IsUnderWay job loads by = (asker : Asker) × (by ≡ under_way asker job.name job.nested) × (by.loads ≡ loads_of loads)

@@ -3,10 +3,12 @@
 //! Reading and checking the file is no question: the job compiles it at once, which gives what the front end tells.
 #![tactic(auto)]
 
+pub mod begin;
 pub mod compiling;
 pub mod job;
 pub mod laws;
 pub mod own;
+mod parts;
 mod present;
 mod simuls;
 mod versions;

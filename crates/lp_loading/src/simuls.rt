@@ -1,6 +1,6 @@
 //! The names that a file sees of the simul-efun object: the functions that every object may call there.
 ghost use Rattle.std.specs.Prelude.{◌≡◌, IfOk, List, None, OnOk, Option, Some, ℕ};
-ghost use Rattle.std.specs.Str.{chars};
+ghost use Rattle.std.specs.Str.{chars, encode_utf8_all};
 ghost use Rattle.std.specs.String.{string_bytes};
 ghost use Rattle.lp_code.specs.declared.program.RawProgram.{RawProgram as Raw};
 ghost use Rattle.lp_efuns.specs.Names.{AreNamed};
@@ -47,8 +47,9 @@ pub(crate) fn is_under_way(name: &[char], loads: &[Loading]) -> bool
 }
 
 /// Characters as a text of the program.
-fn text_of(alloc: Global, all: &[char]) -> Result<String, AllocError>
-    ensures { IfOk result (λ s. all.now ≡ chars (string_bytes s)) }
+pub(crate) fn text_of(alloc: Global, all: &[char]) -> Result<String, AllocError>
+    ensures chars { IfOk result (λ s. all.now ≡ chars (string_bytes s)) }
+    ensures bytes { IfOk result (λ s. string_bytes s ≡ encode_utf8_all all.now) }
 {
     let mut s = String::new(alloc);
     for c in all {

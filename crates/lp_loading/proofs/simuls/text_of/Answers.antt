@@ -20,7 +20,12 @@ loop-c-preserved c =
     let v : encode x ≡ encodes (x ∷ []) = search rules in
     c.in_ok-push.ensures.bytes ∙ ap (λ b. b ++ encode x) c.loop-c.invariant ∙ ap (λ b. encodes (take i cs) ++ b) v ∙ sym (ap encodes t ∙ encodes-append (take i cs) (x ∷ []))
 
-pub returns : goal.returns
-returns c =
+pub returns-clause-bytes : goal.returns-clause-bytes
+returns-clause-bytes c =
+    let e : encodes c.args.all.now ≡ string_bytes c.loop-c.s = search (rules, take_all) in
+    sym e
+
+pub returns-clause-chars : goal.returns-clause-chars
+returns-clause-chars c =
     let e : encodes c.args.all.now ≡ string_bytes c.loop-c.s = search (rules, take_all) in
     ∥∥₁_elim c.loop-c.s.ok (list_set c.args.all.now (chars (string_bytes c.loop-c.s))) (λ u. chars_from_encodes c.args.all.now (string_bytes c.loop-c.s) u e)
