@@ -7,3 +7,4 @@ pub mod Making
 pub mod Telling
 pub mod Paying
 pub mod Parting
+pub mod Answered

@@ -38,7 +38,7 @@ check_goes : (front : FrontEnd) (path : List ℕ) (items : List ItemTree) (pragm
 check_goes front path items pragmas parents simuls by s k r e t h = told_goes front (Check path items pragmas parents simuls) by s k r e refl t h
 
 -- a course that is over
-over_ends : (front : FrontEnd) (e : End Reply) → Ends front (Over e) e
+pub over_ends : (front : FrontEnd) (e : End Reply) → Ends front (Over e) e
 over_ends front e = ([], refl, tt)
 
 module _ (front : FrontEnd) (turns : ℕ) (kind : LoadKind) (by : Asker) (nested : ℕ) (name : List ℕ) (made : List Made) (s : State) where

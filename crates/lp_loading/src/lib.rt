@@ -11,4 +11,5 @@ pub mod own;
 mod parts;
 mod present;
 mod simuls;
+mod taking;
 mod versions;
