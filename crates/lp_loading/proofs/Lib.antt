@@ -8,3 +8,4 @@ pub mod Telling
 pub mod Paying
 pub mod Parting
 pub mod Answered
+pub mod SimulFirst

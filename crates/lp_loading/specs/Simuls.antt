@@ -1,5 +1,5 @@
 -- The names that a file sees of the simul-efun object.
-use Rattle.std.specs.Prelude.{◌≡◌, ◌++◌, ℕ, List, [], Option, Some, None, filter, slice_get, if◌then◌else◌}
+use Rattle.std.specs.Prelude.{◌≡◌, ◌++◌, ℕ, List, [], Option, Some, None, ◌||◌, filter, is_some, slice_get, if◌then◌else◌}
 use Rattle.lp_values.specs.declared.id.ObjId.{ObjId}
 use Rattle.lp_values.specs.declared.id.ProgId.{ProgId}
 use Rattle.lp_code.specs.declared.program.RawProgram.{RawProgram}
@@ -38,6 +38,10 @@ names_seen w (Some o) = callable_names (heritage_of w o)
 -- what a file sees, while these loads are under way
 abbrev pub SeesSimuls : Option Bytes → Live → List Loading → List (List ℕ) → Type 0
 SeesSimuls told live loads names = (programs : List RawProgram) (w : World) → IsWorldOf told programs live w → names ≡ simul_names w (loads_of loads)
+
+-- the name of an object that has to be loaded: it is not live, and its own load is not under way
+abbrev pub missing_if : World → List ℕ → List course.Loading → Option (List ℕ)
+missing_if w name loads = if is_some (object_named w name) || is_under_way name loads then None else Some name
 
 -- a program is that of a version, in each world for which the state stands
 abbrev pub IsProgramNow : Option Bytes → Live → ProgId → RawProgram → Type 0

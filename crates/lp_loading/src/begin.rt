@@ -25,7 +25,7 @@ fn are_ascii(name: &[char]) -> bool
 }
 
 /// The name that characters spell.
-fn name_of(alloc: Global, name: &[char]) -> Result<Name, LoadFault>
+pub(crate) fn name_of(alloc: Global, name: &[char]) -> Result<Name, LoadFault>
     ensures name { IfOk result (λ n. n ≡ name.now) }
     ensures ascii { IfOk result (λ n. IsAscii n) }
     ensures yet { IfErr result (λ f. f ≡ NotYet → list_all ascii name.now ≡ false) }

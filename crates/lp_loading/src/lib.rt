@@ -3,6 +3,7 @@
 //! Reading and checking the file is no question: the job compiles it at once, which gives what the front end tells.
 #![tactic(auto)]
 
+mod asking;
 pub mod begin;
 pub mod compiling;
 pub mod job;
