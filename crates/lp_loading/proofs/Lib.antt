@@ -9,3 +9,4 @@ pub mod Paying
 pub mod Parting
 pub mod Answered
 pub mod SimulFirst
+pub mod ParentAsked

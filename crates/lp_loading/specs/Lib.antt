@@ -6,3 +6,4 @@ pub mod Readings
 pub mod Simuls
 pub mod Versions
 pub mod Going
+pub mod Parents

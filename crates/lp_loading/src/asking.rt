@@ -5,6 +5,7 @@ ghost use Rattle.lp_code.specs.declared.program.RawProgram.{RawProgram as Raw};
 ghost use Rattle.lp_language.specs.World.{World};
 ghost use Rattle.lp_efuns.specs.declared.caller.Turn.{Turn};
 ghost use Rattle.lp_loading.specs.Going.{Goes};
+ghost use Rattle.lp_loading.specs.Parents.{AsksParent};
 ghost use Rattle.lp_loading.specs.Loads.{loads_of};
 ghost use Rattle.lp_loading.specs.Simuls.{missing_if};
 ghost use Rattle.lp_loading.specs.declared.job.Going.TheVariants as stages;
@@ -16,10 +17,13 @@ ghost use Rattle.lp_world.specs.declared.live.Live.{Live as L};
 
 use crate::begin::name_of;
 use crate::job::{LoadFault, Question, Step, Waiting};
+use crate::laws::law_missing_goes_on;
 use crate::simuls::{is_under_way, object_named};
 use lp_asking::asker::Loading;
 use lp_code::name::Name;
+use lp_front_end::law_names_have_files;
 use lp_world::live::Live;
+use std::alloc::{AllocError, Global};
 
 /// The name of the simul-efun object, where it has to be loaded: it is not live, and its own load is not under way.
 fn missing_named(
@@ -57,4 +61,14 @@ pub(crate) fn ask_simul(name: Name) -> Step
         → Goes result job stages.Simul loads told live budget told live budget turn }
 {
     Step::Asks(Question::Load(name), Waiting::Simul)
+}
+
+/// A load asks for the load of the first of its parents that is not known, which has this name.
+pub(crate) fn ask_parent(alloc: Global, name: Name) -> Result<Step, AllocError>
+    ensures { IfOk result (λ r. (job : Job) (loads : List Loads) (told : Option Bytes) (live : L) (budget : ℕ) (turn : Turn) → AsksParent job loads told live name → Goes r job stages.Read loads told live budget told live budget turn) }
+{
+    law_missing_goes_on();
+    law_names_have_files();
+    let parent = name.copy(alloc)?;
+    Ok(Step::Asks(Question::Load(name), Waiting::Parent(parent)))
 }

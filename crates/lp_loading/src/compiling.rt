@@ -94,6 +94,8 @@ pub(crate) fn bring_out<W: Truthful>(
     ensures worlds { OnOk result (KeepsWorlds (W.content swap.old) live.old (W.content swap.new) live.new) }
     ensures less { OnOk result (out_count live.new.versions < out_count live.old.versions) }
     ensures store { live.new.store ≡ live.old.store }
+    ensures outputs { live.new.outputs ≡ live.old.outputs }
+    ensures objects { live.new.objects ≡ live.old.objects }
 {
     if !has_version(&live.versions, p) {
         return Err(LoadFault::NoMemory);
@@ -117,6 +119,8 @@ fn needed<W: Truthful>(
     ensures closed { IsClosed live.new }
     ensures worlds { OnOk result (KeepsWorlds (W.content swap.old) live.old (W.content swap.new) live.new) }
     ensures store { live.new.store ≡ live.old.store }
+    ensures outputs { live.new.outputs ≡ live.old.outputs }
+    ensures objects { live.new.objects ≡ live.old.objects }
     ensures found { IfOk result (λ o. MatchOption o (out_count live.new.versions < out_count live.old.versions) (λ r. IsMissingHere r (all_made made.now) live.old (string_bytes file))) }
 {
     if !is_ascii(file.as_str()) {
@@ -144,6 +148,8 @@ fn refused<W: Truthful>(
     ensures closed { IsClosed live.new }
     ensures worlds { OnOk result (KeepsWorlds (W.content swap.old) live.old (W.content swap.new) live.new) }
     ensures store { live.new.store ≡ live.old.store }
+    ensures outputs { live.new.outputs ≡ live.old.outputs }
+    ensures objects { live.new.objects ≡ live.old.objects }
     ensures found { IfOk result (λ o. MatchOption o (out_count live.new.versions < out_count live.old.versions) (λ r. IsRefusedTo r fault (all_made made.now) live.old)) }
 {
     match fault {
@@ -168,6 +174,8 @@ fn attempt<W: Truthful>(
     ensures closed { IsClosed live.new }
     ensures worlds { OnOk result (KeepsWorlds (W.content swap.old) live.old (W.content swap.new) live.new) }
     ensures store { live.new.store ≡ live.old.store }
+    ensures outputs { live.new.outputs ≡ live.old.outputs }
+    ensures objects { live.new.objects ≡ live.old.objects }
     ensures found { IfOk result (λ o. MatchOption o (out_count live.new.versions < out_count live.old.versions)
         (λ r. (name : List ℕ) → path.now ≡ file_bytes name → CompilesTo r (all_made made.now) name own simuls.now (W.content swap.old) live.old (W.content swap.new) live.new)) }
 {
@@ -201,6 +209,8 @@ pub(crate) fn compile_file<W: Truthful>(
     ensures compiles { IfOk result (λ r. (name : List ℕ) → path.now ≡ file_bytes name → CompilesTo r (all_made made.now) name own simuls.now (W.content swap.old) live.old (W.content swap.new) live.new) }
     ensures worlds { OnOk result (KeepsWorlds (W.content swap.old) live.old (W.content swap.new) live.new) }
     ensures store { live.new.store ≡ live.old.store }
+    ensures outputs { live.new.outputs ≡ live.old.outputs }
+    ensures objects { live.new.objects ≡ live.old.objects }
 {
     match attempt(live, swap, made, path, own, simuls) {
         Ok(Some(r)) => Ok(r),

@@ -107,6 +107,8 @@ pub(crate) fn bring_shared<W: Truthful>(
     ensures closed { IsClosed live.new }
     ensures worlds { OnOk result (KeepsWorlds (W.content swap.old) live.old (W.content swap.new) live.new) }
     ensures store { live.new.store ≡ live.old.store }
+    ensures outputs { live.new.outputs ≡ live.old.outputs }
+    ensures objects { live.new.objects ≡ live.old.objects }
     ensures code { IfOk result (IsProgramNow (W.content swap.old) live.old p) }
 {
     if !has_version(&live.versions, p) {
@@ -135,6 +137,8 @@ fn put_tree<W: Truthful>(
     ensures closed { IsClosed live.new }
     ensures worlds { OnOk result (KeepsWorlds (W.content swap.old) live.old (W.content swap.new) live.new) }
     ensures store { live.new.store ≡ live.old.store }
+    ensures outputs { live.new.outputs ≡ live.old.outputs }
+    ensures objects { live.new.objects ≡ live.old.objects }
     ensures names { OnOk result (PutsTree (W.content swap.old) live.old whole.now depth version names.old.items names.new.items) }
 {
     law_names();
@@ -160,6 +164,8 @@ fn names_of_version<W: Truthful>(
     ensures closed { IsClosed live.new }
     ensures worlds { OnOk result (KeepsWorlds (W.content swap.old) live.old (W.content swap.new) live.new) }
     ensures store { live.new.store ≡ live.old.store }
+    ensures outputs { live.new.outputs ≡ live.old.outputs }
+    ensures objects { live.new.objects ≡ live.old.objects }
     ensures names { IfOk result (λ names. (programs : List Raw) (w : World) → IsWorldOf (W.content swap.old) programs live.old w → names ≡ callable_names (heritage w v)) }
 {
     law_open();
@@ -186,6 +192,8 @@ fn names_of_object<W: Truthful>(
     ensures closed { IsClosed live.new }
     ensures worlds { OnOk result (KeepsWorlds (W.content swap.old) live.old (W.content swap.new) live.new) }
     ensures store { live.new.store ≡ live.old.store }
+    ensures outputs { live.new.outputs ≡ live.old.outputs }
+    ensures objects { live.new.objects ≡ live.old.objects }
     ensures names { IfOk result (λ names. (programs : List Raw) (w : World) (n : List ℕ) → IsWorldOf (W.content swap.old) programs live.old w → named w n ≡ Some ob → names ≡ names_seen w (Some ob)) }
 {
     match version_of_object(&live.objects, ob) {
@@ -208,6 +216,8 @@ pub(crate) fn simul_names<W: Truthful>(
     ensures closed { IsClosed live.new }
     ensures worlds { OnOk result (KeepsWorlds (W.content swap.old) live.old (W.content swap.new) live.new) }
     ensures store { live.new.store ≡ live.old.store }
+    ensures outputs { live.new.outputs ≡ live.old.outputs }
+    ensures objects { live.new.objects ≡ live.old.objects }
     ensures sees { IfOk result (SeesSimuls (W.content swap.old) live.old loads.now) }
 {
     let seen = simul_seen(live, loads)?;

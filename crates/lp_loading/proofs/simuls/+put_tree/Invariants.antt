@@ -16,6 +16,8 @@ invariant-loop-p g l = record {
   closed : IsClosed l.live;
   worlds : KeepsWorlds (g.W.SwapFile.content l.fn.swap) l.fn.live (g.W.SwapFile.content l.swap) l.live;
   store : l.live.store ≡ l.fn.live.store;
+  outputs : l.live.outputs ≡ l.fn.live.outputs;
+  objects : l.live.objects ≡ l.fn.live.objects;
   names : (programs : List RawProgram) (w : World) → IsWorldOf (g.W.SwapFile.content l.fn.swap) programs l.fn.live w
       → l.names.items ++ open_before l.whole (each_heritage (heritage_within (l.depth - 1) w) (drop l.p-index l.parents)) ≡ l.fn.names.items ++ open_in l.whole (heritage_within l.depth w l.fn.version);
 }
