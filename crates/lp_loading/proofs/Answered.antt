@@ -1,5 +1,5 @@
 -- A load takes the answer of a load that it asked for.
-use Rattle.std.proofs.Common.{◌≡◌, ◌∙◌, ◌<◌, ◌≤◌, ℕ, suc, List, [], ◌∷◌, Option, Some, None, refl, ap, sym, subst, map, pos, unwrap_or, arith}
+use Rattle.std.proofs.Common.{◌≡◌, ◌∙◌, ◌<◌, ℕ, suc, List, ◌∷◌, Option, Some, None, refl, ap, sym, subst, unwrap_or, arith}
 use Rattle.lp_values.specs.declared.id.ObjId.{ObjId}
 use Rattle.lp_values.specs.declared.id.ProgId.{ProgId}
 use Rattle.lp_values.specs.declared.value.Value.{Value}
@@ -7,7 +7,6 @@ use Rattle.lp_values.specs.declared.value.Value.TheVariants as values
 use Rattle.lp_code.specs.declared.program.RawProgram.{RawProgram}
 use Rattle.lp_events.specs.declared.out.Out.{Out}
 use Rattle.lp_swapfile.specs.Device.{Bytes}
-use Rattle.lp_language.specs.Course as course
 use Rattle.lp_language.specs.Course.{Course, End, Gives, IsFaulty, IsSound, Over, Plain, Reply, State, Stops, WasRead, gives, zero_value}
 use Rattle.lp_language.specs.World.{World, object_at, object_named}
 use Rattle.lp_meaning.specs.Askers.{Asker}
@@ -16,7 +15,6 @@ use Rattle.lp_meaning.specs.FileLoads.{object_of_value, reading, unless_there, w
 use Rattle.lp_meaning.specs.FrontEnd.{FrontEnd}
 use Rattle.lp_asking.specs.declared.asker.Loading.{Loading}
 use Rattle.lp_asking.specs.declared.ending.Place.{Place}
-use Rattle.lp_asking.specs.declared.ending.Stop.{Stop}
 use Rattle.lp_efuns.specs.declared.caller.Turn.{Turn}
 use Rattle.lp_world.specs.Stands.{Stands}
 use Rattle.lp_world.specs.declared.live.Live.{Live}

@@ -1,29 +1,23 @@
 -- A compiled file becomes a version.
-use Rattle.std.proofs.Common.{◌≡◌, ◌∙◌, ◌∷◌, ◌++◌, ◌+◌, ◌<◌, ◌^◌, ℕ, zero, suc, List, [], Option, Some, None, refl, ap, sym, subst, map, length, slice_get, unwrap_or, encode_utf8_all}
+use Rattle.std.proofs.Common.{◌≡◌, ◌∙◌, ◌∷◌, ◌++◌, ◌<◌, ◌^◌, ℕ, zero, suc, List, [], Some, refl, ap, sym, subst, map, length, slice_get}
 use Rattle.std.specs.Str.{IsAscii}
 use Rattle.std.proofs.lemmas.Str.{IsAscii-append, encodes-IsAscii}
 use Rattle.lp_values.specs.declared.id.ProgId.{ProgId}
 use Rattle.lp_code.specs.declared.program.RawProgram.{RawProgram}
 use Rattle.lp_code.specs.declared.tables.Tables.{Tables}
-use Rattle.lp_swapfile.specs.Device.{Bytes}
 use Rattle.lp_language.specs.World as world
 use Rattle.lp_language.specs.World.{World}
-use Rattle.lp_meaning.specs.FileLoads.{Made, parents_in, version_known, version_now}
-use Rattle.lp_meaning.specs.FrontEnd.{FrontEnd}
-use Rattle.lp_meaning.specs.WorldSteps.{file_of_name, next_version, with_new_version}
+use Rattle.lp_meaning.specs.FileLoads.{parents_in, version_known, version_now}
+use Rattle.lp_meaning.specs.WorldSteps.{file_of_name, with_new_version}
 use Rattle.lp_front_end.specs.Parents.{file_bytes}
 use Rattle.lp_fits.specs.Fits.{HaveTables, NewVersionFits}
-use Rattle.lp_world.specs.Additions as additions
 use Rattle.lp_world.specs.Closed.{IsClosed}
 use Rattle.lp_world.specs.Stands.{Stands}
 use Rattle.lp_world.specs.declared.live.Live.{Live}
-use Rattle.lp_world.specs.declared.versions.Version.{Version}
 use Rattle.lp_residence.specs.Adding.{IsNewVersion}
 use Rattle.lp_making.specs.Calls.{CallsFindRows, HaveTablesAt}
 use Rattle.lp_making.specs.Versions.{StandsWithVersionOf}
-use Rattle.lp_targets.specs.Callees.{IsWorldOf}
-use Rattle.lp_loading.specs.Compiling.{IsProgramFor}
-use Rattle.lp_loading.specs.Versions.{IsMadeIn, MakesVersion}
+use Rattle.lp_loading.specs.Versions.{MakesVersion}
 use Rattle.lp_loading.proofs.Worlds.{ascii_text}
 
 -- a list with one more

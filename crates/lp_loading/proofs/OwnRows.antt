@@ -1,5 +1,5 @@
 -- Rows of a file's own functions, and of its initialisers.
-use Rattle.std.proofs.Common.{◌≡◌, ◌∙◌, ◌&&◌, ◌||◌, ◌+◌, ◌-◌, ◌<◌, ◌++◌, ℕ, zero, suc, Bool, true, false, List, [], ◌∷◌, Option, Some, None, refl, ap, sym, subst, map, length, nat_eq, codes, arith}
+use Rattle.std.proofs.Common.{◌≡◌, ◌∙◌, ◌&&◌, ◌||◌, ◌+◌, ◌-◌, ◌<◌, ◌++◌, ℕ, zero, suc, Bool, true, false, List, [], ◌∷◌, Option, Some, None, refl, ap, sym, subst, map, length, nat_eq, arith}
 use Rattle.std.specs.Prelude.{is_some, not, slice_get, unwrap_or, if◌then◌else◌}
 use Rattle.std.specs.List.{list_any}
 use Rattle.std.proofs.lemmas.List.{length-map}
@@ -13,14 +13,14 @@ use Rattle.lp_instr.specs.Code.{Code}
 use Rattle.lp_isa.specs.Programs.{AreFuns, AreInit, FunRow, IsReached, Reached, fun_from, fun_in, own_functions}
 use Rattle.lp_language.specs.Resolve.{Found, Function, Heir, Heritage, Part, callable_found, has_initialiser, own_function, found_in, or_else, own_names, own_variables, parents_of, parents_parts, part_at, part_count, parts, parts_before, resolve, resolve_last, version_of}
 use Rattle.lp_layout.proofs.RowLaid.{same_name}
-use Rattle.lp_inherit.specs.Heirs.{table, tables}
+use Rattle.lp_inherit.specs.Heirs.{tables}
 use Rattle.lp_inherit.proofs.Meanings.{count_parts}
 use Rattle.lp_layout.specs.Layout.{slot_named}
 use Rattle.lp_plan_laws.specs.Tables.{AreOnce, IsNamedOnce}
 use Rattle.lp_plan_laws.proofs.Fresh.{itself}
 use Rattle.lp_part_laws.specs.Parts.{reached_in}
 use Rattle.lp_part_laws.specs.Versions.{FitsVersion, program_of, row_of}
-use Rattle.lp_part_laws.proofs.Lists.{get_map, got_map, is_below, one_value, past, there_below}
+use Rattle.lp_part_laws.proofs.Lists.{one_value, past, there_below}
 use Rattle.lp_part_laws.proofs.Places.{count_parents}
 use Rattle.lp_part_laws.proofs.Rows.{fit_reached, function_at}
 use Rattle.lp_part_laws.proofs.Texts.{own_named}

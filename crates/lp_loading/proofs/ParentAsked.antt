@@ -1,5 +1,5 @@
 -- A load asks for a parent.
-use Rattle.std.proofs.Common.{◌≡◌, ◌∙◌, ◌<◌, ◌≤◌, ℕ, zero, suc, false, List, [], ◌∷◌, Option, refl, ap, sym, subst, nat_lt, if◌then◌else◌, arith}
+use Rattle.std.proofs.Common.{◌≡◌, ◌∙◌, ℕ, zero, suc, false, List, [], ◌∷◌, Option, refl, ap, sym, subst, nat_lt, if◌then◌else◌, arith}
 use mathlib.Core.Path.{fun_ext}
 use Rattle.lp_tree.specs.declared.fault.FaultKind.TheVariants as faults
 use Rattle.lp_swapfile.specs.Device.{Bytes}
@@ -20,7 +20,7 @@ use Rattle.lp_loading.specs.declared.job.Question.TheVariants as questions
 use Rattle.lp_loading.specs.declared.job.Step.TheVariants as steps
 use Rattle.lp_loading.specs.declared.job.Waiting.TheVariants as waitings
 use Rattle.lp_loading.specs.Going.{Goes}
-use Rattle.lp_loading.specs.Loads.{kind_of, loads_of, waiting_course}
+use Rattle.lp_loading.specs.Loads.{kind_of, waiting_course}
 use Rattle.lp_loading.specs.Parents.{AsksParent}
 use Rattle.lp_loading.specs.Present.{all_made}
 use Rattle.lp_loading.specs.Readings.{MissingGoesOn}

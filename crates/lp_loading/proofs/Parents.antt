@@ -1,5 +1,5 @@
 -- What compiling a file gives a load, by what the front end tells.
-use Rattle.std.proofs.Common.{◌≡◌, ◌∙◌, ◌⊎◌, inl, inr, ℕ, true, false, All, Bool, List, [], ◌∷◌, Option, Some, None, Result, Ok, Err, IfOk, OnOk, refl, ap, sym, subst, map, cond, unwrap_or, string_bytes}
+use Rattle.std.proofs.Common.{◌≡◌, ◌∙◌, ◌⊎◌, inl, inr, ℕ, true, All, List, [], ◌∷◌, Option, Some, None, Result, Ok, Err, IfOk, OnOk, refl, ap, sym, subst, map, cond, unwrap_or, string_bytes}
 use Rattle.std.specs.Char.{is_ascii}
 use Rattle.std.specs.List.{list_all}
 use Rattle.std.specs.Prelude.{MatchOption, is_some, not}
@@ -15,7 +15,7 @@ use Rattle.lp_swapfile.specs.Device.{Bytes}
 use Rattle.lp_front.specs.declared.parents.Parent.{Parent as Inherited}
 use Rattle.lp_front.specs.Names as files
 use Rattle.lp_front.specs.Reading as stored
-use Rattle.lp_front.specs.Settling.{own_version, versions_of, with_version}
+use Rattle.lp_front.specs.Settling.{versions_of, with_version}
 use Rattle.lp_language.specs.World.{World}
 use Rattle.lp_meaning.specs.FileLoads.{Made, Parent, first_missing, known_version, parents_in, version_known}
 use Rattle.lp_meaning.specs.FrontEnd.{Declares, FrontEnd, HasFault, Reading}
@@ -24,7 +24,7 @@ use Rattle.lp_front_end.specs.FrontEnds.{IsFrontEnd}
 use Rattle.lp_front_end.specs.Parents.{FilesAreOfNames, KnowsParents, by_file, file_bytes, tables_known}
 use Rattle.lp_front_end.specs.Stores.{HasFiles, ReadsStore, StoresAreRead}
 use Rattle.lp_compile.specs.Known.{AreGiven, IsFirstMissing, IsMissing as IsMissingThere, Known}
-use Rattle.lp_compile.specs.Compiles.{Compiles, IsFaulty, IsRefused, IsUnread, Needs}
+use Rattle.lp_compile.specs.Compiles.{Compiles, IsRefused, IsUnread, Needs}
 use Rattle.lp_compile.specs.declared.fault.CompileFault.{CompileFault}
 use Rattle.lp_compile.specs.declared.fault.CompileFault.TheVariants as refusals
 use Rattle.lp_compile_laws.specs.Told.{CompiledIsSound, IsFaultyFile, IsFaultyUnit, IsMissing, RefusedIsTold, StandsOn}
@@ -33,7 +33,7 @@ use Rattle.lp_world.specs.declared.live.Live.{Live}
 use Rattle.lp_targets.specs.Callees.{IsWorldOf}
 use Rattle.lp_loading.specs.declared.compiling.Compiled.{Compiled}
 use Rattle.lp_loading.specs.declared.compiling.Compiled.TheVariants as compiled
-use Rattle.lp_loading.specs.Compiling.{CompilesTo, IsCompiledTo, IsMissingHere, IsProgramFor, IsRefusedTo, IsUnknown}
+use Rattle.lp_loading.specs.Compiling.{CompilesTo, IsCompiledTo, IsProgramFor, IsRefusedTo, IsUnknown}
 use Rattle.lp_loading.specs.declared.job.LoadFault.{LoadFault}
 use Rattle.lp_loading.specs.Present.{HasWorld, KeepsWorlds, known_of, version_of_file}
 use Rattle.lp_loading.proofs.Worlds.{what_is_known, what_is_not}

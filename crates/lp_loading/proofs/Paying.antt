@@ -1,17 +1,16 @@
 -- How a load begins.
-use Rattle.std.proofs.Common.{◌≡◌, ◌∙◌, ◌+◌, ◌-◌, ◌<◌, ◌≤◌, ◌++◌, ℕ, suc, true, false, List, [], ◌∷◌, Option, Some, None, IfSome, refl, ap, sym, map, reverse, nat_lt, arith, if◌then◌else◌}
+use Rattle.std.proofs.Common.{◌≡◌, ◌∙◌, ◌-◌, ◌<◌, ◌≤◌, ◌++◌, ℕ, suc, List, [], ◌∷◌, Option, Some, None, IfSome, refl, ap, sym, map, reverse, if◌then◌else◌}
 use Rattle.std.specs.Str.{IsAscii}
 use Rattle.std.proofs.lemmas.Bool.{lt-ltb, le-ltb}
 use Rattle.std.proofs.lemmas.List.{map-append, reverse-append}
 use Rattle.lp_language.specs.Course as course
 use Rattle.lp_language.specs.Course.{Ask, Course, LoadKind, Over, Reply, Spent, State, Stops, here}
 use Rattle.lp_meaning.specs.Askers.{asker_of, state_of}
-use Rattle.lp_meaning.specs.FileLoads.{Made, load_call, nested_in, reading, under_way, with_simul}
+use Rattle.lp_meaning.specs.FileLoads.{Made, nested_in, reading, under_way, with_simul}
 use Rattle.lp_meaning.specs.Limits.{load_price}
 use Rattle.lp_asking.specs.Asking.{loading_of}
 use Rattle.lp_asking.specs.declared.asker.Loading.{Loading}
 use Rattle.lp_loading.specs.declared.job.LoadJob.{LoadJob}
-use Rattle.lp_loading.specs.declared.job.MadeFor.{MadeFor}
 use Rattle.lp_loading.specs.declared.job.Purpose.{Purpose}
 use Rattle.lp_loading.specs.Going.{HasBegun, HasSpent}
 use Rattle.lp_loading.specs.Loads.{kind_of, last_nested, loads_of}

@@ -13,8 +13,8 @@ use Rattle.lp_instr.specs.EfunList.{is_name}
 use Rattle.lp_swapfile.specs.Device.{Bytes}
 use Rattle.lp_inherit.specs.Heirs.{table}
 use Rattle.lp_language.specs.Course as course
-use Rattle.lp_language.specs.World.{World, object_at, object_named, version_at}
-use Rattle.lp_language.specs.Resolve.{Heir, Heritage, Heritages, NoParent, OneParent, callable_found, callable_names, each_heritage, heritage, heritage_of, heritage_within, names_before, names_in, own_names, resolve, version_of}
+use Rattle.lp_language.specs.World.{World, object_named, version_at}
+use Rattle.lp_language.specs.Resolve.{Heir, Heritage, callable_found, callable_names, each_heritage, heritage, heritage_of, heritage_within, names_before, names_in, own_names, resolve, version_of}
 use Rattle.lp_meaning.specs.FileLoads.{is_under_way, simul_names}
 use Rattle.lp_part_laws.specs.Versions.{heritage_in}
 use Rattle.lp_part_laws.proofs.Trees.{version_settled}

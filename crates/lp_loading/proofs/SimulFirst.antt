@@ -1,5 +1,5 @@
 -- The simul-efun object comes first.
-use Rattle.std.proofs.Common.{◌≡◌, ◌∙◌, ◌||◌, ◌<◌, ◌≤◌, ℕ, suc, Bool, true, false, List, [], Option, Some, None, refl, ap, sym, subst, if◌then◌else◌, arith}
+use Rattle.std.proofs.Common.{◌≡◌, ◌∙◌, ◌||◌, ℕ, Bool, true, false, List, [], Option, Some, None, refl, ap, sym, subst, if◌then◌else◌, arith}
 use Rattle.std.specs.Prelude.{is_some}
 use mathlib.Core.Path.{fun_ext}
 use Rattle.lp_values.specs.declared.id.ObjId.{ObjId}
@@ -8,7 +8,7 @@ use Rattle.lp_swapfile.specs.Device.{Bytes}
 use Rattle.lp_language.specs.Course as course
 use Rattle.lp_language.specs.Course.{Asks, Course, Load, Over, Reply, Returned, State, after, and_then, end_of_reply}
 use Rattle.lp_language.specs.World.{World, object_named}
-use Rattle.lp_meaning.specs.Askers.{Asker, ask_reply, question}
+use Rattle.lp_meaning.specs.Askers.{ask_reply, question}
 use Rattle.lp_meaning.specs.Closing.{Ends}
 use Rattle.lp_meaning.specs.FileLoads.{after_load, is_under_way, simul_missing, unless_there}
 use Rattle.lp_world.specs.Stands.{Stands}
@@ -21,7 +21,7 @@ use Rattle.lp_loading.specs.declared.job.Question.TheVariants as questions
 use Rattle.lp_loading.specs.declared.job.Step.TheVariants as steps
 use Rattle.lp_loading.specs.declared.job.Waiting.TheVariants as waitings
 use Rattle.lp_loading.specs.Going.{Goes}
-use Rattle.lp_loading.specs.Loads.{going_course, kind_of, loads_of, reading_first, waiting_course}
+use Rattle.lp_loading.specs.Loads.{loads_of, reading_first, waiting_course}
 use Rattle.lp_loading.specs.Simuls.{missing_if}
 
 -- what is missing, by the state's name

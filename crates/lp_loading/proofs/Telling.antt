@@ -1,20 +1,20 @@
 -- What reading a file leads to.
-use Rattle.std.proofs.Common.{◌≡◌, ◌∙◌, ◌⊎◌, inl, inr, ◌++◌, ℕ, suc, List, [], ◌∷◌, Option, Some, None, refl, ap, sym, subst, map}
+use Rattle.std.proofs.Common.{◌≡◌, ◌∙◌, inl, inr, ℕ, suc, List, [], ◌∷◌, Some, None, refl, ap, sym, subst, map}
 use Rattle.std.proofs.lemmas.List.{append-nil}
 use Rattle.lp_tree.specs.declared.fault.Fault.{Fault}
 use Rattle.lp_tree.specs.declared.pragma.Pragmas.{Pragmas}
 use Rattle.lp_tree.specs.Units.{ItemTree}
 use Rattle.lp_values.specs.declared.id.ProgId.{ProgId}
-use Rattle.lp_language.specs.Course.{Asked, Check, Course, End, Gives, IsFaulty, IsSound, LoadKind, Over, Read, Reply, Returned, State, WasRead, after, and_then, end_of_reply, told as stated}
+use Rattle.lp_language.specs.Course.{Asked, Check, Course, End, Gives, IsFaulty, LoadKind, Over, Read, Reply, State, WasRead, after, and_then, end_of_reply, told as stated}
 use Rattle.lp_language.specs.World.{Version}
 use Rattle.lp_meaning.specs.Askers.{Asker, ask_reply, question, told}
-use Rattle.lp_meaning.specs.Closing.{Ends, Has}
-use Rattle.lp_meaning.specs.FileLoads.{Made, Parent, after_check, after_read, checking, fault_record, faulty, first_missing, making, parent_missing, parents_in, reading, simul_names, version_known, version_now, with_parents}
-use Rattle.lp_meaning.specs.FrontEnd.{Declares, FrontEnd, HasFault, Tells, check_reply, read_reply, unchanged}
+use Rattle.lp_meaning.specs.Closing.{Ends}
+use Rattle.lp_meaning.specs.FileLoads.{Made, after_check, after_read, checking, fault_record, first_missing, parent_missing, parents_in, reading, simul_names, version_known, version_now}
+use Rattle.lp_meaning.specs.FrontEnd.{FrontEnd, Tells, check_reply, read_reply, unchanged}
 use Rattle.lp_meaning.specs.Questions.{means}
-use Rattle.lp_meaning.specs.WorldSteps.{file_of_name, next_version, with_new_version}
+use Rattle.lp_meaning.specs.WorldSteps.{file_of_name}
 use Rattle.lp_meaning.proofs.Kept.{unchanged_can}
-use Rattle.lp_compile_laws.specs.Told.{IsChecked, IsFaultyFile, IsFaultyUnit, IsMissing}
+use Rattle.lp_compile_laws.specs.Told.{IsChecked}
 use Rattle.lp_asking.proofs.Courses.{asks_ends}
 use Rattle.lp_loading.specs.Readings.{FaultyEnds, MissingGoesOn, SoundGoesOn}
 

@@ -1,5 +1,5 @@
 -- What is loaded of a state is what is known in a world for which it stands.
-use Rattle.std.proofs.Common.{◌≡◌, ◌≢◌, ◌∙◌, inl, inr, ◌+◌, ◌-◌, ◌++◌, ◌<◌, ℕ, zero, suc, nat_lt, Bool, true, false, ◌&&◌, List, [], ◌∷◌, Option, Some, None, refl, ap, sym, subst, map, take, drop, codes, slice_get, unwrap_or, length, length-append, option_map, encode_utf8_all, if◌then◌else◌, arith}
+use Rattle.std.proofs.Common.{◌≡◌, ◌≢◌, ◌∙◌, inl, inr, ◌+◌, ◌-◌, ◌++◌, ℕ, zero, suc, Bool, true, false, ◌&&◌, List, [], ◌∷◌, Option, Some, None, refl, ap, sym, subst, map, take, drop, codes, slice_get, unwrap_or, length, length-append, option_map, if◌then◌else◌, arith}
 use Rattle.std.specs.Char.{is_ascii}
 use Rattle.std.specs.List.{list_all}
 use Rattle.std.specs.Str.{IsAscii}
@@ -24,7 +24,7 @@ use Rattle.lp_meaning.specs.WorldSteps.{blueprint, file_of_name, is_clone_name}
 use Rattle.lp_front.specs.Settling.{own_version}
 use Rattle.lp_front_end.specs.Parents.{file_bytes, tables_known}
 use Rattle.lp_fits.specs.Fits.{HasTables}
-use Rattle.lp_part_laws.specs.Versions.{FitsVersion, heritage_in}
+use Rattle.lp_part_laws.specs.Versions.{heritage_in}
 use Rattle.lp_world.proofs.BareWorlds.{heritage_same}
 use Rattle.lp_world.specs.Rows.{row_at}
 use Rattle.lp_world.specs.Stands.{ObjectIs, Stands, named_of}
@@ -36,7 +36,7 @@ use Rattle.lp_targets.specs.Callees.{IsWorldOf}
 use Rattle.lp_targets.proofs.Worlds.{program_is}
 use Rattle.lp_loaded.specs.Present.{serial_of, tables_in, tables_of, version_at, version_in}
 use Rattle.lp_loaded.proofs.Ready.{own_version_is, standing_is_ready}
-use Rattle.lp_loading.specs.Present.{IsReadyFor, WorldsAreReady, known_of, version_in_file, version_named, version_of_file}
+use Rattle.lp_loading.specs.Present.{WorldsAreReady, known_of, version_in_file, version_named, version_of_file}
 
 -- A state that stands for a world is ready.
 pub worlds_are_ready : WorldsAreReady

@@ -7,7 +7,6 @@ use Rattle.lp_events.specs.declared.out.Out.{Out}
 use Rattle.lp_swapfile.specs.Device.{Bytes}
 use Rattle.lp_language.specs.Course as course
 use Rattle.lp_language.specs.Course.{Ask, Asks, Course, End, Gives, Stops, IsFaulty, Plain, Reply, State, after, end_of_reply, here, Spent}
-use Rattle.lp_language.specs.World.{World}
 use Rattle.lp_meaning.specs.Askers.{Asker, asker_of, question, state_of}
 use Rattle.lp_meaning.specs.Closing.{Ends}
 use Rattle.lp_meaning.specs.FileLoads.{load_call, under_way}
@@ -20,7 +19,7 @@ use Rattle.lp_targets.specs.Callees.{IsWorldOf}
 use Rattle.lp_asking.specs.Endings.{IsCauseThere, IsPlaceIf, IsStop}
 use Rattle.lp_asking.specs.declared.asker.Loading.{Loading}
 use Rattle.lp_asking.specs.declared.ending.Place.{Place}
-use Rattle.lp_loading.specs.Loads.{IsUnderWay, asked_of, given_course, going_course, kind_of, waiting_course}
+use Rattle.lp_loading.specs.Loads.{IsUnderWay, asked_of, going_course, kind_of, waiting_course}
 use Rattle.lp_loading.specs.declared.job.Answer.{Answer}
 use Rattle.lp_loading.specs.declared.job.Answer.TheVariants as answers
 use Rattle.lp_loading.specs.declared.job.Begun.{Begun}

@@ -1,14 +1,13 @@
 -- Loads: what is left of the load of a file, by where it stands.
-use Rattle.std.specs.Prelude.{◌≡◌, ⊤, ℕ, suc, List, [], ◌∷◌, map, reverse, codes}
+use Rattle.std.specs.Prelude.{◌≡◌, ℕ, suc, List, [], ◌∷◌, map, reverse, codes}
 use Rattle.lp_values.specs.declared.id.ObjId.{ObjId}
 use Rattle.lp_values.specs.declared.id.ProgId.{ProgId}
-use Rattle.lp_values.specs.declared.value.Value.{Value}
 use Rattle.lp_values.specs.declared.value.Value.TheVariants.{Obj}
 use Rattle.lp_language.specs.Course as course
 use Rattle.lp_language.specs.Course.{Apply, Asked, Course, End, Gives, Stops, Initialise, LoadKind, Over, Plain, Reply, State, and_then, gives, in_any_case}
 use Rattle.lp_language.specs.World.{object_at}
 use Rattle.lp_meaning.specs.Askers.{Asker, ask_value}
-use Rattle.lp_meaning.specs.FileLoads.{Made, after_load, begun_end, initialising, reading, under_way, unless_there, with_simul}
+use Rattle.lp_meaning.specs.FileLoads.{after_load, begun_end, initialising, reading, under_way, unless_there, with_simul}
 use Rattle.lp_asking.specs.Asking.{loading_of}
 use Rattle.lp_asking.specs.declared.asker.Loading.{Loading}
 use Rattle.lp_loading.specs.Present.{all_made}

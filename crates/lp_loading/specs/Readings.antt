@@ -1,14 +1,13 @@
 -- What reading a file leads to, by what compiling it gives: the questions that nobody asks are answered.
-use Rattle.std.specs.Prelude.{◌≡◌, ◌⊎◌, ℕ, suc, false, List, [], map, nat_lt}
+use Rattle.std.specs.Prelude.{◌⊎◌, ℕ, suc, List, [], map}
 use Rattle.lp_tree.specs.declared.fault.Fault.{Fault}
 use Rattle.lp_tree.specs.declared.pragma.Pragmas.{Pragmas}
 use Rattle.lp_tree.specs.Units.{ItemTree}
 use Rattle.lp_language.specs.Course.{End, Gives, IsFaulty, LoadKind, Reply, State}
 use Rattle.lp_meaning.specs.Askers.{Asker, told}
 use Rattle.lp_meaning.specs.Closing.{Ends}
-use Rattle.lp_meaning.specs.FileLoads.{Made, Parent, fault_record, is_under_way, making, parent_loaded, parent_missing, parents_in, reading, simul_names, version_known, version_now}
+use Rattle.lp_meaning.specs.FileLoads.{Made, fault_record, making, parent_missing, parents_in, reading, simul_names, version_known, version_now}
 use Rattle.lp_meaning.specs.FrontEnd.{FrontEnd}
-use Rattle.lp_meaning.specs.Limits.{max_nested}
 use Rattle.lp_meaning.specs.WorldSteps.{file_of_name, next_version, with_new_version}
 use Rattle.lp_compile_laws.specs.Told.{IsChecked, IsFaultyFile, IsFaultyUnit, IsMissing}
 

@@ -26,11 +26,7 @@ use lp_world::live::Live;
 use std::alloc::{AllocError, Global};
 
 /// The name of the simul-efun object, where it has to be loaded: it is not live, and its own load is not under way.
-fn missing_named(
-    live: &Live,
-    loads: &[Loading],
-    name: &[char],
-) -> Result<Option<Name>, LoadFault>
+fn missing_named(live: &Live, loads: &[Loading], name: &[char]) -> Result<Option<Name>, LoadFault>
     ensures { IfOk result (λ o. (told : Option Bytes) (programs : List Raw) (w : World) → Stands told programs live.now w → o ≡ missing_if w name.now (loads_of loads.now)) }
 {
     if is_under_way(name, loads) {

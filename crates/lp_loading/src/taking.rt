@@ -78,12 +78,7 @@ pub(crate) fn take_simul(job: &LoadJob, live: &Live, answer: Answer) -> Fed
 }
 
 /// A parent was loaded, and no object of the load's own name lives: its version is noted, and the file is read again.
-fn note_parent(
-    job: &mut LoadJob,
-    live: &Live,
-    name: Name,
-    ob: ObjId,
-) -> Result<Fed, LoadFault>
+fn note_parent(job: &mut LoadJob, live: &Live, name: Name, ob: ObjId) -> Result<Fed, LoadFault>
     requires none { (told : Option Bytes) (programs : List Raw) (w : World) → Stands told programs live.now w → None ≡ object_named w job.old.name }
     ensures takes { IfOk result (λ r. (v : V) (place : Option Place) (loads : List Loading) (told : Option Bytes) (turn : Turn) (budget : ℕ) → object_of_value v ≡ Some ob
         → Takes r job.old (waitings.Parent name) (answers.Value v) place loads told live.now told job.new live.now turn budget) }
@@ -99,12 +94,7 @@ fn note_parent(
 }
 
 /// A parent was loaded: the load ends with the object of its own name, where one lives by then, or reads its file again.
-fn after_parent(
-    job: &mut LoadJob,
-    live: &Live,
-    name: Name,
-    ob: ObjId,
-) -> Result<Fed, LoadFault>
+fn after_parent(job: &mut LoadJob, live: &Live, name: Name, ob: ObjId) -> Result<Fed, LoadFault>
     requires { IsAscii job.old.name }
     ensures takes { IfOk result (λ r. (v : V) (place : Option Place) (loads : List Loading) (told : Option Bytes) (turn : Turn) (budget : ℕ) → object_of_value v ≡ Some ob
         → Takes r job.old (waitings.Parent name) (answers.Value v) place loads told live.now told job.new live.now turn budget) }
@@ -117,12 +107,7 @@ fn after_parent(
 }
 
 /// A load takes the value of the load of a parent.
-fn parent_value(
-    job: &mut LoadJob,
-    live: &Live,
-    name: Name,
-    v: &Value,
-) -> Result<Fed, LoadFault>
+fn parent_value(job: &mut LoadJob, live: &Live, name: Name, v: &Value) -> Result<Fed, LoadFault>
     requires { IsAscii job.old.name }
     ensures takes { IfOk result (λ r. (place : Option Place) (loads : List Loading) (told : Option Bytes) (turn : Turn) (budget : ℕ)
         → Takes r job.old (waitings.Parent name) (answers.Value v.now) place loads told live.now told job.new live.now turn budget) }

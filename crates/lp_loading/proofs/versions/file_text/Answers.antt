@@ -1,5 +1,5 @@
-use Rattle.std.proofs.Common.{◌∙◌, ◌++◌, ap, codes, subst, sym}
-use Rattle.std.specs.Str.{IsAscii, chars}
+use Rattle.std.proofs.Common.{◌∙◌, ◌++◌, ap, codes}
+use Rattle.std.specs.Str.{chars}
 use Rattle.std.proofs.lemmas.Str.{chars-IsAscii}
 use Rattle.lp_meaning.specs.WorldSteps.{file_of_name}
 use Rattle.lp_loading.proofs.Making.{ascii_file}
