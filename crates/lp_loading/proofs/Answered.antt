@@ -11,7 +11,9 @@ use Rattle.lp_language.specs.Course.{Course, End, Gives, IsFaulty, IsSound, Over
 use Rattle.lp_language.specs.World.{World, object_at, object_named}
 use Rattle.lp_meaning.specs.Askers.{Asker}
 use Rattle.lp_meaning.specs.Closing.{Ends}
-use Rattle.lp_meaning.specs.FileLoads.{object_of_value, reading, unless_there, with_object_of}
+use Rattle.lp_loading.specs.declared.job.Purpose.{Purpose}
+use Rattle.lp_loading.specs.declared.job.Purpose.TheVariants as purposes
+use Rattle.lp_meaning.specs.FileLoads.{begun_end, object_of_value, reading, unless_there, with_object_of}
 use Rattle.lp_meaning.specs.FrontEnd.{FrontEnd}
 use Rattle.lp_asking.specs.declared.asker.Loading.{Loading}
 use Rattle.lp_asking.specs.declared.ending.Place.{Place}
@@ -144,3 +146,22 @@ parent_reads job0 job1 name v x version place loads told live turn budget ob n r
     versioned : (told : Option Bytes) (programs : List RawProgram) (w : World) → Stands told programs live w → (o : Option Object) → row_at live.objects x.0 ≡ o → version_in o ≡ Some version → (object_at w x).version ≡ version
     versioned told programs w h None q i = cc
     versioned told programs w h (Some row) q i = version_is told programs live w x row h q ∙ ap (λ z. unwrap_or z version) i
+
+-- Initialisers and `create`
+
+pub part_taken : (job : LoadJob) (o : ObjId) (ps : List ℕ) (v : Value) (place : Option Place) (loads : List Loading) (told : Option Bytes) (live : Live) (turn : Turn) (budget : ℕ)
+    → Takes (fed.Goes (goings.Begin o ps)) job (waitings.Part o ps) (answers.Value v) place loads told live told job live turn budget
+part_taken job o ps v place loads told live turn budget =
+    takes_value job job (waitings.Part o ps) v place loads told live turn budget (fed.Goes (goings.Begin o ps)) (λ front programs before by turns u s e at l. (at, record { left = turns; enough = l; course = refl }))
+
+begun_gives : (p : Purpose) (by : Asker) (o : ObjId) (r : Reply) (s : State) → begun_end (kind_of p) by o (Gives r s) ≡ Gives r s
+begun_gives purposes.Wanted by o r s = refl
+begun_gives purposes.Inherited by o r s = refl
+
+pub create_taken : (job : LoadJob) (o : ObjId) (v : Value) (place : Option Place) (loads : List Loading) (told : Option Bytes) (live : Live) (turn : Turn) (budget : ℕ)
+    → Takes (fed.Ends (answers.Value (values.Obj o))) job (waitings.Create o) (answers.Value v) place loads told live told job live turn budget
+create_taken job o v place loads told live turn budget =
+    takes_value job job (waitings.Create o) v place loads told live turn budget (fed.Ends (answers.Value (values.Obj o)))
+    (λ front programs before by turns u s e at l.
+    ended_with front programs told before live turn budget (waiting_course turns job (waitings.Create o) by (Gives (Plain u) s)) (Gives (Plain (values.Obj o)) s) (answers.Value (values.Obj o)) (record { answer = refl; at = at })
+    (ap Over (begun_gives job.purpose by o (Plain (values.Obj o)) s)))

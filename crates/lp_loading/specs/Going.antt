@@ -2,7 +2,6 @@
 use Rattle.std.specs.Prelude.{◌≡◌, ◌<◌, ◌≤◌, ⊤, ℕ, List, [], Option}
 use Rattle.std.specs.Str.{IsAscii}
 use Rattle.lp_code.specs.declared.program.RawProgram.{RawProgram}
-use Rattle.lp_cells.specs.Cells.{IsThere, Store}
 use Rattle.lp_events.specs.declared.out.Out.{Out}
 use Rattle.lp_swapfile.specs.Device.{Bytes}
 use Rattle.lp_language.specs.Course as course
@@ -16,7 +15,7 @@ use Rattle.lp_world.specs.declared.live.Live.{Live}
 use Rattle.lp_efuns.specs.declared.caller.Turn.{Turn}
 use Rattle.lp_efuns.specs.Turns.{At, Setting}
 use Rattle.lp_targets.specs.Callees.{IsWorldOf}
-use Rattle.lp_asking.specs.Endings.{IsCauseThere, IsPlaceIf, IsStop}
+use Rattle.lp_asking.specs.Endings.{IsPlaceIf, IsStop}
 use Rattle.lp_asking.specs.declared.asker.Loading.{Loading}
 use Rattle.lp_asking.specs.declared.ending.Place.{Place}
 use Rattle.lp_loading.specs.Loads.{IsUnderWay, asked_of, going_course, kind_of, waiting_course}
@@ -61,12 +60,6 @@ IsAnswerOf programs _ _ = ⊥
 pub record IsEndAt (g : Setting) (a : Answer) (live : Live) (turn : Turn) (budget : ℕ) (e : End Reply) : Type 0 where
   pub answer : IsAnswerOf g.programs a e
   pub at : IsAt g live turn budget (state_in e)
-
--- a value that an answer has is there
-abbrev pub IsAnswerThere : Store → Answer → Type 0
-IsAnswerThere cells (answers.Value v) = IsThere cells v
-IsAnswerThere cells (answers.Faulty fs) = ⊤
-IsAnswerThere cells (answers.Stopped s) = IsCauseThere cells s.cause
 
 -- Going on
 
