@@ -39,18 +39,19 @@ fn no_simuls(alloc: Global) -> Result<Names2, AllocError> {
 }
 
 /// The program of a file, for the next version.
-fn compiled(
-    live: &Live,
-    store: &Store,
-    made: &[Made],
-    path: &str,
-) -> Result<Program, CompileFault>
+fn compiled(live: &Live, store: &Store, made: &[Made], path: &str) -> Result<Program, CompileFault>
     requires { HasWorld live.now }
     ensures { IfOk result (λ p. IsNext live.now path.now p) }
 {
     let simuls = no_simuls(live.alloc)?;
     let present = present_in(live, made, &simuls);
-    compile(live.alloc, store, path, ProgId(live.versions.len() as u64), &present)
+    compile(
+        live.alloc,
+        store,
+        path,
+        ProgId(live.versions.len() as u64),
+        &present,
+    )
 }
 
 /// The program of a file becomes the next version.
@@ -76,12 +77,7 @@ fn add_object(live: &mut Live, name: &str, p: ProgId) -> Result<ObjId, ObjectFau
 }
 
 /// A file becomes a version.
-fn make(
-    live: &mut Live,
-    store: &Store,
-    made: &[Made],
-    path: &str,
-) -> Result<ProgId, GameFault>
+fn make(live: &mut Live, store: &Store, made: &[Made], path: &str) -> Result<ProgId, GameFault>
     requires { IsSet live.old }
     ensures { IfOk result (λ p. IsSetWith live.new p) }
 {
