@@ -27,4 +27,6 @@ pub mod present;
 #[cfg(test)]
 mod rows;
 #[cfg(test)]
+mod simuls;
+#[cfg(test)]
 mod telling;
