@@ -114,3 +114,44 @@ with_object old new name p s stands closed =
       };
       closed = closed;
     }
+
+-- The name of the simul-efun object
+
+pub with_simul : (live : Live) (name : Option (List ℕ)) → IsSet live → IsSet (record live { simul = name })
+with_simul live name s =
+    let g = s.world in
+    let h = g.is.stands in
+    let c = s.closed in
+    record {
+      world = record {
+        programs = g.programs;
+        world = record g.world { simul = name };
+        is = record {
+          stands = record {
+            cells = h.cells;
+            objects = h.objects;
+            names = h.names;
+            versions = h.versions;
+            kept = h.kept;
+            rest = record {
+              files = h.rest.files;
+              simul = refl;
+              places = h.rest.places;
+              sentences = h.rest.sentences;
+              next_sentence = h.rest.next_sentence;
+              timing = h.rest.timing;
+              connections = h.rest.connections;
+              highest = h.rest.highest;
+              present = h.rest.present;
+              waiting = h.rest.waiting;
+              clock = h.rest.clock;
+              generator = h.rest.generator;
+              next_clone = h.rest.next_clone;
+            };
+          };
+          compiled = g.is.compiled;
+          shadows = g.is.shadows;
+        };
+      };
+      closed = record { clock = c.clock; cells = c.cells; objects = c.objects; apart = c.apart; versions = c.versions; call_outs = c.call_outs; waiting = c.waiting; placed = c.placed; numbered = c.numbered; room = c.room };
+    }

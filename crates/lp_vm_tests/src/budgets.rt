@@ -42,7 +42,15 @@ fn leaves(
 fn a_function_of_twenty_events(rt: HostRuntime) -> Result<(), Fail> {
     leaves(&rt, rt.alloc(), "work", Int(4), 0, "spent", 0)?;
     for budget in 1..20 {
-        leaves(&rt, rt.alloc(), "work", Int(4), budget, "spent in work of /a.c, /a", 0)?;
+        leaves(
+            &rt,
+            rt.alloc(),
+            "work",
+            Int(4),
+            budget,
+            "spent in work of /a.c, /a",
+            0,
+        )?;
     }
     for left in 0..3 {
         leaves(&rt, rt.alloc(), "work", Int(4), 20 + left, "11", left)?;
@@ -54,7 +62,15 @@ fn a_function_of_twenty_events(rt: HostRuntime) -> Result<(), Fail> {
 #[test]
 fn a_spent_budget_is_not_caught(rt: HostRuntime) -> Result<(), Fail> {
     for budget in 2..21 {
-        leaves(&rt, rt.alloc(), "guarded", Int(4), budget, "spent in work of /a.c, /a", 0)?;
+        leaves(
+            &rt,
+            rt.alloc(),
+            "guarded",
+            Int(4),
+            budget,
+            "spent in work of /a.c, /a",
+            0,
+        )?;
     }
     leaves(&rt, rt.alloc(), "guarded", Int(4), 21, "0", 0)
 }
@@ -62,12 +78,60 @@ fn a_spent_budget_is_not_caught(rt: HostRuntime) -> Result<(), Fail> {
 // An entry, and twice an efun, an entry and a product, the first time in the second event; and a sum.
 #[test]
 fn a_call_of_another_object(rt: HostRuntime) -> Result<(), Fail> {
-    leaves(&rt, rt.alloc(), "twice", Obj(1), 1, "spent in twice of /a.c, /a", 0)?;
-    leaves(&rt, rt.alloc(), "twice", Obj(1), 2, "spent in twice of /a.c, /a", 0)?;
-    leaves(&rt, rt.alloc(), "twice", Obj(1), 3, "spent in part of /b.c, /b", 0)?;
-    leaves(&rt, rt.alloc(), "twice", Obj(1), 5, "spent in twice of /a.c, /a", 0)?;
-    leaves(&rt, rt.alloc(), "twice", Obj(1), 6, "spent in part of /b.c, /b", 0)?;
-    leaves(&rt, rt.alloc(), "twice", Obj(1), 7, "spent in twice of /a.c, /a", 0)?;
+    leaves(
+        &rt,
+        rt.alloc(),
+        "twice",
+        Obj(1),
+        1,
+        "spent in twice of /a.c, /a",
+        0,
+    )?;
+    leaves(
+        &rt,
+        rt.alloc(),
+        "twice",
+        Obj(1),
+        2,
+        "spent in twice of /a.c, /a",
+        0,
+    )?;
+    leaves(
+        &rt,
+        rt.alloc(),
+        "twice",
+        Obj(1),
+        3,
+        "spent in part of /b.c, /b",
+        0,
+    )?;
+    leaves(
+        &rt,
+        rt.alloc(),
+        "twice",
+        Obj(1),
+        5,
+        "spent in twice of /a.c, /a",
+        0,
+    )?;
+    leaves(
+        &rt,
+        rt.alloc(),
+        "twice",
+        Obj(1),
+        6,
+        "spent in part of /b.c, /b",
+        0,
+    )?;
+    leaves(
+        &rt,
+        rt.alloc(),
+        "twice",
+        Obj(1),
+        7,
+        "spent in twice of /a.c, /a",
+        0,
+    )?;
     leaves(&rt, rt.alloc(), "twice", Obj(1), 8, "25", 0)?;
     leaves(&rt, rt.alloc(), "twice", Obj(1), 9, "25", 1)
 }

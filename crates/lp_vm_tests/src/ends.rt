@@ -57,8 +57,18 @@ const DEPTHS: [File; 1] = [(
 
 const DEPTH_ROWS: [Row; 5] = [
     (0, "even", &[Int(100)], "100"),
-    (0, "even", &[Int(101)], "*Too deep recursion\\n in odd of /a.c, /a"),
-    (0, "even", &[Int(5000)], "*Too deep recursion\\n in odd of /a.c, /a"),
+    (
+        0,
+        "even",
+        &[Int(101)],
+        "*Too deep recursion\\n in odd of /a.c, /a",
+    ),
+    (
+        0,
+        "even",
+        &[Int(5000)],
+        "*Too deep recursion\\n in odd of /a.c, /a",
+    ),
     (0, "caught", &[Int(99)], "0"),
     (0, "caught", &[Int(100)], "'*Too deep recursion\\n'"),
 ];

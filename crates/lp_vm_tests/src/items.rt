@@ -29,11 +29,21 @@ const ARRAYS: [File; 2] = [
 // The items are those of the array as it stood. An object that is destructed in the middle is no target for the next one.
 const ARRAY_ROWS: [Row; 8] = [
     (0, "filtered", &[], "'({ 1, 3, 5 }) ({ 1, 2, 3, 9, 5 })'"),
-    (0, "mapped", &[], "'({ 2, 4, 6, 8, 10 }) ({ 1, 2, 3, 4, 0 })'"),
+    (
+        0,
+        "mapped",
+        &[],
+        "'({ 2, 4, 6, 8, 10 }) ({ 1, 2, 3, 4, 0 })'",
+    ),
     (0, "further", &[], "'({ 111, 112 })'"),
     (0, "missing", &[], "'({ 0, 0 })'"),
     (0, "caught", &[], "'two'"),
-    (0, "middle", &[Obj(1)], "*Bad target\\n in middle of /a.c, /a"),
+    (
+        0,
+        "middle",
+        &[Obj(1)],
+        "*Bad target\\n in middle of /a.c, /a",
+    ),
     (0, "guarded", &[Obj(1)], "'*Bad target\\n'"),
     (0, "last", &[Obj(1)], "'({ 1, 2 })'"),
 ];

@@ -4,24 +4,29 @@
 //! The tests stand here and not beside the code, so that no library is proved twice.
 #![tactic(auto)]
 
-pub mod device;
-pub mod fault;
-pub mod game;
-pub mod loading;
-pub mod playing;
-pub mod present;
-
+#[cfg(test)]
+mod after;
 #[cfg(test)]
 mod budgets;
 #[cfg(test)]
+mod crossing;
+pub mod device;
+#[cfg(test)]
 mod ends;
+pub mod fault;
+pub mod game;
 #[cfg(test)]
 mod items;
+pub mod loading;
 #[cfg(test)]
 mod modifiers;
 #[cfg(test)]
 mod outside;
+pub mod playing;
+pub mod present;
 #[cfg(test)]
 mod rows;
+#[cfg(test)]
+mod simuls;
 #[cfg(test)]
 mod telling;

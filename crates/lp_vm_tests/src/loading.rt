@@ -33,9 +33,13 @@ fn is_ascii(text: &str) -> bool
     text.is_ascii()
 }
 
-/// No names of simul efuns.
-fn no_simuls(alloc: Global) -> Result<Names2, AllocError> {
-    Names2::from_vec(alloc, Vec::new(alloc))
+/// The names of these functions, as those of simul efuns.
+pub fn simul_names(alloc: Global, names: &[&str]) -> Result<Names2, AllocError> {
+    let mut all = Vec::new(alloc);
+    for name in names {
+        all.push(Name::from_str(alloc, name)?)?;
+    }
+    Names2::from_vec(alloc, all)
 }
 
 /// The program of a file, for the next version.
@@ -44,13 +48,19 @@ fn compiled(
     store: &Store,
     made: &[Made],
     path: &str,
+    simuls: &Names2,
 ) -> Result<Program, CompileFault>
     requires { HasWorld live.now }
     ensures { IfOk result (λ p. IsNext live.now path.now p) }
 {
-    let simuls = no_simuls(live.alloc)?;
-    let present = present_in(live, made, &simuls);
-    compile(live.alloc, store, path, ProgId(live.versions.len() as u64), &present)
+    let present = present_in(live, made, simuls);
+    compile(
+        live.alloc,
+        store,
+        path,
+        ProgId(live.versions.len() as u64),
+        &present,
+    )
 }
 
 /// The program of a file becomes the next version.
@@ -81,6 +91,7 @@ fn make(
     store: &Store,
     made: &[Made],
     path: &str,
+    simuls: &Names2,
 ) -> Result<ProgId, GameFault>
     requires { IsSet live.old }
     ensures { IfOk result (λ p. IsSetWith live.new p) }
@@ -88,7 +99,7 @@ fn make(
     if !is_ascii(path) {
         return Err(GameFault::Absent);
     }
-    let program = compiled(live, store, made, path)?;
+    let program = compiled(live, store, made, path, simuls)?;
     Ok(add_version(live, path, program)?)
 }
 
@@ -99,11 +110,12 @@ fn make_object(
     made: &[Made],
     path: &str,
     name: &str,
+    simuls: &Names2,
 ) -> Result<ProgId, GameFault>
     requires { IsSet live.old }
     ensures { OnOk result (IsSet live.new) }
 {
-    let p = make(live, store, made, path)?;
+    let p = make(live, store, made, path, simuls)?;
     add_object(live, name, p)?;
     Ok(p)
 }
@@ -116,11 +128,11 @@ fn path_of(alloc: Global, name: &str) -> Result<String, AllocError> {
 }
 
 /// The file of a name has this text, and its object comes to the game, with the next serial from 0. Its initialisers do not
-/// run, nor does its `create`. Files that it inherits must have come before.
+/// run, nor does its `create`. Files that it inherits must have come before. Calls of these names are calls of simul efuns.
 ///
 /// # Errors
 /// `Compile` where it has faults; `Object` where there is such an object; `Absent` where the name is not of ASCII; `NoMemory`.
-pub fn load(game: &mut Game, name: &str, text: &str) -> Result<(), GameFault>
+pub fn load_under(game: &mut Game, name: &str, text: &str, simuls: &Names2) -> Result<(), GameFault>
     requires { IsPlayable game.old }
     ensures { OnOk result (IsPlayable game.new) }
 {
@@ -132,10 +144,41 @@ pub fn load(game: &mut Game, name: &str, text: &str) -> Result<(), GameFault>
         game.made.as_slice(),
         path.as_str(),
         name,
+        simuls,
     )?;
     game.made.push(Made {
         file: Name::from_string(path),
         version,
     })?;
+    Ok(())
+}
+
+/// The same without simul efuns.
+///
+/// # Errors
+/// As `load_under` says.
+pub fn load(game: &mut Game, name: &str, text: &str) -> Result<(), GameFault>
+    requires { IsPlayable game.old }
+    ensures { OnOk result (IsPlayable game.new) }
+{
+    let none = simul_names(game.live.alloc, &[])?;
+    load_under(game, name, text, &none)
+}
+
+/// A state names an object for simul efuns.
+fn set_simul(live: &mut Live, name: Text)
+    requires { IsSet live.old }
+    ensures { IsSet live.new }
+{
+    live.simul = Some(name);
+}
+
+/// Calls of simul efuns are calls of the object with this name from now on.
+pub fn name_simul(game: &mut Game, name: &str) -> Result<(), AllocError>
+    requires { IsPlayable game.old }
+    ensures { OnOk result (IsPlayable game.new) }
+{
+    let text = Text::from_str(game.live.alloc, name)?;
+    set_simul(&mut game.live, text);
     Ok(())
 }

@@ -94,8 +94,14 @@ fn from_the_driver(rt: HostRuntime) -> Result<(), Fail> {
 }
 
 const PARENTS: [File; 3] = [
-    ("/std/one", "int v; int f() { return 1; } int only() { return 7; } int sets() { v = 5; return v; }"),
-    ("/std/two", "int v; int f() { return 2; } int gets() { return v; }"),
+    (
+        "/std/one",
+        "int v; int f() { return 1; } int only() { return 7; } int sets() { v = 5; return v; }",
+    ),
+    (
+        "/std/two",
+        "int v; int f() { return 2; } int gets() { return v; }",
+    ),
     (
         "/std/child",
         "inherit \"/std/one\"; inherit \"/std/two\";

@@ -47,11 +47,7 @@ impl<'a> Model for Present<'a> {
 }
 
 /// What is there in a state that stands for a world.
-pub(crate) fn present_in<'a>(
-    live: &'a Live,
-    made: &'a [Made],
-    simuls: &'a Names2,
-) -> Present<'a>
+pub(crate) fn present_in<'a>(live: &'a Live, made: &'a [Made], simuls: &'a Names2) -> Present<'a>
     requires ready { IsReadyFor live.now }
     ensures { result ≡ record { live = live.now; made = made.now; simuls = simuls.now } }
 {
