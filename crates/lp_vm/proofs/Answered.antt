@@ -1,5 +1,5 @@
 -- Efuns of a running function: their questions, and what they are answered.
-use Rattle.std.proofs.Common.{◌≡◌, ◌∙◌, ◌++◌, ◌∷◌, [], ◌+◌, ◌-◌, ◌≤◌, ℕ, Bool, true, List, Option, Some, None, refl, ap, sym, subst, length, length-append, take, drop, unwrap_or, append-nil, arith}
+use Rattle.std.proofs.Common.{◌≡◌, ◌∙◌, ◌++◌, ◌+◌, ◌-◌, ◌≤◌, ℕ, true, List, Option, Some, None, refl, ap, sym, subst, length, length-append, take, drop, unwrap_or, append-nil, arith}
 use Rattle.std.specs.Prelude.{reverse}
 use Rattle.std.proofs.Math.Nat.{le_trans}
 use Rattle.std.proofs.Math.Seq.{drop-append_seam}
@@ -10,13 +10,13 @@ use Rattle.lp_instr.specs.declared.efun.Efun.{Efun}
 use Rattle.lp_events.specs.declared.out.Out.{Out}
 use Rattle.lp_swapfile.specs.Device.{Bytes}
 use Rattle.lp_language.specs.World.{World}
-use Rattle.lp_language.specs.Course as course
-use Rattle.lp_language.specs.Course.{Ask, Course, Over, End, Gives, OfEfun, Reply, Scene, State, Stops, outcome_of}
+use Rattle.lp_language.specs.Course.{Ask, Over, End, Gives, OfEfun, Scene, State, Stops, outcome_of}
+use Rattle.lp_meaning.specs.Askers as meaning
 use Rattle.lp_meaning.specs.Askers.{asker_of, plainly, state_of}
 use Rattle.lp_meaning.specs.Closing.{Ends, Has}
 use Rattle.lp_meaning.specs.FrontEnd.{FrontEnd}
 use Rattle.lp_meaning.specs.FunctionCalls.{depth_behind, nothing_called}
-use Rattle.lp_meaning.specs.Questions.{efun_call, efun_in, meaning_of, means}
+use Rattle.lp_meaning.specs.Questions.{efun_in, meaning_of, means}
 use Rattle.lp_meaning.proofs.Kept.{outcomes_can_be}
 use Rattle.lp_world.specs.declared.live.Live.{Live}
 use Rattle.lp_step.specs.Steps.{IsFit, KeepsVariables}
@@ -26,13 +26,13 @@ use Rattle.lp_efuns.specs.declared.caller.Caller.{Caller}
 use Rattle.lp_efuns.specs.Names.{AreNamed}
 use Rattle.lp_efuns.specs.Plain.{CallsEfun, IsEnd, is_plain}
 use Rattle.lp_efuns.specs.Turns.{At, IsScene, Setting}
+use Rattle.lp_settling.specs.Settling.{EndSettles}
 use Rattle.lp_settling.proofs.Still.{efuns_settle}
 use Rattle.lp_calling.specs.declared.job.Begun.TheVariants as begun
 use Rattle.lp_calling.specs.declared.job.Job.{Job}
-use Rattle.lp_calling.specs.Beginning.{Begins, HasBegun, HasEnded, IsOver, Settled, whole}
-use Rattle.lp_calling.specs.Jobs.{IsJobOn, IsReady, course_of}
+use Rattle.lp_calling.specs.Beginning.{Begins, HasBegun, IsOver, Settled, whole}
+use Rattle.lp_calling.specs.Jobs.{IsReady, course_of}
 use Rattle.lp_calling.proofs.Settled.{end_settled}
-use Rattle.lp_run.proofs.Together.{home_same}
 use Rattle.lp_targets.specs.Callees.{IsWorldOf}
 use Rattle.lp_asking.specs.declared.asker.Asker.{Asker}
 use Rattle.lp_asking.specs.declared.ending.Ending.{Ending}
@@ -41,16 +41,15 @@ use Rattle.lp_asking.proofs.Courses.{has_of, over_ends, plainly_ends}
 use Rattle.lp_vm.specs.declared.efuns.EfunBegun.TheVariants as starts
 use Rattle.lp_vm.specs.declared.request.Request.{Request}
 use Rattle.lp_vm.specs.declared.request.Request.TheVariants as requests
-use Rattle.lp_vm.specs.Answering.{CanServe, IsAsked, IsSameAsker, Served, Serves}
+use Rattle.lp_vm.specs.Answering.{CanServe, IsAsked, IsSameAsker, Served}
 use Rattle.lp_vm.specs.Beginning.{CanStart}
-use Rattle.lp_vm.specs.Cycle.{Answers, Works}
 use Rattle.lp_vm.specs.Efuns.{HasBegunEfun, StartsEfun, ending_of}
 use Rattle.lp_vm.specs.Going.{IsOutcome}
 use Rattle.lp_vm.specs.Requests.{AsksEfun}
-use Rattle.lp_vm.specs.Working.{CanWork, IsWorking, Worked, WorkedTo}
+use Rattle.lp_vm.specs.Working.{IsWorking}
 use Rattle.lp_vm.proofs.Beginnings.{below_is}
 use Rattle.lp_vm.proofs.Carried.{world_settled}
-use Rattle.lp_vm.proofs.Startings.{any_front, same_asker}
+use Rattle.lp_vm.proofs.Startings.{any_front}
 use Rattle.lp_vm.proofs.Turning.{no_places}
 
 -- The question
@@ -161,15 +160,20 @@ module _ (this : ObjId) (efun : Efun) (live0 live1 : Live) (stack0 stack1 : List
     there = there;
   }
 
-  -- one that calls no LPC
-  pub plain_ended : (vs : List Value) → is_plain efun ≡ true → vs ≡ drop (length stack0 - args) stack0 → stack1 ≡ take (length stack0 - args) stack0 → CallsEfun efun caller vs live0 asker0.turn budget0 x live1 asker1.turn budget1 → Ended
-  plain_ended vs plain top cut calls g a c below scene at lies many =
+  -- one whose course asks nothing, and which keeps of the world what calls rest on
+  pub whole_ended : (vs : List Value) → ((by : meaning.Asker) (c : Scene) (xs : List Value) (s : State) (end : End Value) → efun_in efun by c xs s ≡ Over end → EndSettles s.world end)
+      → vs ≡ drop (length stack0 - args) stack0 → stack1 ≡ take (length stack0 - args) stack0 → CallsEfun efun caller vs live0 asker0.turn budget0 x live1 asker1.turn budget1 → Ended
+  whole_ended vs settles top cut calls g a c below scene at lies many =
       let are : vs ≡ a.arguments = top ∙ arguments_are stack0 below a.arguments args lies many in
       let r = calls g (asker_of a) c (state_of a) scene at in
       let is : efun_in efun (asker_of a) c a.arguments (state_of a) ≡ Over r.0 = ap (λ xs. efun_in efun (asker_of a) c xs (state_of a)) (sym are) ∙ r.1 in (
         below_is stack0 stack1 below a.arguments args lies many cut,
-        (r.0, is, end_settled a.world g live1 asker1.turn budget1 x r.0 r.2 (efuns_settle efun (asker_of a) c a.arguments (state_of a) r.0 plain is)),
+        (r.0, is, end_settled a.world g live1 asker1.turn budget1 x r.0 r.2 (settles (asker_of a) c a.arguments (state_of a) r.0 is)),
       )
+
+  -- one that calls no LPC
+  pub plain_ended : (vs : List Value) → is_plain efun ≡ true → vs ≡ drop (length stack0 - args) stack0 → stack1 ≡ take (length stack0 - args) stack0 → CallsEfun efun caller vs live0 asker0.turn budget0 x live1 asker1.turn budget1 → Ended
+  plain_ended vs plain top cut calls = whole_ended vs (λ by c xs s end is. efuns_settle efun by c xs s end plain is) top cut calls
 
   -- one that calls LPC, before it asks
   pub calling_ended : asker1 ≡ asker0 → live1 ≡ live0 → Begins (begun.Ends x) efun caller live0 stack0 args budget0 stack1 budget1 → Ended

@@ -7,13 +7,12 @@ use Rattle.lp_code.specs.declared.program.RawProgram.{RawProgram}
 use Rattle.lp_events.specs.declared.out.Out.{Out}
 use Rattle.lp_swapfile.specs.Device.{Bytes}
 use Rattle.lp_language.specs.Course.{Ask}
-use Rattle.lp_meaning.specs.FrontEnd.{FrontEnd}
 use Rattle.lp_world.specs.declared.live.Live.{Live}
 use Rattle.lp_targets.specs.Callees.{IsWorldOf}
 use Rattle.lp_asking.specs.declared.asker.Asker.{Asker}
 use Rattle.lp_asking.specs.declared.ending.Ending.{Ending}
 use Rattle.lp_reaching.specs.declared.reached.Reached.{Reached}
-use Rattle.lp_reaching.specs.Reaching.{Applies, CanApply, FindsApplied, IsInMemory, ReachesIf}
+use Rattle.lp_reaching.specs.Reaching.{CanApply, FindsApplied, IsInMemory}
 use Rattle.lp_vm.specs.declared.request.Request.TheVariants as requests
 use Rattle.lp_vm.specs.Answering.{CanServe, IsAsked, Served, Serves}
 use Rattle.lp_vm.specs.Applying.{CallIsMeant, CanCall}

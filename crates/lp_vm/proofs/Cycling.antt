@@ -1,8 +1,7 @@
 -- The cycle of calls: one turn of a function after another.
-use Rattle.std.proofs.Common.{◌≡◌, ◌≤◌, ℕ, List, Option, Some, None, refl, ap, sym, subst}
+use Rattle.std.proofs.Common.{◌≡◌, ◌≤◌, ℕ, List, Option, Some, None, sym, subst}
 use Rattle.std.proofs.Math.Nat.{le_trans}
 use Rattle.lp_values.specs.declared.value.Value.{Value}
-use Rattle.lp_cells.specs.Cells.{Store}
 use Rattle.lp_swapfile.specs.Device.{Bytes}
 use Rattle.lp_world.specs.declared.frame.Frame.{Frame}
 use Rattle.lp_world.specs.declared.live.Live.{Live}
@@ -17,7 +16,7 @@ use Rattle.lp_vm.specs.Answering.{IsSameAsker}
 use Rattle.lp_vm.specs.Cycle.{Answers, Finishes}
 use Rattle.lp_vm.specs.Going.{CanGo, Continues}
 use Rattle.lp_vm.specs.Turns.{Calls}
-use Rattle.lp_vm.proofs.Enterings.{can_go_on, goes_on_more, goes_to_end}
+use Rattle.lp_vm.proofs.Enterings.{can_go_on, goes_to_end}
 use Rattle.lp_vm.proofs.Startings.{any_front, same_later}
 
 -- after some turns it ends

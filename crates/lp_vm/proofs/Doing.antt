@@ -1,5 +1,5 @@
 -- What the machine does, from one point to the next.
-use Rattle.std.proofs.Common.{◌≡◌, refl, subst, sym}
+use Rattle.std.proofs.Common.{◌≡◌, refl}
 use Rattle.lp_values.specs.declared.value.Value.{Value}
 use Rattle.lp_language.specs.Course.{Ask, CanAnswer, Course, Over, Asks, End, Outcome, Scene}
 use Rattle.lp_instr.specs.Code.{Code}

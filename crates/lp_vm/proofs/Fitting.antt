@@ -5,7 +5,7 @@ use Rattle.std.proofs.Math.Seq.{take-append_seam, drop-append_seam}
 use Rattle.std.proofs.lemmas.List.{length-take-le}
 use Rattle.std.proofs.lemmas.List.Elements.{All-append, All-cons, All-drop, All-take, All-weaker}
 use Rattle.lp_values.specs.declared.value.Value.{Value}
-use Rattle.lp_cells.specs.Cells.{IsThere, KeepsThere, Store}
+use Rattle.lp_cells.specs.Cells.{IsThere, KeepsThere}
 use Rattle.lp_world.specs.Closed.{IsClosed}
 use Rattle.lp_world.specs.declared.live.Live.{Live}
 use Rattle.lp_step.specs.Steps.{IsFit}

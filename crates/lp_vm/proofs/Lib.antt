@@ -1,3 +1,4 @@
+pub mod Causing
 pub mod Carried
 pub mod Doing
 pub mod Beginnings

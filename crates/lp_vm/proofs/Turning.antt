@@ -1,37 +1,32 @@
 -- A turn of a function that runs: to its end, or to a question, what is answered, and on.
-use Rattle.std.proofs.Common.{◌≡◌, ◌∙◌, ◌++◌, ◌∷◌, [], ◌+◌, ◌<◌, ◌≤◌, ℕ, suc, List, Option, Some, None, All, true, refl, ap, sym, subst, length, map, slice_get, unwrap_or, IsSome, append-nil, append_assoc, arith}
+use Rattle.std.proofs.Common.{◌≡◌, ◌∙◌, ◌++◌, ◌∷◌, [], ◌+◌, ◌<◌, ℕ, List, Option, Some, None, All, true, refl, ap, sym, subst, map, append-nil, append_assoc, arith}
 use Rattle.std.specs.Prelude.{reverse}
-use Rattle.lp_values.specs.declared.id.ObjId.{ObjId}
 use Rattle.lp_values.specs.declared.value.Value.{Value}
 use Rattle.lp_code.specs.declared.program.FunRow.{FunRow}
 use Rattle.lp_code.specs.declared.program.RawProgram.{RawProgram}
 use Rattle.lp_code.specs.Programs.{IsFunction}
 use Rattle.lp_instr.specs.declared.efun.Efun.{Efun}
 use Rattle.lp_instr.specs.Code.{Catching}
-use Rattle.lp_instr.specs.Sound.{Shapes}
 use Rattle.lp_events.specs.declared.out.Out.{Out}
 use Rattle.lp_swapfile.specs.Device.{Bytes}
-use Rattle.lp_language.specs.World.{Keeps, World, is_live}
+use Rattle.lp_language.specs.World.{World, is_live}
 use Rattle.lp_language.specs.Course as course
 use Rattle.lp_language.specs.Course.{Answer, Ask, CanAnswer, Course, Over, Asks, End, Gives, OfEfun, Outcome, Plain, Reply, Returned, Scene, State, Stopped, Stops, after, asking, caught, end_of_answer, end_of_outcome, outcome_of, value_in}
-use Rattle.lp_isa.specs.Machine.{Moment, Next, Goes, Ended, Awaits, Wrong, awaits, push_end, stop_at}
+use Rattle.lp_isa.specs.Machine.{Moment, Next, Goes, Ended, Awaits, Wrong, awaits, push_end}
 use Rattle.lp_isa.specs.SoundCode.{NextMatches}
 use Rattle.lp_isa.specs.Work.{NextLess, work_of}
 use Rattle.lp_isa.specs.Runs.{Does}
-use Rattle.lp_meaning.specs.Closing.{Ends, Has}
+use Rattle.lp_meaning.specs.Closing.{Ends}
 use Rattle.lp_meaning.specs.FrontEnd.{FrontEnd}
 use Rattle.lp_meaning.proofs.Kept.{outcomes_can_be}
 use Rattle.lp_world.specs.declared.frame.Frame.{Frame}
 use Rattle.lp_world.specs.declared.live.Live.{Live}
 use Rattle.lp_world.specs.Stands.{Stands}
-use Rattle.lp_world.specs.Matches.{Around, Matches, Sits, laid}
+use Rattle.lp_world.specs.Matches.{Around, Matches, laid}
 use Rattle.lp_step.specs.Steps.{IsFit, KeepsVariables}
-use Rattle.lp_step_laws.specs.Running.{IsHome, IsOf, Runs}
 use Rattle.lp_step_laws.proofs.Found.{same_program}
 use Rattle.lp_run.specs.Runs.{left_of}
 use Rattle.lp_run.proofs.Together.{left_same}
-use Rattle.lp_frames.specs.Returns.{back_in}
-use Rattle.lp_asking.specs.declared.advance.Halt.TheVariants as halts
 use Rattle.lp_asking.specs.declared.asker.Asker.{Asker}
 use Rattle.lp_asking.specs.declared.ending.Ending.{Ending}
 use Rattle.lp_asking.specs.declared.ending.Ending.TheVariants as endings
@@ -44,17 +39,17 @@ use Rattle.lp_reaching.specs.Compiled.{IsCaller}
 use Rattle.lp_reaching.specs.Reaching.{AsksInside, ReachesIf}
 use Rattle.lp_efuns.specs.Turns.{commands_of}
 use Rattle.lp_asking.specs.Asking.{IsBy, Means, code_in, loading_of}
-use Rattle.lp_asking.specs.Endings.{IsAnswer, IsPlaceIf, IsReply, IsStop, plain_end}
+use Rattle.lp_asking.specs.Endings.{IsAnswer, IsPlaceIf, IsReply, plain_end}
 use Rattle.lp_asking.specs.Resuming.{IsEndFor, Resumes, ResumesTo}
-use Rattle.lp_asking.specs.Stopping.{Advances, CameToEnd, IsEndIn}
+use Rattle.lp_asking.specs.Stopping.{CameToEnd, IsEndIn}
 use Rattle.lp_asking.proofs.Courses.{asks_ends, over_ends}
 use Rattle.lp_asking.proofs.States.{stop_state}
 use Rattle.lp_vm.specs.declared.request.Request.{Request}
 use Rattle.lp_vm.specs.declared.request.Request.TheVariants as requests
 use Rattle.lp_vm.specs.Requests.{AsksEfun, IsRequest}
-use Rattle.lp_vm.specs.Answering.{CanServe, IsAsked, IsSameAsker, Served, Serves}
-use Rattle.lp_vm.specs.Going.{CanGo, Continues, EndsSo, GoesOn, IsGoing, IsLater, IsOutcome, IsRunner, Turned, Went}
-use Rattle.lp_vm.proofs.Carried.{caller_later, compiled_still, object_there, shadows_still, still_home}
+use Rattle.lp_vm.specs.Answering.{IsAsked, IsSameAsker, Served, Serves}
+use Rattle.lp_vm.specs.Going.{EndsSo, GoesOn, IsGoing, IsOutcome}
+use Rattle.lp_vm.proofs.Carried.{caller_later, compiled_still, shadows_still, still_home}
 use Rattle.lp_vm.proofs.Doing.{Awaited, does_comes, does_end, does_wait}
 use Rattle.lp_vm.proofs.Waiting.{Waits, ask_of}
 

@@ -1,5 +1,5 @@
 -- A function that asked waits for the answer.
-use Rattle.std.proofs.Common.{◌≡◌, ◌∙◌, ◌++◌, ◌∷◌, [], ◌+◌, ◌-◌, ◌<◌, ◌≤◌, ℕ, zero, suc, List, Option, Some, None, refl, ap, sym, subst, length, length-append, take, drop, slice_get, unwrap_or, append-nil, append_assoc, arith}
+use Rattle.std.proofs.Common.{◌≡◌, ◌∙◌, ◌++◌, ◌∷◌, [], ◌-◌, ◌≤◌, ℕ, zero, suc, List, Some, None, refl, ap, sym, subst, length, length-append, take, drop, slice_get, unwrap_or, append-nil, append_assoc, arith}
 use Rattle.std.proofs.Math.Seq.{take-append_seam, drop-append_seam}
 use Rattle.std.proofs.lemmas.Option.{slice_get_within}
 use Rattle.lp_values.specs.declared.value.Value.{Value}

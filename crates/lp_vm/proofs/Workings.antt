@@ -1,7 +1,6 @@
 -- Jobs go on: to a question, what is answered, and on; or to their end.
-use Rattle.std.proofs.Common.{◌≡◌, ◌∙◌, ◌++◌, ◌∷◌, [], ◌+◌, ◌-◌, ◌<◌, ◌≤◌, ℕ, suc, List, Option, Some, None, refl, ap, sym, subst, length, map, take, append_assoc, arith}
+use Rattle.std.proofs.Common.{◌≡◌, ◌∙◌, ◌++◌, ◌∷◌, [], ◌≤◌, ℕ, suc, List, Option, Some, None, refl, ap, sym, subst, length, map, take, append_assoc, arith}
 use Rattle.std.specs.Prelude.{IfSome, reverse}
-use Rattle.std.specs.Option.{option_to_list}
 use Rattle.std.proofs.Math.Nat.{le_trans}
 use Rattle.std.proofs.lemmas.List.{reverse-append}
 use Rattle.std.proofs.Math.Seq.{take-append_seam}
@@ -10,8 +9,7 @@ use Rattle.lp_values.specs.declared.value.Value.{Value}
 use Rattle.lp_code.specs.declared.program.RawProgram.{RawProgram}
 use Rattle.lp_events.specs.declared.out.Out.{Out}
 use Rattle.lp_swapfile.specs.Device.{Bytes}
-use Rattle.lp_language.specs.Course as course
-use Rattle.lp_language.specs.Course.{Ask, CanAnswer, Course, Over, Asks, End, Gives, Outcome, Scene, State, Stops, after, and_then, end_of_outcome, outcome_of}
+use Rattle.lp_language.specs.Course.{Ask, CanAnswer, Over, End, Gives, Scene, State, Stops, after, and_then, end_of_outcome}
 use Rattle.lp_meaning.specs.Askers as meaning
 use Rattle.lp_meaning.specs.Askers.{ask_value, question}
 use Rattle.lp_meaning.specs.Closing.{Ends}
@@ -22,7 +20,7 @@ use Rattle.lp_world.specs.declared.live.Live.{Live}
 use Rattle.lp_step.specs.Steps.{IsFit, KeepsVariables}
 use Rattle.lp_run.proofs.Together.{home_later}
 use Rattle.lp_efuns.specs.declared.answer.Answer.{Answer}
-use Rattle.lp_efuns.specs.Turns.{At, Setting}
+use Rattle.lp_efuns.specs.Turns.{At}
 use Rattle.lp_calling.specs.declared.job.Job.{Job}
 use Rattle.lp_calling.specs.declared.job.Question.{Question}
 use Rattle.lp_calling.specs.declared.job.Question.TheVariants as questions
@@ -36,7 +34,7 @@ use Rattle.lp_asking.specs.declared.ending.Ending.{Ending}
 use Rattle.lp_asking.specs.declared.ending.Ending.TheVariants as endings
 use Rattle.lp_asking.specs.declared.ending.Stop.{Stop}
 use Rattle.lp_asking.specs.Asking.{IsBy, loading_of}
-use Rattle.lp_asking.specs.Endings.{IsEndingThere, plain_end}
+use Rattle.lp_asking.specs.Endings.{IsEndingThere}
 use Rattle.lp_asking.specs.Resuming.{IsEndFor}
 use Rattle.lp_asking.proofs.Courses.{asks_ends, over_ends}
 use Rattle.lp_reaching.specs.declared.reached.Reached.{Reached}

@@ -1,14 +1,18 @@
 -- Efuns that a running function calls begin.
-use Rattle.std.specs.Prelude.{◌≡◌, ◌≤◌, ℕ, List, Option, None}
+use Rattle.std.specs.Prelude.{◌≡◌, ◌≤◌, ◌⊎◌, ℕ, List, Option, None, Bool, true, false}
 use Rattle.lp_values.specs.declared.id.ObjId.{ObjId}
 use Rattle.lp_values.specs.declared.value.Value.{Value}
 use Rattle.lp_instr.specs.declared.efun.Efun.{Efun}
+use Rattle.lp_instr.specs.declared.efun.Efun.TheVariants as efuns
 use Rattle.lp_swapfile.specs.Device.{Bytes}
 use Rattle.lp_world.specs.declared.live.Live.{Live}
 use Rattle.lp_step.specs.Steps.{IsFit}
 use Rattle.lp_efuns.specs.declared.answer.Answer.{Answer}
 use Rattle.lp_efuns.specs.declared.answer.Answer.TheVariants as answers
+use Rattle.lp_efuns.specs.Plain.{is_plain}
 use Rattle.lp_calling.specs.declared.job.Job.{Job}
+use Rattle.lp_calling.specs.Beginning.{is_calling}
+use Rattle.lp_calling.specs.Targets.{NeedsLoad}
 use Rattle.lp_calling.specs.Jobs.{IsJobOn, IsReady}
 use Rattle.lp_asking.specs.declared.asker.Asker.{Asker}
 use Rattle.lp_asking.specs.declared.ending.Cause.{Cause}
@@ -32,6 +36,16 @@ ending_of (answers.Value v) = endings.Value v
 ending_of (answers.Error e) = stopped_by (causes.Failed e)
 ending_of (answers.Thrown v) = stopped_by (causes.Thrown v)
 ending_of answers.Spent = stopped_by causes.Spent
+
+-- an efun ends an object
+abbrev pub is_ending : Efun → Bool
+is_ending efuns.Destruct = true
+is_ending _ = false
+
+-- An efun is not carried out yet: it is neither one that is answered at once nor one that goes on as a job, or an object would
+-- have to be loaded for it.
+abbrev pub IsNotYet : Live → Efun → List Value → Type 0
+IsNotYet live e vs = ((is_plain e ≡ false) × (is_calling e ≡ false) × (is_ending e ≡ false)) ⊎ NeedsLoad live e vs
 
 -- An efun goes on as a job. That can work, and however it ends, the efun is answered by that.
 pub record HasBegunEfun (this : ObjId) (efun : Efun) (args : ℕ) (live0 : Live) (stack0 : List Value) (asker0 : Asker) (budget0 : ℕ) (job : Job) (live1 : Live) (stack1 : List Value) (asker1 : Asker) (budget1 : ℕ) : Type 0 where

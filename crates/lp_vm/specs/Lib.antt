@@ -1,4 +1,5 @@
 pub mod Faults
+pub mod Causes
 pub mod Going
 pub mod Requests
 pub mod Answering

@@ -1,12 +1,14 @@
 //! What a question of a job reaches.
-ghost use Rattle.std.specs.Prelude.{◌≡◌, IfOk, IfSome, IsSome};
+ghost use Rattle.std.specs.Prelude.{◌≡◌, IfErr, IfOk, IfSome, IsAscii, IsSome};
 ghost use Rattle.lp_calling.specs.declared.job.Question.TheVariants as questions;
 ghost use Rattle.lp_calling.specs.Jobs.{object_of};
 ghost use Rattle.lp_step.specs.Steps.{KeepsVariables};
 ghost use Rattle.lp_world.specs.Closed.{IsClosed};
 ghost use Rattle.lp_world.specs.Rows.{row_at};
 ghost use Rattle.lp_reaching.specs.Reaching.{IsInMemory};
-ghost use Rattle.lp_vm.specs.Working.{CanReach, FindsAsked};
+ghost use Rattle.lp_vm.specs.Causes.{Tells, read_of};
+ghost use Rattle.lp_vm.specs.declared.fault.VmFault.TheVariants.{NotYet};
+ghost use Rattle.lp_vm.specs.Working.{CanReach, FindsAsked, IsUnspelled};
 
 use crate::fault::VmFault;
 use crate::naming::name_of;
@@ -36,6 +38,9 @@ fn reach_other<W: Truthful>(
     ensures home { KeepsVariables live.old.objects live.new.objects }
     ensures cells { live.new.cells ≡ live.old.cells }
     ensures outputs { live.new.outputs ≡ live.old.outputs }
+    ensures yet { IfErr result (λ f. f ≡ NotYet → IsAscii name.now → ⊥) }
+    ensures tells { Tells (W.content swap.new) (W.last swap.new) (W.read_faults swap.old) (W.read_faults swap.new) (W.write_faults swap.old) (W.write_faults swap.new)
+        (W.is_truthful swap.old) (W.is_truthful swap.new) (W.is_honest swap.old) (W.is_honest swap.new) live.new (read_of result) }
 {
     match name_of(live.alloc, name)? {
         Some(name) => Ok(find_outside(live, swap, this, ob, name.as_str())?),
@@ -59,6 +64,9 @@ fn reach_catch_tell<W: Truthful>(
     ensures home { KeepsVariables live.old.objects live.new.objects }
     ensures cells { live.new.cells ≡ live.old.cells }
     ensures outputs { live.new.outputs ≡ live.old.outputs }
+    ensures yet { IfErr result (λ f. f ≡ NotYet → ⊥) }
+    ensures tells { Tells (W.content swap.new) (W.last swap.new) (W.read_faults swap.old) (W.read_faults swap.new) (W.write_faults swap.old) (W.write_faults swap.new)
+        (W.is_truthful swap.old) (W.is_truthful swap.new) (W.is_honest swap.old) (W.is_honest swap.new) live.new (read_of result) }
 {
     Ok(find_applied(live, swap, Some(this), ob, "catch_tell")?)
 }
@@ -83,6 +91,9 @@ pub fn reach<W: Truthful>(
     ensures home { KeepsVariables live.old.objects live.new.objects }
     ensures cells { live.new.cells ≡ live.old.cells }
     ensures outputs { live.new.outputs ≡ live.old.outputs }
+    ensures yet { IfErr result (λ f. f ≡ NotYet → IsUnspelled question.now) }
+    ensures tells { Tells (W.content swap.new) (W.last swap.new) (W.read_faults swap.old) (W.read_faults swap.new) (W.write_faults swap.old) (W.write_faults swap.new)
+        (W.is_truthful swap.old) (W.is_truthful swap.new) (W.is_honest swap.old) (W.is_honest swap.new) live.new (read_of result) }
 {
     match question {
         Question::Other(ob, name) => reach_other(live, swap, this, *ob, name),

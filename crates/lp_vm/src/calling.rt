@@ -4,6 +4,7 @@ ghost use Rattle.lp_step.specs.Steps.{IsFit, KeepsVariables};
 ghost use Rattle.lp_world.specs.Rows.{row_at};
 ghost use Rattle.lp_asking.specs.Endings.{IsEndingThere};
 ghost use Rattle.lp_vm.specs.Answering.{IsSameAsker};
+ghost use Rattle.lp_vm.specs.Causes.{Tells, read_of};
 ghost use Rattle.lp_vm.specs.Applying.{CallIsMeant, CanCall};
 
 use crate::cycle::answer;
@@ -45,6 +46,8 @@ pub fn call<W: Truthful>(
     ensures home { OnOk result (KeepsVariables live.old.objects live.new.objects) }
     ensures fit { OnOk result (IsFit live.new stack.new.items) }
     ensures there { IfOk result (λ e. IsEndingThere live.new.cells e) }
+    ensures tells { Tells (W.content swap.new) (W.last swap.new) (W.read_faults swap.old) (W.read_faults swap.new) (W.write_faults swap.old) (W.write_faults swap.new)
+        (W.is_truthful swap.old) (W.is_truthful swap.new) (W.is_honest swap.old) (W.is_honest swap.new) live.new (read_of result) }
 {
     let reached = find_applied(live, swap, caller, ob, name)?;
     answer(alloc, live, swap, stack, asker, reached, args, budget)

@@ -4,6 +4,7 @@ ghost use Rattle.lp_calling.specs.Jobs.{IsJobOn, IsReady};
 ghost use Rattle.lp_step.specs.Steps.{IsFit};
 ghost use Rattle.lp_vm.specs.declared.request.Request.TheVariants as requests;
 ghost use Rattle.lp_vm.specs.Answering.{CanServe};
+ghost use Rattle.lp_vm.specs.Causes.{Tells, read_of};
 ghost use Rattle.lp_vm.specs.Cycle.{Answers, Finishes, Works};
 ghost use Rattle.lp_vm.specs.Going.{CanGo};
 ghost use Rattle.lp_vm.specs.Working.{CanWork};
@@ -44,7 +45,9 @@ pub fn answer<W: Truthful>(
 ) -> Result<Ending, VmFault>
     requires fit { IsFit live.old stack.old.items }
     requires can { CanServe (W.content swap.old) live.old stack.old.items asker.old budget.old (requests.Function reached) args }
-    ensures { IfOk result (λ e. Answers (requests.Function reached) args (W.content swap.old) live.old stack.old.items asker.old budget.old (W.content swap.new) live.new stack.new.items asker.new budget.new e) }
+    ensures answers { IfOk result (λ e. Answers (requests.Function reached) args (W.content swap.old) live.old stack.old.items asker.old budget.old (W.content swap.new) live.new stack.new.items asker.new budget.new e) }
+    ensures tells { Tells (W.content swap.new) (W.last swap.new) (W.read_faults swap.old) (W.read_faults swap.new) (W.write_faults swap.old) (W.write_faults swap.new)
+        (W.is_truthful swap.old) (W.is_truthful swap.new) (W.is_honest swap.old) (W.is_honest swap.new) live.new (read_of result) }
 {
     match start(alloc, live, stack, asker, reached, args, budget)? {
         Started::Answered(ending) => Ok(ending),
@@ -71,7 +74,9 @@ fn work<W: Truthful>(
     requires ready { IsReady live.old.objects job }
     requires fit { IsFit live.old stack.old.items }
     requires can { CanWork this job (W.content swap.old) live.old stack.old.items asker.old budget.old }
-    ensures { IfOk result (λ e. Works this job (W.content swap.old) live.old stack.old.items asker.old budget.old (W.content swap.new) live.new stack.new.items asker.new budget.new e) }
+    ensures works { IfOk result (λ e. Works this job (W.content swap.old) live.old stack.old.items asker.old budget.old (W.content swap.new) live.new stack.new.items asker.new budget.new e) }
+    ensures tells { Tells (W.content swap.new) (W.last swap.new) (W.read_faults swap.old) (W.read_faults swap.new) (W.write_faults swap.old) (W.write_faults swap.new)
+        (W.is_truthful swap.old) (W.is_truthful swap.new) (W.is_honest swap.old) (W.is_honest swap.new) live.new (read_of result) }
 {
     'questions: loop {
         match step_job(live, swap, stack, asker, this, &mut job, budget)? {
@@ -101,7 +106,9 @@ fn call_efun<W: Truthful>(
 ) -> Result<Ending, VmFault>
     requires fit { IsFit live.old stack.old.items }
     requires can { CanServe (W.content swap.old) live.old stack.old.items asker.old budget.old (requests.Efun this efun) args }
-    ensures { IfOk result (λ e. Answers (requests.Efun this efun) args (W.content swap.old) live.old stack.old.items asker.old budget.old (W.content swap.new) live.new stack.new.items asker.new budget.new e) }
+    ensures answers { IfOk result (λ e. Answers (requests.Efun this efun) args (W.content swap.old) live.old stack.old.items asker.old budget.old (W.content swap.new) live.new stack.new.items asker.new budget.new e) }
+    ensures tells { Tells (W.content swap.new) (W.last swap.new) (W.read_faults swap.old) (W.read_faults swap.new) (W.write_faults swap.old) (W.write_faults swap.new)
+        (W.is_truthful swap.old) (W.is_truthful swap.new) (W.is_honest swap.old) (W.is_honest swap.new) live.new (read_of result) }
 {
     match begin_efun(live, stack, asker, this, efun, args, budget)? {
         EfunBegun::Answered(ending) => Ok(ending),
@@ -123,7 +130,9 @@ fn serve<W: Truthful>(
 ) -> Result<Ending, VmFault>
     requires fit { IsFit live.old stack.old.items }
     requires can { CanServe (W.content swap.old) live.old stack.old.items asker.old budget.old request args }
-    ensures { IfOk result (λ e. Answers request args (W.content swap.old) live.old stack.old.items asker.old budget.old (W.content swap.new) live.new stack.new.items asker.new budget.new e) }
+    ensures answers { IfOk result (λ e. Answers request args (W.content swap.old) live.old stack.old.items asker.old budget.old (W.content swap.new) live.new stack.new.items asker.new budget.new e) }
+    ensures tells { Tells (W.content swap.new) (W.last swap.new) (W.read_faults swap.old) (W.read_faults swap.new) (W.write_faults swap.old) (W.write_faults swap.new)
+        (W.is_truthful swap.old) (W.is_truthful swap.new) (W.is_honest swap.old) (W.is_honest swap.new) live.new (read_of result) }
 {
     match request {
         Request::Function(reached) => answer(
@@ -147,7 +156,9 @@ fn go<W: Truthful>(
     budget: &mut u64,
 ) -> Result<Ending, VmFault>
     requires { CanGo (W.content swap.old) live.old stack.old.items frame asker.old budget.old }
-    ensures { IfOk result (λ e. Finishes (W.content swap.old) live.old stack.old.items frame asker.old budget.old (W.content swap.new) live.new stack.new.items asker.new budget.new e) }
+    ensures finishes { IfOk result (λ e. Finishes (W.content swap.old) live.old stack.old.items frame asker.old budget.old (W.content swap.new) live.new stack.new.items asker.new budget.new e) }
+    ensures tells { Tells (W.content swap.new) (W.last swap.new) (W.read_faults swap.old) (W.read_faults swap.new) (W.write_faults swap.old) (W.write_faults swap.new)
+        (W.is_truthful swap.old) (W.is_truthful swap.new) (W.is_honest swap.old) (W.is_honest swap.new) live.new (read_of result) }
 {
     'turns: loop {
         match run_to_halt(alloc, live, swap, stack, &mut frame, budget)? {

@@ -1,14 +1,17 @@
 //! Efuns that a running function calls begin.
-ghost use Rattle.std.specs.Prelude.{◌≡◌, ◌-◌, ◌≤◌, IfOk, None, drop, length, true};
+ghost use Rattle.std.specs.Prelude.{◌≡◌, ◌-◌, ◌≤◌, IfErr, IfOk, None, drop, false, length, true};
 ghost use Rattle.lp_cells.specs.Cells.{Store};
 ghost use Rattle.lp_efuns.specs.Plain.{IsAnswerThere, is_plain};
 ghost use Rattle.lp_calling.specs.Beginning.{is_calling};
+ghost use Rattle.lp_calling.specs.Targets.{NeedsLoad};
 ghost use Rattle.lp_step.specs.Steps.{IsFit};
 ghost use Rattle.lp_asking.specs.declared.ending.Ending.TheVariants as endings;
 ghost use Rattle.lp_asking.specs.Endings.{IsEndingThere};
+ghost use Rattle.lp_vm.specs.declared.fault.VmFault.TheVariants.{NoMemory, NotYet};
 ghost use Rattle.lp_vm.specs.declared.request.Request.TheVariants as requests;
 ghost use Rattle.lp_vm.specs.Beginning.{CanStart};
-ghost use Rattle.lp_vm.specs.Efuns.{StartsEfun, ending_of};
+ghost use Rattle.lp_vm.specs.Causes.{IsReadless};
+ghost use Rattle.lp_vm.specs.Efuns.{IsNotYet, StartsEfun, ending_of, is_ending};
 
 use crate::fault::VmFault;
 use lp_asking::asker::Asker;
@@ -16,6 +19,7 @@ use lp_asking::ending::{Cause, Ending, Stop};
 use lp_asking::resume::drop_top;
 use lp_calling::begin::{begin, is_calling};
 use lp_calling::job::{Begun, Job};
+use lp_destructing::destruct::call_destruct;
 use lp_efuns::answer::Answer;
 use lp_efuns::caller::Caller;
 use lp_efuns::plain::{call_plain, is_plain};
@@ -75,7 +79,8 @@ fn plain(
     requires plain { is_plain efun ≡ true }
     requires fit { IsFit live.old stack.old.items }
     requires can { CanStart live.old stack.old.items asker.old budget.old (requests.Efun this efun) args }
-    ensures { IfOk result (λ r. StartsEfun r this efun args live.old stack.old.items asker.old budget.old live.new stack.new.items asker.new budget.new) }
+    ensures starts { IfOk result (λ r. StartsEfun r this efun args live.old stack.old.items asker.old budget.old live.new stack.new.items asker.new budget.new) }
+    ensures fault { IfErr result (λ f. f ≡ NoMemory) }
 {
     let caller = Caller {
         this,
@@ -107,7 +112,9 @@ fn calling(
     requires calling { is_calling efun ≡ true }
     requires fit { IsFit live.now stack.old.items }
     requires can { CanStart live.now stack.old.items asker.now budget.old (requests.Efun this efun) args }
-    ensures { IfOk result (λ r. StartsEfun r this efun args live.now stack.old.items asker.now budget.old live.now stack.new.items asker.now budget.new) }
+    ensures starts { IfOk result (λ r. StartsEfun r this efun args live.now stack.old.items asker.now budget.old live.now stack.new.items asker.now budget.new) }
+    ensures fault { IfErr result IsReadless }
+    ensures yet { IfErr result (λ f. f ≡ NotYet → NeedsLoad live.now efun (drop (length stack.old.items - args) stack.old.items)) }
 {
     let caller = Caller {
         this,
@@ -117,6 +124,55 @@ fn calling(
     match begin(live, &caller, stack, efun, args as usize, budget)? {
         Begun::Ends(answer) => Ok(EfunBegun::Answered(ending_of(answer))),
         Begun::Runs(job) => Ok(EfunBegun::Works(job)),
+    }
+}
+
+/// An object is destructed.
+fn destructing(
+    live: &mut Live,
+    stack: &mut Vec<Value>,
+    asker: &Asker,
+    this: ObjId,
+    args: u32,
+    budget: &mut u64,
+) -> Result<EfunBegun, VmFault>
+    requires fit { IsFit live.old stack.old.items }
+    requires can { CanStart live.old stack.old.items asker.now budget.old (requests.Efun this Efun.Destruct) args }
+    ensures starts { IfOk result (λ r. StartsEfun r this Efun.Destruct args live.old stack.old.items asker.now budget.old live.new stack.new.items asker.now budget.new) }
+    ensures fault { IfErr result (λ f. f ≡ NoMemory) }
+{
+    let caller = Caller {
+        this,
+        interactive: asker.interactive,
+        callers: asker.callers.as_slice(),
+    };
+    let answer = call_destruct(live, &asker.turn, &caller, topmost(stack, args), budget)?;
+    drop_top(stack, args as usize);
+    Ok(EfunBegun::Answered(ending_of(answer)))
+}
+
+/// An efun that ends an object is carried out.
+///
+/// # Errors
+/// `NoMemory`; `NotYet` of another efun.
+fn ending(
+    live: &mut Live,
+    stack: &mut Vec<Value>,
+    asker: &Asker,
+    this: ObjId,
+    efun: Efun,
+    args: u32,
+    budget: &mut u64,
+) -> Result<EfunBegun, VmFault>
+    requires fit { IsFit live.old stack.old.items }
+    requires can { CanStart live.old stack.old.items asker.now budget.old (requests.Efun this efun) args }
+    ensures starts { IfOk result (λ r. StartsEfun r this efun args live.old stack.old.items asker.now budget.old live.new stack.new.items asker.now budget.new) }
+    ensures fault { IfErr result IsReadless }
+    ensures yet { IfErr result (λ f. f ≡ NotYet → is_ending efun ≡ false) }
+{
+    match efun {
+        Efun::Destruct => destructing(live, stack, asker, this, args, budget),
+        _ => Err(VmFault::NotYet),
     }
 }
 
@@ -136,7 +192,9 @@ pub fn begin_efun(
 ) -> Result<EfunBegun, VmFault>
     requires fit { IsFit live.old stack.old.items }
     requires can { CanStart live.old stack.old.items asker.old budget.old (requests.Efun this efun) args }
-    ensures { IfOk result (λ r. StartsEfun r this efun args live.old stack.old.items asker.old budget.old live.new stack.new.items asker.new budget.new) }
+    ensures starts { IfOk result (λ r. StartsEfun r this efun args live.old stack.old.items asker.old budget.old live.new stack.new.items asker.new budget.new) }
+    ensures fault { IfErr result IsReadless }
+    ensures yet { IfErr result (λ f. f ≡ NotYet → IsNotYet live.old efun (drop (length stack.old.items - args) stack.old.items)) }
 {
     if is_plain(efun) {
         return plain(live, stack, asker, this, efun, args, budget);
@@ -144,5 +202,5 @@ pub fn begin_efun(
     if is_calling(efun) {
         return calling(live, stack, asker, this, efun, args, budget);
     }
-    Err(VmFault::NotYet)
+    ending(live, stack, asker, this, efun, args, budget)
 }

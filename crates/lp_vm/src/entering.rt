@@ -1,10 +1,11 @@
 //! Calls begin and end.
-ghost use Rattle.std.specs.Prelude.{◌≡◌, ◌≤◌, IfOk, None, OnOk, Some, length, take};
+ghost use Rattle.std.specs.Prelude.{◌≡◌, ◌≤◌, IfErr, IfOk, None, OnOk, Some, length, take};
 ghost use Rattle.lp_step.specs.Steps.{IsFit, KeepsVariables};
 ghost use Rattle.lp_asking.specs.Beginning.{HasCaller, HasNoCaller, IsPlaced};
 ghost use Rattle.lp_reaching.specs.Reaching.{IsInMemory};
 ghost use Rattle.lp_vm.specs.declared.request.Request.TheVariants as requests;
 ghost use Rattle.lp_vm.specs.Answering.{Begins};
+ghost use Rattle.lp_vm.specs.declared.fault.VmFault.TheVariants.{NoMemory};
 ghost use Rattle.lp_vm.specs.Beginning.{CanStart, IsBegun, Starts, left_behind};
 
 use crate::fault::VmFault;
@@ -77,6 +78,7 @@ fn begin(
     ensures begins { IfOk result (λ r. Begins r reached.callee reached.code reached.caller args live.old stack.old.items asker.old budget.old live.new stack.new.items asker.new budget.new) }
     ensures begun { IfOk result (λ r. IsBegun r reached.caller live.new stack.new.items asker.old budget.old asker.new budget.new) }
     ensures home { OnOk result (KeepsVariables live.old.objects live.new.objects) }
+    ensures fault { IfErr result (λ f. f ≡ NoMemory) }
 {
     let is_paid = pay_entry(budget);
     if !is_paid {
@@ -118,7 +120,8 @@ fn start_function(
 ) -> Result<Started, VmFault>
     requires fit { IsFit live.old stack.old.items }
     requires can { CanStart live.old stack.old.items asker.old budget.old (requests.Function (Some reached)) args }
-    ensures { IfOk result (λ r. Starts r (Some reached) args live.old stack.old.items asker.old budget.old live.new stack.new.items asker.new budget.new) }
+    ensures starts { IfOk result (λ r. Starts r (Some reached) args live.old stack.old.items asker.old budget.old live.new stack.new.items asker.new budget.new) }
+    ensures fault { IfErr result (λ f. f ≡ NoMemory) }
 {
     let left = left_at(&reached, stack, args);
     match begin(alloc, live, stack, asker, reached, args, budget)? {
@@ -142,7 +145,8 @@ pub fn start(
 ) -> Result<Started, VmFault>
     requires fit { IsFit live.old stack.old.items }
     requires can { CanStart live.old stack.old.items asker.old budget.old (requests.Function reached) args }
-    ensures { IfOk result (λ r. Starts r reached args live.old stack.old.items asker.old budget.old live.new stack.new.items asker.new budget.new) }
+    ensures starts { IfOk result (λ r. Starts r reached args live.old stack.old.items asker.old budget.old live.new stack.new.items asker.new budget.new) }
+    ensures fault { IfErr result (λ f. f ≡ NoMemory) }
 {
     match reached {
         None => {

@@ -1,8 +1,13 @@
 //! A function runs until it asks or ends.
-ghost use Rattle.std.specs.Prelude.{IfOk, IfSome, OnOk, ◌≡◌};
-ghost use Rattle.lp_step.specs.Steps.{IsFit};
+ghost use Rattle.std.specs.Prelude.{IfErr, IfOk, IfSome, IsSome, OnOk, ◌≡◌};
+ghost use Rattle.lp_step.specs.Steps.{IsFit, KeepsVariables};
+ghost use Rattle.lp_world.specs.Closed.{IsClosed};
+ghost use Rattle.lp_world.specs.Rows.{row_at};
+ghost use Rattle.lp_reaching.specs.Reaching.{CanAsk, Finds, IsInMemory};
 ghost use Rattle.lp_asking.specs.Endings.{IsEndingThere};
 ghost use Rattle.lp_asking.specs.Resuming.{Resumes};
+ghost use Rattle.lp_vm.specs.declared.fault.VmFault.TheVariants.{NoMemory};
+ghost use Rattle.lp_vm.specs.Causes.{Tells, read_of};
 ghost use Rattle.lp_vm.specs.Turns.{CanHalt, Halts};
 
 use crate::fault::VmFault;
@@ -10,11 +15,12 @@ use crate::laying::lay_below;
 use crate::request::Request;
 use lp_asking::advance::{Halt, advance};
 use lp_asking::ending::Ending;
-use lp_asking::question::question_of;
+use lp_asking::question::{Question, question_of};
 use lp_asking::resume::resume;
 use lp_asking::truth::Truthful;
 use lp_instr::efun::Efun;
 use lp_reaching::finding::find;
+use lp_reaching::reached::Reached;
 use lp_values::value::Value;
 use lp_world::frame::Frame;
 use lp_world::live::Live;
@@ -29,6 +35,28 @@ pub enum Halted {
     Asks(Request, u32),
 }
 
+/// What a question of a running function reaches in its object, if it reaches something. What is needed for it comes into memory.
+fn reach_inside<W: Truthful>(
+    live: &mut Live,
+    swap: &mut W,
+    frame: &Frame,
+    question: Question,
+) -> Result<Option<Reached>, VmFault>
+    requires closed { IsClosed live.old }
+    requires object { IsSome (row_at live.old.objects frame.now.this.0) }
+    requires can { CanAsk (W.content swap.old) live.old frame.now.this frame.now.part frame.now.code question }
+    ensures found { IfOk result (λ r. Finds frame.now.this frame.now.part frame.now.code question (W.content swap.old) live.old (W.content swap.new) live.new r) }
+    ensures there { IfOk result (λ r. IfSome r (λ x. IsInMemory live.new x.callee x.code)) }
+    ensures closed { IsClosed live.new }
+    ensures home { KeepsVariables live.old.objects live.new.objects }
+    ensures cells { live.new.cells ≡ live.old.cells }
+    ensures outputs { live.new.outputs ≡ live.old.outputs }
+    ensures tells { Tells (W.content swap.new) (W.last swap.new) (W.read_faults swap.old) (W.read_faults swap.new) (W.write_faults swap.old) (W.write_faults swap.new)
+        (W.is_truthful swap.old) (W.is_truthful swap.new) (W.is_honest swap.old) (W.is_honest swap.new) live.new (read_of result) }
+{
+    Ok(find(live, swap, frame.this, frame.part, &frame.code, question)?)
+}
+
 /// A function runs until it asks or ends. A call of another object, or of a simul efun, is `call_other`.
 pub fn run_to_halt<W: Truthful>(
     alloc: Global,
@@ -39,7 +67,9 @@ pub fn run_to_halt<W: Truthful>(
     budget: &mut u64,
 ) -> Result<Halted, VmFault>
     requires { CanHalt (W.content swap.old) live.old stack.old.items frame.old budget.old }
-    ensures { IfOk result (λ h. Halts h (W.content swap.old) live.old stack.old.items frame.old budget.old (W.content swap.new) live.new stack.new.items frame.new budget.new) }
+    ensures halts { IfOk result (λ h. Halts h (W.content swap.old) live.old stack.old.items frame.old budget.old (W.content swap.new) live.new stack.new.items frame.new budget.new) }
+    ensures tells { Tells (W.content swap.new) (W.last swap.new) (W.read_faults swap.old) (W.read_faults swap.new) (W.write_faults swap.old) (W.write_faults swap.new)
+        (W.is_truthful swap.old) (W.is_truthful swap.new) (W.is_honest swap.old) (W.is_honest swap.new) live.new (read_of result) }
 {
     match advance(alloc, live, stack, frame, budget)? {
         Halt::Ended(ending) => Ok(Halted::Ended(ending)),
@@ -50,7 +80,7 @@ pub fn run_to_halt<W: Truthful>(
                 Ok(Halted::Asks(Request::Efun(frame.this, Efun::CallOther), args))
             }
             Some(question) => {
-                let reached = find(live, swap, frame.this, frame.part, &frame.code, question)?;
+                let reached = reach_inside(live, swap, frame, question)?;
                 Ok(Halted::Asks(Request::Function(reached), call.args))
             }
         },
@@ -67,6 +97,7 @@ pub fn go_back(
     ensures table { IfOk result (λ r. Resumes r 0 ending stack.old.items frame.old stack.new.items frame.new) }
     ensures keeps { OnOk result ((live : _) → IsEndingThere live.cells ending → IsFit live stack.old.items → IsFit live stack.new.items) }
     ensures same { IfOk result (λ r. IfSome r (λ e. e ≡ ending)) }
+    ensures fault { IfErr result (λ f. f ≡ NoMemory) }
 {
     Ok(resume(alloc, stack, frame, 0, ending)?)
 }

@@ -1,9 +1,10 @@
 //! What lies below the arguments of a call that goes through `call_other`.
-ghost use Rattle.std.specs.Prelude.{◌≡◌, ◌+◌, ◌-◌, ◌<◌, ◌≤◌, ◌++◌, ◌∷◌, IfOk, OnOk, Some, drop, length, slice_get, take};
+ghost use Rattle.std.specs.Prelude.{◌≡◌, ◌+◌, ◌-◌, ◌<◌, ◌≤◌, ◌++◌, ◌∷◌, IfErr, IfOk, OnOk, Some, drop, length, slice_get, take};
 ghost use Rattle.lp_values.specs.declared.value.Value.TheVariants.{Str};
 ghost use Rattle.lp_cells.specs.Cells.{IsThere, Store};
 ghost use Rattle.lp_language.specs.Eval.{name_or_zero};
 ghost use Rattle.lp_step.specs.Steps.{IsFit};
+ghost use Rattle.lp_vm.specs.declared.fault.VmFault.TheVariants.{NoMemory};
 ghost use Rattle.lp_vm.specs.Laying.{HasText, Lays};
 
 use crate::fault::VmFault;
@@ -55,7 +56,8 @@ fn name_or_zero(name: &Option<Text>) -> Result<Value, AllocError>
 /// # Errors
 /// `NoMemory` where that has no number.
 fn two_more(args: u32) -> Result<u32, VmFault>
-    ensures { IfOk result (λ n. n ≡ args + 2) }
+    ensures sum { IfOk result (λ n. n ≡ args + 2) }
+    ensures fault { IfErr result (λ f. f ≡ NoMemory) }
 {
     match args.checked_add(2) {
         Some(n) => Ok(n),
@@ -75,6 +77,7 @@ fn lay_simul(
     requires text { k < length program.now.consts }
     ensures lays { IfOk result (λ n. Lays (Target.Simul k) program.now live.now args stack.old.items n stack.new.items) }
     ensures keeps { OnOk result ((l : _) → IsFit l stack.old.items → IsFit l stack.new.items) }
+    ensures fault { IfErr result (λ f. f ≡ NoMemory) }
 {
     let name = text_at(program, k)?;
     let object = name_or_zero(&live.simul)?;
@@ -100,6 +103,7 @@ pub fn lay_below(
     requires text { HasText target program.now }
     ensures lays { IfOk result (λ n. Lays target program.now live.now args stack.old.items n stack.new.items) }
     ensures keeps { OnOk result ((l : _) → IsFit l stack.old.items → IsFit l stack.new.items) }
+    ensures fault { IfErr result (λ f. f ≡ NoMemory) }
 {
     match target {
         Target::Slot(_) => Ok(args),

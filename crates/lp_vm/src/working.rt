@@ -1,8 +1,10 @@
 //! Jobs of efuns go on by one question after another.
-ghost use Rattle.std.specs.Prelude.{◌≡◌, IfOk, IfSome, OnOk};
+ghost use Rattle.std.specs.Prelude.{◌≡◌, IfErr, IfOk, IfSome, OnOk};
 ghost use Rattle.lp_calling.specs.Jobs.{IsAsking, IsJobOn, IsReady};
 ghost use Rattle.lp_step.specs.Steps.{IsFit};
 ghost use Rattle.lp_asking.specs.Endings.{IsEndingThere};
+ghost use Rattle.lp_vm.specs.declared.fault.VmFault.TheVariants.{NoMemory};
+ghost use Rattle.lp_vm.specs.Causes.{Tells, read_of};
 ghost use Rattle.lp_vm.specs.Jobs.{FedOn, Feeds, StepsTo};
 ghost use Rattle.lp_vm.specs.Working.{CanWork};
 
@@ -34,7 +36,8 @@ pub enum Stepped {
 /// # Errors
 /// `NoMemory` where there are too many.
 fn count_of(n: usize) -> Result<u32, VmFault>
-    ensures { IfOk result (λ k. k ≡ n) }
+    ensures count { IfOk result (λ k. k ≡ n) }
+    ensures fault { IfErr result (λ f. f ≡ NoMemory) }
 {
     match u32::try_from(n) {
         Ok(k) => Ok(k),
@@ -59,7 +62,9 @@ pub fn step_job<W: Truthful>(
     requires ready { IsReady live.old.objects job.old }
     requires fit { IsFit live.old stack.old.items }
     requires can { CanWork this job.old (W.content swap.old) live.old stack.old.items asker.now budget.old }
-    ensures { IfOk result (λ r. StepsTo r this job.old (W.content swap.old) live.old stack.old.items asker.now budget.old job.new (W.content swap.new) live.new stack.new.items budget.new) }
+    ensures steps { IfOk result (λ r. StepsTo r this job.old (W.content swap.old) live.old stack.old.items asker.now budget.old job.new (W.content swap.new) live.new stack.new.items budget.new) }
+    ensures tells { Tells (W.content swap.new) (W.last swap.new) (W.read_faults swap.old) (W.read_faults swap.new) (W.write_faults swap.old) (W.write_faults swap.new)
+        (W.is_truthful swap.old) (W.is_truthful swap.new) (W.is_honest swap.old) (W.is_honest swap.new) live.new (read_of result) }
 {
     match next(job, live, &asker.turn, stack, budget)? {
         Step::Ends(answer) => Ok(Stepped::Ended(ending_of(answer))),
@@ -90,6 +95,7 @@ pub fn feed_back(
     ensures on { IfOk result (λ r. FedOn r job.old job.new stack.new.items) }
     ensures fit { OnOk result (IsFit live.now stack.new.items) }
     ensures same { IfOk result (λ r. IfSome r (λ e. e ≡ ending)) }
+    ensures fault { IfErr result (λ f. f ≡ NoMemory) }
 {
     match ending {
         Ending::Value(v) => {

@@ -6,6 +6,8 @@
 #[cfg(test)]
 mod causes;
 #[cfg(test)]
+mod globals;
+#[cfg(test)]
 mod idling;
 #[cfg(test)]
 mod programs;

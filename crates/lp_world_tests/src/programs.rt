@@ -37,21 +37,30 @@ fn variable_rows(alloc: Global, n: u32) -> Result<Vec<VarRow>, AllocError> {
     Ok(rows)
 }
 
-// The tables of such a program, of one part.
-fn tables(alloc: Global, number: u64, n: u32) -> Result<Tables, AllocError> {
+// These versions, and behind them the one with a number.
+fn parts(alloc: Global, parents: &[ProgId], number: u64) -> Result<Vec<ProgId>, AllocError> {
+    let mut all = Vec::from_slice(alloc, parents)?;
+    all.push(ProgId(number))?;
+    Ok(all)
+}
+
+// The tables of such a program. Each parent has one part.
+fn tables(alloc: Global, parents: &[ProgId], number: u64, n: u32) -> Result<Tables, AllocError> {
     Ok(Tables {
         path: FilePath::from_str(alloc, "/a")?,
-        parents: Listed::from_vec(Vec::new(alloc)),
-        parts: Listed::from_vec(vec![in alloc; ProgId(number)]?),
+        parents: Listed::from_vec(Vec::from_slice(alloc, parents)?),
+        parts: Listed::from_vec(parts(alloc, parents, number)?),
         slots: Slots::from_vec(alloc, Vec::new(alloc))?,
         vars: Listed::from_vec(variable_rows(alloc, n)?),
         pragmas: Pragmas::new(),
     })
 }
 
-// The program of a version with this number, of so many variables and of one function of these instructions.
+// The program of a version with these parents and this number, of so many variables and of one function of these
+// instructions, with one local.
 fn raw_program(
     alloc: Global,
+    parents: &[ProgId],
     number: u64,
     n: u32,
     instrs: &[Instr],
@@ -60,36 +69,49 @@ fn raw_program(
         name: Name::from_str(alloc, "f")?,
         from: 0,
         params: 0,
-        locals: 0,
+        locals: 1,
     };
     Ok(RawProgram {
         instrs: Listed::from_vec(Vec::from_slice(alloc, instrs)?),
         consts: Listed::from_vec(Vec::new(alloc)),
         switches: Listed::from_vec(Vec::new(alloc)),
         funs: Listed::from_vec(vec![in alloc; function]?),
-        tables: tables(alloc, number, n)?,
+        tables: tables(alloc, parents, number, n)?,
         max_height: 25000,
     })
 }
 
 fn sound_program(
     alloc: Global,
+    parents: &[ProgId],
     number: u64,
     n: u32,
     instrs: &[Instr],
 ) -> Result<Program, AllocError> {
-    match verify(alloc, raw_program(alloc, number, n, instrs)?) {
+    match verify(alloc, raw_program(alloc, parents, number, n, instrs)?) {
         Ok(program) => Ok(program),
         Err(_) => Err(AllocError),
     }
 }
 
-/// The program of a version with this number, of so many variables and of one function of these instructions. They are to be sound.
+/// The program of a version with these parents, each of one part, and this number, of so many variables and of one function of
+/// these instructions, with one local. They are to be sound.
+pub fn child(
+    alloc: Global,
+    parents: &[ProgId],
+    number: u64,
+    n: u32,
+    instrs: &[Instr],
+) -> Result<SharedProgram, AllocError> {
+    SharedProgram::new(alloc, sound_program(alloc, parents, number, n, instrs)?)
+}
+
+/// The same of a version without parents.
 pub fn program(
     alloc: Global,
     number: u64,
     n: u32,
     instrs: &[Instr],
 ) -> Result<SharedProgram, AllocError> {
-    SharedProgram::new(alloc, sound_program(alloc, number, n, instrs)?)
+    child(alloc, &[], number, n, instrs)
 }

@@ -1,5 +1,4 @@
 use Rattle.std.proofs.Common.{All, sym, subst}
-use Rattle.std.proofs.Math.Nat.{le_trans}
 use Rattle.lp_cells.specs.Cells.{IsThere}
 use Rattle.lp_run.proofs.Together.{home_later}
 use Rattle.lp_targets.proofs.Lookups.{if_ok}
@@ -22,8 +21,8 @@ returns-clause-meant g c =
     if_ok c.answer.result
     (λ e h. call_meant c.args.caller c.args.ob c.args.name.now c.args.args (g.W.SwapFile.content c.args.swap.now) (g.W.SwapFile.content c.find_applied.new.swap) (g.W.SwapFile.content c.answer.new.swap) c.args.live.now c.find_applied.new.live c.answer.new.live c.args.stack.now.items c.answer.new.stack.items
     c.args.asker.now c.answer.new.asker c.args.budget.now c.answer.new.budget c.in_ok-reached.reached e c.in_ok-reached.ensures.found c.in_ok-reached.ensures.outputs h.served)
-    c.answer.ensures
+    c.answer.ensures.answers
 
 pub returns-clause-home : goal.returns-clause-home
 returns-clause-home g c =
-    on_ok_by c.answer.result (λ e h. home_later c.args.live.now.objects c.find_applied.new.live.objects c.answer.new.live.objects c.in_ok-reached.ensures.home h.home) c.answer.ensures
+    on_ok_by c.answer.result (λ e h. home_later c.args.live.now.objects c.find_applied.new.live.objects c.answer.new.live.objects c.in_ok-reached.ensures.home h.home) c.answer.ensures.answers

@@ -1,8 +1,9 @@
-use Rattle.std.proofs.Common.{◌≤◌, ◌+◌, ◌*◌, ℕ}
+use Rattle.std.proofs.Common.{◌≤◌, ◌+◌, ◌*◌, Ok}
 use Rattle.lp_step.specs.Steps.{IsFit, KeepsVariables}
 use Rattle.lp_run.specs.Runs.{left_of}
 use Rattle.lp_calling.specs.Jobs.{IsJobOn, IsReady, questions_left}
 use Rattle.lp_vm.specs.Answering.{IsSameAsker}
+use Rattle.lp_vm.specs.Causes.{Tells}
 use Rattle.lp_vm.specs.Going.{CanGo, Continues}
 use Rattle.lp_vm.specs.Working.{CanWork, WorkContinues}
 use Rattle.lp_vm.proofs.cycle.+calls.Given as goal
@@ -30,6 +31,7 @@ invariant-go-turns g l = record {
   same : IsSameAsker l.fn.asker l.asker;
   spends : l.budget ≤ l.fn.budget;
   home : KeepsVariables l.fn.live.objects l.live.objects;
+  tells : Tells (g.W.SwapFile.content l.swap) (g.W.SwapFile.last l.swap) (g.W.SwapFile.read_faults l.fn.swap) (g.W.SwapFile.read_faults l.swap) (g.W.SwapFile.write_faults l.fn.swap) (g.W.SwapFile.write_faults l.swap) (g.W.SwapFile.is_truthful l.fn.swap) (g.W.SwapFile.is_truthful l.swap) (g.W.SwapFile.is_honest l.fn.swap) (g.W.SwapFile.is_honest l.swap) l.live (Ok tt);
   goes : Continues (g.W.SwapFile.content l.fn.swap) l.fn.live l.fn.stack.items l.fn.frame l.fn.asker l.fn.budget (g.W.SwapFile.content l.swap) l.live l.stack.items l.frame l.asker l.budget;
 }
 
@@ -46,6 +48,7 @@ invariant-work-questions g l = record {
   same : IsSameAsker l.fn.asker l.asker;
   spends : l.budget ≤ l.fn.budget;
   home : KeepsVariables l.fn.live.objects l.live.objects;
+  tells : Tells (g.W.SwapFile.content l.swap) (g.W.SwapFile.last l.swap) (g.W.SwapFile.read_faults l.fn.swap) (g.W.SwapFile.read_faults l.swap) (g.W.SwapFile.write_faults l.fn.swap) (g.W.SwapFile.write_faults l.swap) (g.W.SwapFile.is_truthful l.fn.swap) (g.W.SwapFile.is_truthful l.swap) (g.W.SwapFile.is_honest l.fn.swap) (g.W.SwapFile.is_honest l.swap) l.live (Ok tt);
   goes : WorkContinues l.fn.this l.fn.job (g.W.SwapFile.content l.fn.swap) l.fn.live l.fn.stack.items l.fn.asker l.fn.budget l.job (g.W.SwapFile.content l.swap) l.live l.stack.items l.asker l.budget;
 }
 

@@ -9,8 +9,8 @@ use Rattle.lp_vm.proofs.Answered.{begun_efun, calling_ended, ended_answers}
 use Rattle.lp_vm.proofs.Startings.{same_asker}
 use Rattle.lp_vm.proofs.efuns.calling.Goals as goal
 
-pub returns-in-Ends : goal.returns-in-Ends
-returns-in-Ends c =
+pub returns-in-Ends-clause-starts : goal.returns-in-Ends-clause-starts
+returns-in-Ends-clause-starts c =
     let caller : Caller = record { this = c.args.this; interactive = c.args.asker.now.interactive; callers = c.as_slice.result } in
     let there : IsEndingThere c.args.live.now.cells c.ending_of.result = c.ending_of.ensures.there c.args.live.now.cells (subst (IsBegunThere c.args.live.now.cells) c.in-Ends.is c.in_ok-answer.ensures.there) in
     subst (λ e. StartsEfun (starts.Answered e) c.args.this c.args.efun c.args.args c.args.live.now c.args.stack.now.items c.args.asker.now c.args.budget.now c.args.live.now c.begin.new.stack.items c.args.asker.now c.begin.new.budget) (sym c.ending_of.ensures.ending)
@@ -19,8 +19,8 @@ returns-in-Ends c =
     (subst (λ r. Begins r c.args.efun caller c.args.live.now c.args.stack.now.items c.args.args c.args.budget.now c.begin.new.stack.items c.begin.new.budget) c.in-Ends.is c.in_ok-answer.ensures.begins))
     (same_asker c.args.asker.now) (home_same c.args.live.now.objects) c.in_ok-answer.ensures.fit (subst (IsEndingThere c.args.live.now.cells) c.ending_of.ensures.ending there) c.requires.can)
 
-pub returns-in-Runs : goal.returns-in-Runs
-returns-in-Runs c =
+pub returns-in-Runs-clause-starts : goal.returns-in-Runs-clause-starts
+returns-in-Runs-clause-starts c =
     let caller : Caller = record { this = c.args.this; interactive = c.args.asker.now.interactive; callers = c.as_slice.result } in
     begun_efun c.args.this c.args.efun c.args.live.now c.args.stack.now.items c.begin.new.stack.items c.args.asker.now c.args.args c.args.budget.now c.begin.new.budget caller c.in-Runs.job refl refl c.as_slice.ensures.value
     (subst (λ r. Begins r c.args.efun caller c.args.live.now c.args.stack.now.items c.args.args c.args.budget.now c.begin.new.stack.items c.begin.new.budget) c.in-Runs.is c.in_ok-answer.ensures.begins)

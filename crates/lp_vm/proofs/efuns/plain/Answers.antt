@@ -8,8 +8,8 @@ use Rattle.lp_vm.proofs.Answered.{ended_answers, plain_ended}
 use Rattle.lp_vm.proofs.Fitting.{kept_fit}
 use Rattle.lp_vm.proofs.efuns.plain.Goals as goal
 
-pub returns : goal.returns
-returns c =
+pub returns-clause-starts : goal.returns-clause-starts
+returns-clause-starts c =
     let caller : Caller = record { this = c.args.this; interactive = c.args.asker.now.interactive; callers = c.as_slice.result } in
     let asker : Asker = record { turn = c.call_plain.new.turn; interactive = c.args.asker.now.interactive; loads = c.args.asker.now.loads; callers = c.args.asker.now.callers; depth = c.args.asker.now.depth } in
     let there : IsEndingThere c.call_plain.new.live.cells c.ending_of.result = c.ending_of.ensures.there c.call_plain.new.live.cells c.in_ok-answer.ensures.there in

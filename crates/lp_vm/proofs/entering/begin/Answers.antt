@@ -1,4 +1,4 @@
-use Rattle.std.proofs.Common.{◌≡◌, ◌∙◌, ◌+◌, ◌<◌, ◌≤◌, All, ap, arith, length, subst, sym}
+use Rattle.std.proofs.Common.{◌∙◌, ◌+◌, ◌<◌, ◌≤◌, All, ap, arith, length, subst, sym}
 use Rattle.lp_cells.specs.Cells.{IsThere}
 use Rattle.lp_language.specs.Course as course
 use Rattle.lp_step.specs.Steps.{IsFit}

@@ -1,4 +1,4 @@
-use Rattle.std.proofs.Common.{Some, None, sym, subst}
+use Rattle.std.proofs.Common.{sym, subst}
 use Rattle.std.specs.Prelude.{pos}
 use Rattle.lp_values.specs.declared.value.Value.TheVariants as values
 use Rattle.lp_asking.specs.declared.ending.Ending.TheVariants as endings
@@ -11,8 +11,8 @@ use Rattle.lp_vm.proofs.entering.start.Goals as goal
 pub drop_top-requires : goal.drop_top-requires
 drop_top-requires c = enough c.args.live.now c.args.stack.now.items c.args.asker.now c.args.budget.now c.args.args (requests.Function c.args.reached) c.requires.can
 
-pub returns-in-None : goal.returns-in-None
-returns-in-None c =
+pub returns-in-None-clause-starts : goal.returns-in-None-clause-starts
+returns-in-None-clause-starts c =
     subst (λ r. Starts (starts.Answered (endings.Value (values.Int (pos 0)))) r c.args.args c.args.live.now c.args.stack.now.items c.args.asker.now c.args.budget.now c.args.live.now c.drop_top.new.stack.items c.args.asker.now c.args.budget.now) (sym c.in-None.is)
     (none_answers c.args.live.now c.args.stack.now.items c.drop_top.new.stack.items c.args.asker.now c.args.args c.args.budget.now c.drop_top.ensures.items (c.drop_top.ensures.keeps c.args.live.now c.requires.fit))
 

@@ -1,0 +1,25 @@
+//! What jobs ask and how they end, on a small whole state. Each job is run by hand: what it asks is told, and a test answers.
+//!
+//! The tests stand here and not beside the code, so that no library is proved twice.
+#![tactic(auto)]
+
+#[cfg(test)]
+mod calls;
+#[cfg(test)]
+mod carrying;
+#[cfg(test)]
+mod happening;
+#[cfg(test)]
+mod items;
+#[cfg(test)]
+mod messages;
+#[cfg(test)]
+mod prices;
+#[cfg(test)]
+mod rows;
+#[cfg(test)]
+mod state;
+#[cfg(test)]
+mod telling;
+#[cfg(test)]
+mod values;

@@ -1,0 +1,56 @@
+//! Tables of jobs.
+use crate::carrying::outcome;
+use crate::happening::Reply;
+use crate::state::{some_state, turn_of};
+use crate::telling::is_so;
+use crate::values::Arg;
+use lp_instr::efun::Efun;
+use lp_values::id::ObjId;
+use std::alloc::Global;
+use std::process::Abort;
+use std::test::Fail;
+
+/// An efun, its arguments, the answers to its questions, and what it comes to.
+pub type Row = (Efun, &'static [Arg], &'static [Reply], &'static str);
+
+/// Whether a job comes to this, in a turn of a player.
+fn comes_to(
+    rt: &impl Abort,
+    alloc: Global,
+    player: Option<ObjId>,
+    row: &Row,
+) -> Result<bool, Fail> {
+    let mut live = some_state(alloc)?;
+    let turn = turn_of(alloc, player);
+    let mut budget = 1000000;
+    let found = outcome(rt, &mut live, &turn, row.0, row.1, row.2, &mut budget)?;
+    Ok(is_so(alloc, found.as_slice(), row.3)?)
+}
+
+/// Each on a fresh state, in a turn of a player.
+pub fn hold(
+    rt: &impl Abort,
+    alloc: Global,
+    player: Option<ObjId>,
+    rows: &[Row],
+) -> Result<(), Fail> {
+    for row in rows {
+        assert!(rt; comes_to(rt, alloc, player, row)?, "{:?} {}", row.0, row.3);
+    }
+    Ok(())
+}
+
+/// Whether a call with this budget comes to this, and leaves so much of it.
+pub fn costs(
+    rt: &impl Abort,
+    alloc: Global,
+    row: &Row,
+    budget: u64,
+    left: u64,
+) -> Result<bool, Fail> {
+    let mut live = some_state(alloc)?;
+    let turn = turn_of(alloc, Some(ObjId(4)));
+    let mut budget = budget;
+    let found = outcome(rt, &mut live, &turn, row.0, row.1, row.2, &mut budget)?;
+    Ok(is_so(alloc, found.as_slice(), row.3)? && budget == left)
+}

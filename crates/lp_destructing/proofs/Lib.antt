@@ -1,0 +1,3 @@
+mod Ended
+mod Deed
+pub mod Settled
