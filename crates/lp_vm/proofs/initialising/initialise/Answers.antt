@@ -16,15 +16,15 @@ answer-requires-clause-fit g c = record { closed = c.in_ok-reached.ensures.close
 pub answer-requires-clause-can : goal.answer-requires-clause-can
 answer-requires-clause-can g c =
     can_answer_initialisers c.args.caller c.args.ob c.args.part (g.W.SwapFile.content c.args.swap.now) (g.W.SwapFile.content c.find_initialisers.new.swap) c.args.live.now c.find_initialisers.new.live c.args.stack.now.items c.args.asker.now c.args.budget.now c.in_ok-reached.reached
-    c.requires.can c.in_ok-reached.ensures.found c.in_ok-reached.ensures.there
+    c.law_there_is_one.ensures c.requires.can c.in_ok-reached.ensures.found c.in_ok-reached.ensures.there
 
 pub returns-clause-meant : goal.returns-clause-meant
 returns-clause-meant g c =
     if_ok c.answer.result
     (λ e h. initialising_meant c.args.caller c.args.ob c.args.part (g.W.SwapFile.content c.args.swap.now) (g.W.SwapFile.content c.find_initialisers.new.swap) c.args.live.now c.find_initialisers.new.live (g.W.SwapFile.content c.answer.new.swap) c.answer.new.live c.args.stack.now.items c.answer.new.stack.items
     c.args.asker.now c.answer.new.asker c.args.budget.now c.answer.new.budget c.in_ok-reached.reached e c.in_ok-reached.ensures.found c.in_ok-reached.ensures.outputs h.served)
-    c.answer.ensures
+    c.answer.ensures.answers
 
 pub returns-clause-home : goal.returns-clause-home
 returns-clause-home g c =
-    on_ok_by c.answer.result (λ e h. home_later c.args.live.now.objects c.find_initialisers.new.live.objects c.answer.new.live.objects c.in_ok-reached.ensures.home h.home) c.answer.ensures
+    on_ok_by c.answer.result (λ e h. home_later c.args.live.now.objects c.find_initialisers.new.live.objects c.answer.new.live.objects c.in_ok-reached.ensures.home h.home) c.answer.ensures.answers
