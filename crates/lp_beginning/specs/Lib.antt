@@ -1,0 +1,6 @@
+pub mod Rows
+pub mod Ends
+pub mod Jobs
+pub mod Beginning
+pub mod Reports
+pub mod Feeding
