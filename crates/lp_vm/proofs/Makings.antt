@@ -53,7 +53,7 @@ use Rattle.lp_vm.specs.declared.request.Request.TheVariants as requests
 use Rattle.lp_vm.specs.Answering.{Answered, CanServe, IsAsked, IsSameAsker, Serves}
 use Rattle.lp_vm.specs.Cycle.{Answers}
 use Rattle.lp_vm.specs.Going.{IsOutcome}
-use Rattle.lp_vm.specs.Making.{CanAsk, CanMake, CanReachFor, IsAskedFor, IsInitialised, IsMaking, MakeAsks, MakeContinues, Makes, MakesOn, StandsForOne, object_for}
+use Rattle.lp_vm.specs.Making.{CanAskNext, CanMake, CanReachFor, IsAskedFor, IsInitialised, IsMaking, MakeAsks, MakeContinues, Makes, MakesOn, StandsForOne, object_for}
 use Rattle.lp_vm.proofs.Answered.{setting}
 use Rattle.lp_vm.proofs.Carried.{some_at}
 use Rattle.lp_vm.proofs.Startings.{same_later}
@@ -229,7 +229,7 @@ still_there old new o keeps h =
 
 module _ (caller : Option ObjId) (job : Making) (told : Option Bytes) (live : Live) where
   -- the question can be asked
-  pub can_reach_for : (q : Question) → AsksNext job q → CanAsk caller job told live → CanReachFor caller q told live
+  pub can_reach_for : (q : Question) → AsksNext job q → CanAskNext caller job told live → CanReachFor caller q told live
   can_reach_for q next h =
       let k = h.3 in
       let asker = h.1 in
@@ -241,7 +241,7 @@ module _ (caller : Option ObjId) (job : Making) (told : Option Bytes) (live : Li
         world = k.making.fits.world;
       }
 
-  pub asks_for_it : (q : Question) → AsksNext job q → CanAsk caller job told live → object_for q ≡ job.object
+  pub asks_for_it : (q : Question) → AsksNext job q → CanAskNext caller job told live → object_for q ≡ job.object
   asks_for_it q next h = let k = h.3 in ap object_for (next_is job q k.by k.state next) ∙ object_is job.object (parts_left job)
 
 module _ (caller : Option ObjId) (at : Option Place) (job : Making) (told0 told1 : Option Bytes) (live0 live1 : Live) (stack : List Value) (asker0 : Asker) (budget0 : ℕ) (found : Option Reached) (asks : MakeAsks found caller job told0 live0 told1 live1) where

@@ -98,8 +98,8 @@ pub record CanMake (caller : Option ObjId) (at : Option Place) (job : Making) (t
   pub making : IsMaking caller at job told programs before live asker budget by state
 
 -- it asks so, whoever asks
-abbrev pub CanAsk : Option ObjId → Making → Option Bytes → Live → Type 0
-CanAsk caller job told live = (at : Option Place) × (asker : Asker) × (budget : ℕ) × CanMake caller at job told live asker budget
+abbrev pub CanAskNext : Option ObjId → Making → Option Bytes → Live → Type 0
+CanAskNext caller job told live = (at : Option Place) × (asker : Asker) × (budget : ℕ) × CanMake caller at job told live asker budget
 
 -- THE JOB GOES ON with what is left of the course: what that ends with, the whole ends with.
 pub record MakesOn (front : FrontEnd) (caller : Option ObjId) (at : Option Place) (course : Course Reply) (job : Making) (told : Option Bytes) (programs : List RawProgram) (before : List Out) (live : Live) (asker : Asker) (budget : ℕ) (by : meaning.Asker) : Type 0 where
@@ -132,7 +132,7 @@ pub record Makes (caller : Option ObjId) (at : Option Place) (job : Making) (tol
 abbrev pub StandsForOne : Option Bytes → Live → Type 0
 StandsForOne told live = (programs : List RawProgram) × (w : World) × Stands told programs live w
 
--- what the device did, up to the last read
+-- what the device did, told of the state at the last read
 pub record TellsOnce (told : Option Bytes) (last : Last) (reads0 reads1 writes0 writes1 : ℕ) (true0 true1 honest0 honest1 : Type 0) (answer : Result (Unit {0}) EnterFault) : Type 0 where
   pub live : Live
   pub tells : Tells told last reads0 reads1 writes0 writes1 true0 true1 honest0 honest1 live answer

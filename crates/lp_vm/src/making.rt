@@ -7,7 +7,7 @@ ghost use Rattle.lp_reaching.specs.Reaching.{IsInMemory};
 ghost use Rattle.lp_beginning.specs.declared.job.Question.TheVariants as questions;
 ghost use Rattle.lp_beginning.specs.Feeding.{Feeds, LeavesLess};
 ghost use Rattle.lp_vm.specs.Causes.{Tells, read_of};
-ghost use Rattle.lp_vm.specs.Making.{CanAsk, CanMake, CanReachFor, FindsFor, MakeAsks, Makes, StandsForOne, TellsOnce, object_for};
+ghost use Rattle.lp_vm.specs.Making.{CanAskNext, CanMake, CanReachFor, FindsFor, MakeAsks, Makes, StandsForOne, TellsOnce, object_for};
 
 use crate::cycle::answer;
 use crate::fault::VmFault;
@@ -107,7 +107,7 @@ fn ask_next<W: Truthful>(
 ) -> Result<Option<Reached>, VmFault>
     requires closed { IsClosed live.old }
     requires object { IsSome (row_at live.old.objects making.now.object.0) }
-    requires can { CanAsk caller making.now (W.content swap.old) live.old }
+    requires can { CanAskNext caller making.now (W.content swap.old) live.old }
     ensures asks { IfOk result (λ r. MakeAsks r caller making.now (W.content swap.old) live.old (W.content swap.new) live.new) }
     ensures there { IfOk result (λ r. IfSome r (λ x. IsInMemory live.new x.callee x.code)) }
     ensures closed { IsClosed live.new }
