@@ -49,7 +49,6 @@ use Rattle.lp_vm.specs.Requests.{AsksEfun}
 use Rattle.lp_vm.specs.Working.{IsWorking}
 use Rattle.lp_vm.proofs.Beginnings.{below_is}
 use Rattle.lp_vm.proofs.Carried.{world_settled}
-use Rattle.lp_vm.proofs.Startings.{any_front}
 use Rattle.lp_vm.proofs.Turning.{no_places}
 
 -- The question
@@ -125,8 +124,8 @@ answer_outcome told programs before live0 live1 asker budget answers.Spent w (Gi
 serves_spends : (told0 told1 : Option Bytes) (live0 live1 : Live) (stack0 stack1 : List Value) (asker0 asker1 : Asker) (args budget0 budget1 : ℕ) (request : Request) (e : Ending)
     → CanServe told0 live0 stack0 asker0 budget0 request args → Served request args told0 live0 stack0 asker0 budget0 told1 live1 stack1 asker1 budget1 e → budget1 ≤ budget0
 serves_spends told0 told1 live0 live1 stack0 stack1 asker0 asker1 args budget0 budget1 request e h served =
-    let sv = served any_front h.programs h.ask h.below h.asked h.is in
-    let less = (outcomes_can_be any_front h.ask sv.outcome sv.has).no_more in
+    let sv = served h.front h.real h.programs h.ask h.below h.asked h.is in
+    let less = (outcomes_can_be h.front h.ask sv.outcome sv.has).no_more in
     omega (arith, less, sv.is.left, h.asked.left)
 
 -- An efun ended whose course asks nothing.
@@ -138,7 +137,7 @@ module _ (this : ObjId) (efun : Efun) (live0 live1 : Live) (stack0 stack1 : List
       → (stack1 ≡ below) × IsOver x (Settled a.world g live1 asker1.turn budget1) (efun_in efun (asker_of a) c a.arguments (state_of a))
 
   ended_served : Ended → (told : Option Bytes) → Served (requests.Efun this efun) args told live0 stack0 asker0 budget0 told live1 stack1 asker1 budget1 (ending_of x)
-  ended_served ended told front programs a below h is =
+  ended_served ended told front real programs a below h is =
       let q = is.0 in
       let r = ended (setting told programs live0.outputs) a q.scene below (scene_so caller asker0 this efun a q same_this same_interactive same_callers) (at_start told programs live0 stack0 below asker0 args budget0 a h) h.lies h.many in
       let over = r.1 in
@@ -233,11 +232,11 @@ module _ (this : ObjId) (efun : Efun) (live : Live) (stack0 stack1 : List Value)
     ready = ready;
     can = λ told h.
         let w = works_from told h.programs h.ask h.below h.asked h.is.0 in
-        record { programs = h.programs; before = live.outputs; by = asker_of h.ask; scene = h.is.0.scene; state = w.state; low = h.below; own = w.own; working = w.working };
+        record { front = h.front; real = h.real; programs = h.programs; before = live.outputs; by = asker_of h.ask; scene = h.is.0.scene; state = w.state; low = h.below; own = w.own; working = w.working };
     answers = λ told0 told1 live2 stack2 asker2 budget2 e works. record {
-      served = λ front programs a below h is.
+      served = λ front real programs a below h is.
           let w = works_from told0 programs a below h is.0 in
-          let y = works.worked front programs live.outputs (asker_of a) is.0.scene w.state below w.own w.working in
+          let y = works.worked front real programs live.outputs (asker_of a) is.0.scene w.state below w.own w.working in
           record {
             outcome = outcome_of (plain_end y.end);
             has = efun_has front a efun is.0.scene y.end is.0.scene_is is.0.what (subst (λ t. Ends front t y.end) (sym w.course) y.ends);

@@ -41,7 +41,7 @@ use Rattle.lp_vm.specs.Laying.{HasText, Lays}
 use Rattle.lp_vm.specs.Requests.{IsRequest, IsRequestThere}
 use Rattle.lp_vm.specs.Turns.{Calls, CanHalt}
 use Rattle.lp_vm.proofs.Enterings.{can_run}
-use Rattle.lp_vm.proofs.Startings.{any_front, same_asker}
+use Rattle.lp_vm.proofs.Startings.{same_asker}
 use Rattle.lp_vm.proofs.Turning.{asks_efun, asks_inside, came_to_end, is_asked, turns, world_asked, world_now}
 use Rattle.lp_vm.proofs.Waiting.{AtEfun, Waits, ask_of, at_call, at_efun, at_other, call_enough, call_text}
 
@@ -93,7 +93,7 @@ call_there told live0 live1 stack0 stack1 frame0 frame1 budget0 budget1 call h a
 pub ended_finishes : (told : Option Bytes) (live0 live1 : Live) (stack0 stack1 : List Value) (frame0 frame1 : Frame) (budget0 budget1 : ℕ) (e : Ending) → Advances (halts.Ended e) live0 stack0 frame0 budget0 live1 stack1 frame1 budget1
     → IsEndingThere live1.cells e → KeepsVariables live0.objects live1.objects → budget1 ≤ budget0 → IsFit live1 stack1 → (asker : Asker) → Finishes told live0 stack0 frame0 asker budget0 told live1 stack1 asker budget1 e
 ended_finishes told live0 live1 stack0 stack1 frame0 frame1 budget0 budget1 e advances there home spends fit asker = record {
-  went = λ front p k row f a m course g. came_to_end front p k row f a m course told live0 live1 stack0 stack1 frame0 asker budget0 budget1 e g (advances p k row f a m g.of g.runs);
+  went = λ front real p k row f a m course g. came_to_end front p k row f a m course told live0 live1 stack0 stack1 frame0 asker budget0 budget1 e g (advances p k row f a m g.of g.runs);
   same = same_asker asker;
   spends = spends;
   home = home;
@@ -156,6 +156,8 @@ module _ (told0 told1 : Option Bytes) (live0 live1 live2 : Live) (stack0 stack1 
   can_serve asker h =
       let d = asks h.p h.k h.row h.function h.around h.moment h.course asker h.going in
       record {
+        front = h.front;
+        real = h.real;
         programs = h.around.programs;
         ask = ask_of h.around d.waits;
         below = d.waits.low;
@@ -170,17 +172,17 @@ module _ (told0 told1 : Option Bytes) (live0 live1 live2 : Live) (stack0 stack1 
     kept = home_later live1.objects live2.objects live3.objects home answers.home
 
     turned : (r : Option Ending) → Resumes r 0 e stack3 frame1 stack4 frame4 → Turned r told0 live0 stack0 frame0 asker0 budget0 told3 live3 stack4 frame4 asker3 budget3
-    turned None h = λ front p k row f a m course g.
+    turned None h = λ front real p k row f a m course g.
         let d = asks p k row f a m course asker0 g in
-        (turns front p k row f a m course told0 told1 told3 live0 live1 live2 live3 stack0 stack1 stack3 stack4 frame0 frame1 frame4 asker0 asker3 budget0 budget1 budget3 args request e g d.waits d.is outs answers.served answers.same kept None h fit).0
-    turned (Some x) h = λ front p k row f a m course g.
+        (turns front real p k row f a m course told0 told1 told3 live0 live1 live2 live3 stack0 stack1 stack3 stack4 frame0 frame1 frame4 asker0 asker3 budget0 budget1 budget3 args request e g d.waits d.is outs answers.served answers.same kept None h fit).0
+    turned (Some x) h = λ front real p k row f a m course g.
         let d = asks p k row f a m course asker0 g in
-        turns front p k row f a m course told0 told1 told3 live0 live1 live2 live3 stack0 stack1 stack3 stack4 frame0 frame1 frame4 asker0 asker3 budget0 budget1 budget3 args request e g d.waits d.is outs answers.served answers.same kept (Some x) h fit
+        turns front real p k row f a m course told0 told1 told3 live0 live1 live2 live3 stack0 stack1 stack3 stack4 frame0 frame1 frame4 asker0 asker3 budget0 budget1 budget3 args request e g d.waits d.is outs answers.served answers.same kept (Some x) h fit
 
     nearer : CanGo told0 live0 stack0 frame0 asker0 budget0 → Resumes None 0 e stack3 frame1 stack4 frame4 → left_of frame4 budget3 < left_of frame0 budget0
     nearer g h =
         let d = asks g.p g.k g.row g.function g.around g.moment g.course asker0 g.going in
-        let less = (turns any_front g.p g.k g.row g.function g.around g.moment g.course told0 told1 told3 live0 live1 live2 live3 stack0 stack1 stack3 stack4 frame0 frame1 frame4 asker0 asker3 budget0 budget1 budget3 args request e g.going
+        let less = (turns g.front g.real g.p g.k g.row g.function g.around g.moment g.course told0 told1 told3 live0 live1 live2 live3 stack0 stack1 stack3 stack4 frame0 frame1 frame4 asker0 asker3 budget0 budget1 budget3 args request e g.going
         d.waits d.is outs answers.served answers.same kept None h fit).1 in
         omega (arith, less, left_same g.around live0 stack0 frame0 budget0 g.moment g.going.runs.matches)
 

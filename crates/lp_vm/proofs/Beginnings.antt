@@ -110,7 +110,7 @@ module _ (front : FrontEnd) (told : Option Bytes) (programs : List RawProgram) (
 -- nothing is left to pay with
 pub begins_spent : (live : Live) (stack0 stack1 : List Value) (asker : Asker) (callee : Callee) (code : RawProgram) (caller : Option ObjId) (args budget0 budget1 : ℕ) (stop : Stop) → budget0 ≡ 0 → budget1 ≡ 0 → cause_of stop.cause ≡ course.Spent → stop.place ≡ None
     → stack1 ≡ take (length stack0 - args) stack0 → Begins (begun.Stopped stop) callee code caller args live stack0 asker budget0 live stack1 asker budget1
-begins_spent live stack0 stack1 asker callee code caller args budget0 budget1 stop z0 z1 c none t front told programs a callers subject below h called =
+begins_spent live stack0 stack1 asker callee code caller args budget0 budget1 stop z0 z1 c none t front real told programs a callers subject below h called =
     let s : State = record (start front told programs a callee.this callers subject) { budget = 0 } in
     unbegun front told programs a callee.this callers subject live stack0 stack1 below asker args budget0 budget1 stop course.Spent s h c none z1 refl refl refl refl t
     (entering_spent (site front told programs a callee.this callers subject).scene (body_of_subject (site front told programs a callee.this callers subject) subject) (start front told programs a callee.this callers subject)
@@ -119,7 +119,7 @@ begins_spent live stack0 stack1 asker callee code caller args budget0 budget1 st
 -- it would lie too deep
 pub begins_deep : (live : Live) (stack0 stack1 : List Value) (asker : Asker) (callee : Callee) (code : RawProgram) (caller : Option ObjId) (args budget0 budget1 : ℕ) (stop : Stop) → budget0 ≡ budget1 + 1 → 100 ≤ asker.depth → cause_of stop.cause ≡ course.Failed (plain TooDeep)
     → stop.place ≡ None → stack1 ≡ take (length stack0 - args) stack0 → Begins (begun.Stopped stop) callee code caller args live stack0 asker budget0 live stack1 asker budget1
-begins_deep live stack0 stack1 asker callee code caller args budget0 budget1 stop p deep c none t front told programs a callers subject below h called =
+begins_deep live stack0 stack1 asker callee code caller args budget0 budget1 stop p deep c none t front real told programs a callers subject below h called =
     let s : State = paid_one (start front told programs a callee.this callers subject) in
     let left : budget1 ≡ a.budget - 1 = omega (arith, p, h.left) in
     unbegun front told programs a callee.this callers subject live stack0 stack1 below asker args budget0 budget1 stop (course.Failed (plain TooDeep)) s h c none left refl refl refl refl t
@@ -142,7 +142,7 @@ pub begins_runs : (live0 live2 : Live) (stack0 stack1 : List Value) (frame : Fra
     → IsFit live2 stack0 → HasVariables (variables_at live2.objects callee.this) (callee.base + length code.tables.vars)
     → RunsFrom code callee args stack0 stack1 frame → IsOfRow code callee args stack0
     → Begins (begun.Runs frame) callee code caller args live0 stack0 asker0 budget0 live2 stack1 asker1 budget1
-begins_runs live0 live2 stack0 stack1 frame asker0 asker1 callee code caller args budget0 budget1 paid high has marks outs fit home runs of front told programs a callers subject below h called =
+begins_runs live0 live2 stack0 stack1 frame asker0 asker1 callee code caller args budget0 budget1 paid high has marks outs fit home runs of front real told programs a callers subject below h called =
     let c = called.callee_is in
     let same : c.code ≡ code = called.code_is in
     let at : part_of a.world callee.this (part_of_subject subject) ≡ c.place = part_is a.world callee.this (part_of_subject subject) c.place c.at in

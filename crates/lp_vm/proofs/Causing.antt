@@ -1,5 +1,6 @@
 -- What the device did, from one call to the next.
 use Rattle.std.proofs.Common.{◌≡◌, ◌∙◌, ℕ, List, Option, Result, Ok, Err, refl, ap, sym, subst}
+use Rattle.std.specs.Prelude.{IsErrAnd}
 use Rattle.lp_code.specs.declared.program.RawProgram.{RawProgram}
 use Rattle.lp_swapfile.specs.Counts.{Counts}
 use Rattle.lp_swapfile.specs.Device.{Bytes, Last}
@@ -14,7 +15,9 @@ use Rattle.lp_targets.specs.Brought.{Brings}
 use Rattle.lp_calling.specs.declared.job.CallingFault.{CallingFault}
 use Rattle.lp_calling.specs.declared.job.CallingFault.TheVariants as calling_faults
 use Rattle.lp_vm.specs.declared.fault.VmFault.{VmFault}
-use Rattle.lp_vm.specs.Causes.{IsReadless, Tells, read_fault}
+use Rattle.lp_vm.specs.Causes.{IsReadless, Tells, read_fault, read_of}
+use Rattle.lp_vm.specs.Making.{StandsForOne, TellsOnce}
+use Rattle.lp_beginning.specs.Beginning.{BringsFirst}
 use Rattle.lp_vm.specs.Faults.{calling_fault, fault_of}
 
 -- Nothing was read.
@@ -70,3 +73,25 @@ tells_fault {A = A} {told1 = told1} {last = last} {reads0 = reads0} {reads1 = re
 pub calling_readless : (x : CallingFault) (e : VmFault) → e ≡ calling_fault x → IsReadless e
 calling_readless calling_faults.NoMemory e is = ap read_fault is
 calling_readless calling_faults.NotYet e is = ap read_fault is
+
+-- The same where the state changed after what was brought.
+pub tells_fault_once : {told0 told1 : Option Bytes} {last : Last} {reads0 reads1 writes0 writes1 : ℕ} {true0 true1 honest0 honest1 : Type 0} {live0 : Live} {e : EnterFault}
+    → BringsFirst told0 told1 last reads0 reads1 writes0 writes1 true0 true1 honest0 honest1 live0 (Err e) → StandsForOne told0 live0
+    → TellsOnce told1 last reads0 reads1 writes0 writes1 true0 true1 honest0 honest1 (Err (read_fault (fault_of e)))
+tells_fault_once h stands = record { live = h.between; tells = tells_fault h.brings stands.0 stands.1 stands.2 }
+
+-- what follows what went well
+pub tells_once_more : {told1 told2 : Option Bytes} {last1 last2 : Last} {reads0 reads1 reads2 writes0 writes1 writes2 : ℕ} {true0 true1 true2 honest0 honest1 honest2 : Type 0} {live1 : Live} {r : Result (Unit {0}) EnterFault}
+    → Tells told1 last1 reads0 reads1 writes0 writes1 true0 true1 honest0 honest1 live1 (Ok tt) → TellsOnce told2 last2 reads1 reads2 writes1 writes2 true1 true2 honest1 honest2 r
+    → TellsOnce told2 last2 reads0 reads2 writes0 writes2 true0 true2 honest0 honest2 r
+tells_once_more h k = record { live = k.live; tells = tells_more h k.tells }
+
+-- one call, whose state is told
+pub tells_once : {told : Option Bytes} {last : Last} {reads0 reads1 writes0 writes1 : ℕ} {true0 true1 honest0 honest1 : Type 0} {live : Live} {r : Result (Unit {0}) EnterFault} → Tells told last reads0 reads1 writes0 writes1 true0 true1 honest0 honest1 live r
+    → TellsOnce told last reads0 reads1 writes0 writes1 true0 true1 honest0 honest1 r
+tells_once {live = live} h = record { live = live; tells = h }
+
+-- a fault that is handed on
+pub read_exit : {A : Type 0} (P : Result (Unit {0}) EnterFault → Type 0) (r : Result A VmFault) (f : VmFault) → IsErrAnd r (λ g. g ≡ f) → P (Err (read_fault f)) → P (read_of r)
+read_exit P (Ok x) f e h = absurd e
+read_exit P (Err g) f e h = subst (λ z. P (Err (read_fault z))) (sym e) h

@@ -17,7 +17,7 @@ use Rattle.lp_vm.specs.Cycle.{Answers, Finishes}
 use Rattle.lp_vm.specs.Going.{CanGo, Continues}
 use Rattle.lp_vm.specs.Turns.{Calls}
 use Rattle.lp_vm.proofs.Enterings.{can_go_on, goes_to_end}
-use Rattle.lp_vm.proofs.Startings.{any_front, same_later}
+use Rattle.lp_vm.proofs.Startings.{same_later}
 
 -- after some turns it ends
 pub finishes_later : (told0 told1 told2 : Option Bytes) (live0 live1 live2 : Live) (stack0 stack1 stack2 : List Value) (frame0 frame1 : Frame) (asker0 asker1 asker2 : Asker) (budget0 budget1 budget2 : ℕ) (e : Ending)
@@ -50,7 +50,7 @@ module _ (request : Request) (args : ℕ) (told0 told1 told2 : Option Bytes) (li
   call_continues resumes = calls.turns told2 live2 stack2 stack3 frame3 asker0 asker2 budget2 e None answers resumes fit
 
   pub call_can : CanGo told0 live0 stack0 frame0 asker0 budget0 → Resumes None 0 e stack2 frame1 stack3 frame3 → CanGo told2 live2 stack3 frame3 asker2 budget2
-  call_can can resumes = can_go_on any_front told0 told2 live0 live2 stack0 stack3 frame0 frame3 asker0 asker2 budget0 budget2 can (call_continues resumes)
+  call_can can resumes = can_go_on told0 told2 live0 live2 stack0 stack3 frame0 frame3 asker0 asker2 budget0 budget2 can (call_continues resumes)
 
   pub call_spends : budget2 ≤ budget0
   call_spends = le_trans answers.spends calls.spends

@@ -110,9 +110,9 @@ pub entered_ran : (live0 live1 live2 : Live) (stack0 stack1 stack2 stack3 : List
     → IsInMemory live0 callee code → bottom ≡ length stack0 - args → stack3 ≡ take bottom stack2 → asker3.turn ≡ asker2.turn
     → IsPlaced (record { this = callee.this; program = callee.program; fun = callee.fun }) e given
     → Entered callee code caller args told0 live0 stack0 asker0 budget0 told1 live2 stack3 asker3 budget2 given
-entered_ran live0 live1 live2 stack0 stack1 stack2 stack3 frame asker0 asker1 asker2 asker3 callee code caller args budget0 budget1 budget2 bottom told0 told1 e given begins went memory low cut turn is front programs a callers subject below h called =
-    let b = begins front told0 programs a callers subject below h called in
-    let x = went front b.p b.k b.row b.function b.around b.moment b.body b.going in
+entered_ran live0 live1 live2 stack0 stack1 stack2 stack3 frame asker0 asker1 asker2 asker3 callee code caller args budget0 budget1 budget2 bottom told0 told1 e given begins went memory low cut turn is front real programs a callers subject below h called =
+    let b = begins front real told0 programs a callers subject below h called in
+    let x = went front real b.p b.k b.row b.function b.around b.moment b.body b.going in
     let its = place_of a.world (site_of_subject a callee.this callers subject).scene in
     let ends : Ends front (calling_subject a callee.this callers subject) (plain_end (placed_end its x.end)) = b.back x.end x.ends in
     let keeps = subst (Keeps a.world) (world_of_end its x.end) (kept_by front a (calling_subject a callee.this callers subject) (plain_end (placed_end its x.end)) called.means_it ends) in
@@ -130,7 +130,7 @@ entered_ran live0 live1 live2 stack0 stack1 stack2 stack3 frame asker0 asker1 as
 -- What reaches nothing is answered 0.
 pub served_none : (told : Option Bytes) (live : Live) (stack0 stack1 : List Value) (asker : Asker) (args budget : ℕ) → stack1 ≡ take (length stack0 - args) stack0
     → Served (requests.Function None) args told live stack0 asker budget told live stack1 asker budget (endings.Value (values.Int (pos 0)))
-served_none told live stack0 stack1 asker args budget t front programs a below h reached = record {
+served_none told live stack0 stack1 asker args budget t front real programs a below h reached = record {
   outcome = outcome_of (Gives (Plain zero_value) (state_of a));
   has = has_of front a (nothing_called a) (Gives (Plain zero_value) (state_of a)) reached.0 (over_ends front (Gives (Plain zero_value) (state_of a)));
   is = record { world = h.world; left = h.left; player = h.by.player; commands = h.by.commands; outputs = sym (append-nil live.outputs); answer = refl };
@@ -144,16 +144,16 @@ called_so told programs live asker a x r = record { means_it = r.means_it; calle
 -- What reaches a function is answered as its call.
 pub served_some : (live0 live1 : Live) (stack0 stack1 : List Value) (asker0 asker1 : Asker) (x : Reached) (args budget0 budget1 : ℕ) (told0 told1 : Option Bytes) (e : Ending)
     → Entered x.callee x.code x.caller args told0 live0 stack0 asker0 budget0 told1 live1 stack1 asker1 budget1 e → Served (requests.Function (Some x)) args told0 live0 stack0 asker0 budget0 told1 live1 stack1 asker1 budget1 e
-served_some live0 live1 stack0 stack1 asker0 asker1 x args budget0 budget1 told0 told1 e entered front programs a below h r =
-    let t = entered front programs a r.callers r.subject below h (called_so told0 programs live0 asker0 a x r) in
+served_some live0 live1 stack0 stack1 asker0 asker1 x args budget0 budget1 told0 told1 e entered front real programs a below h r =
+    let t = entered front real programs a r.callers r.subject below h (called_so told0 programs live0 asker0 a x r) in
     record { outcome = outcome_of t.end; has = has_of front a (calling_subject a x.callee.this r.callers r.subject) t.end r.means_it t.ends; is = t.is; left = t.left }
 
 -- A function that began can go, where its call could be served.
-pub can_go : (front : FrontEnd) (told : Option Bytes) (live0 live1 : Live) (stack0 stack1 : List Value) (frame : Frame) (asker0 asker1 : Asker) (x : Reached) (args budget0 budget1 : ℕ)
+pub can_go : (told : Option Bytes) (live0 live1 : Live) (stack0 stack1 : List Value) (frame : Frame) (asker0 asker1 : Asker) (x : Reached) (args budget0 budget1 : ℕ)
     → CanServe told live0 stack0 asker0 budget0 (requests.Function (Some x)) args → Begins (begun.Runs frame) x.callee x.code x.caller args live0 stack0 asker0 budget0 live1 stack1 asker1 budget1 → CanGo told live1 stack1 frame asker1 budget1
-can_go front told live0 live1 stack0 stack1 frame asker0 asker1 x args budget0 budget1 h begins =
-    let b = begins front told h.programs h.ask h.is.callers h.is.subject h.below h.asked (called_so told h.programs live0 asker0 h.ask x h.is) in
-    record { p = b.p; k = b.k; row = b.row; function = b.function; around = b.around; moment = b.moment; course = b.body; going = b.going }
+can_go told live0 live1 stack0 stack1 frame asker0 asker1 x args budget0 budget1 h begins =
+    let b = begins h.front h.real told h.programs h.ask h.is.callers h.is.subject h.below h.asked (called_so told h.programs live0 asker0 h.ask x h.is) in
+    record { front = h.front; real = h.real; p = b.p; k = b.k; row = b.row; function = b.function; around = b.around; moment = b.moment; course = b.body; going = b.going }
 
 -- One turn after another
 
@@ -165,23 +165,23 @@ later_trans a b c h k = record { same = k.same ∙ ap (λ x. back_in x c) h.same
 
 -- none so far
 pub goes_on_same : (told : Option Bytes) (live : Live) (stack : List Value) (frame : Frame) (asker : Asker) (budget : ℕ) → Continues told live stack frame asker budget told live stack frame asker budget
-goes_on_same told live stack frame asker budget front p k row f a m course g = record { around = a; moment = m; rest = course; later = later_same a; going = g; back = λ e h. h }
+goes_on_same told live stack frame asker budget front real p k row f a m course g = record { around = a; moment = m; rest = course; later = later_same a; going = g; back = λ e h. h }
 
 -- one more
 pub goes_on_more : (told0 told1 told2 : Option Bytes) (live0 live1 live2 : Live) (stack0 stack1 stack2 : List Value) (frame0 frame1 frame2 : Frame) (asker0 asker1 asker2 : Asker) (budget0 budget1 budget2 : ℕ)
     → Continues told0 live0 stack0 frame0 asker0 budget0 told1 live1 stack1 frame1 asker1 budget1 → Continues told1 live1 stack1 frame1 asker1 budget1 told2 live2 stack2 frame2 asker2 budget2
     → Continues told0 live0 stack0 frame0 asker0 budget0 told2 live2 stack2 frame2 asker2 budget2
-goes_on_more told0 told1 told2 live0 live1 live2 stack0 stack1 stack2 frame0 frame1 frame2 asker0 asker1 asker2 budget0 budget1 budget2 h n front p k row f a m course g =
-    let x = h front p k row f a m course g in
-    let y = n front p k row f x.around x.moment x.rest x.going in
+goes_on_more told0 told1 told2 live0 live1 live2 stack0 stack1 stack2 frame0 frame1 frame2 asker0 asker1 asker2 budget0 budget1 budget2 h n front real p k row f a m course g =
+    let x = h front real p k row f a m course g in
+    let y = n front real p k row f x.around x.moment x.rest x.going in
     record { around = y.around; moment = y.moment; rest = y.rest; later = later_trans a x.around y.around x.later y.later; going = y.going; back = λ e l. x.back e (y.back e l) }
 
 -- and the end
 pub goes_to_end : (told0 told1 told2 : Option Bytes) (live0 live1 live2 : Live) (stack0 stack1 stack2 : List Value) (frame0 frame1 : Frame) (asker0 asker1 asker2 : Asker) (budget0 budget1 budget2 : ℕ) (e : Ending)
     → Continues told0 live0 stack0 frame0 asker0 budget0 told1 live1 stack1 frame1 asker1 budget1 → Went told1 live1 stack1 frame1 asker1 budget1 told2 live2 stack2 asker2 budget2 e → Went told0 live0 stack0 frame0 asker0 budget0 told2 live2 stack2 asker2 budget2 e
-goes_to_end told0 told1 told2 live0 live1 live2 stack0 stack1 stack2 frame0 frame1 asker0 asker1 asker2 budget0 budget1 budget2 e h w front p k row f a m course g =
-    let x = h front p k row f a m course g in
-    let y = w front p k row f x.around x.moment x.rest x.going in
+goes_to_end told0 told1 told2 live0 live1 live2 stack0 stack1 stack2 frame0 frame1 asker0 asker1 asker2 budget0 budget1 budget2 e h w front real p k row f a m course g =
+    let x = h front real p k row f a m course g in
+    let y = w front real p k row f x.around x.moment x.rest x.going in
     record {
       end = y.end;
       ends = x.back y.end y.ends;
@@ -191,11 +191,11 @@ goes_to_end told0 told1 told2 live0 live1 live2 stack0 stack1 stack2 frame0 fram
     }
 
 -- it can go on
-pub can_go_on : (front : FrontEnd) (told0 told1 : Option Bytes) (live0 live1 : Live) (stack0 stack1 : List Value) (frame0 frame1 : Frame) (asker0 asker1 : Asker) (budget0 budget1 : ℕ) → CanGo told0 live0 stack0 frame0 asker0 budget0
+pub can_go_on : (told0 told1 : Option Bytes) (live0 live1 : Live) (stack0 stack1 : List Value) (frame0 frame1 : Frame) (asker0 asker1 : Asker) (budget0 budget1 : ℕ) → CanGo told0 live0 stack0 frame0 asker0 budget0
     → Continues told0 live0 stack0 frame0 asker0 budget0 told1 live1 stack1 frame1 asker1 budget1 → CanGo told1 live1 stack1 frame1 asker1 budget1
-can_go_on front told0 told1 live0 live1 stack0 stack1 frame0 frame1 asker0 asker1 budget0 budget1 h c =
-    let x = c front h.p h.k h.row h.function h.around h.moment h.course h.going in
-    record { p = h.p; k = h.k; row = h.row; function = h.function; around = x.around; moment = x.moment; course = x.rest; going = x.going }
+can_go_on told0 told1 live0 live1 stack0 stack1 frame0 frame1 asker0 asker1 budget0 budget1 h c =
+    let x = c h.front h.real h.p h.k h.row h.function h.around h.moment h.course h.going in
+    record { front = h.front; real = h.real; p = h.p; k = h.k; row = h.row; function = h.function; around = x.around; moment = x.moment; course = x.rest; going = x.going }
 
 -- instructions can be carried out
 pub can_run : (told : Option Bytes) (live : Live) (stack : List Value) (frame : Frame) (asker : Asker) (budget : ℕ) → CanGo told live stack frame asker budget → CanRun live stack frame budget

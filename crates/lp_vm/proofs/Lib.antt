@@ -14,3 +14,4 @@ pub mod Workings
 pub mod Cycling
 pub mod Applied
 pub mod Initialised
+pub mod Makings

@@ -1,5 +1,5 @@
 -- Calls that begin, and what they end with.
-use Rattle.std.proofs.Common.{◌≡◌, ◌∙◌, ◌-◌, ◌≤◌, ℕ, List, Option, Some, None, [], refl, ap, sym, subst, length, length-append, take, arith}
+use Rattle.std.proofs.Common.{◌≡◌, ◌∙◌, ◌-◌, ◌≤◌, ℕ, List, Option, Some, None, refl, ap, sym, subst, length, length-append, take, arith}
 use Rattle.std.proofs.Math.Nat.{le_refl}
 use Rattle.std.specs.Prelude.{is_some, pos}
 use Rattle.lp_values.specs.declared.id.ObjId.{ObjId}
@@ -7,8 +7,6 @@ use Rattle.lp_values.specs.declared.value.Value.{Value}
 use Rattle.lp_values.specs.declared.value.Value.TheVariants as values
 use Rattle.lp_cells.specs.Cells.{Store}
 use Rattle.lp_swapfile.specs.Device.{Bytes}
-use Rattle.lp_language.specs.World.{no_pragmas}
-use Rattle.lp_meaning.specs.FrontEnd.{Declares, FrontEnd}
 use Rattle.lp_world.specs.declared.frame.Frame.{Frame}
 use Rattle.lp_world.specs.declared.live.Live.{Live}
 use Rattle.lp_step.specs.Steps.{IsFit, KeepsVariables}
@@ -29,10 +27,6 @@ use Rattle.lp_vm.specs.Answering.{Begins, IsSameAsker}
 use Rattle.lp_vm.specs.Beginning.{CanStart, HasEntered, IsBegun, left_behind}
 use Rattle.lp_vm.specs.Cycle.{Answers}
 use Rattle.lp_vm.proofs.Enterings.{called_so, can_go, entered_ran, served_none, served_some}
-
--- some rules of reading and checking: what is said of the machine holds for all
-pub any_front : FrontEnd
-any_front = record { read = λ files path. Declares [] no_pragmas; check = λ w path items pragmas parents simuls. [] }
 
 -- so many arguments are there
 pub enough : (live : Live) (stack : List Value) (asker : Asker) (budget args : ℕ) (request : Request) → CanStart live stack asker budget request args → args ≤ length stack
@@ -70,7 +64,7 @@ pub stopped_answers : (live0 live1 : Live) (stack0 stack1 : List Value) (asker0 
     → IsBegun (begun.Stopped s) x.caller live1 stack1 asker0 budget0 asker1 budget1 → KeepsVariables live0.objects live1.objects → (told : Option Bytes)
     → Answers (requests.Function (Some x)) args told live0 stack0 asker0 budget0 told live1 stack1 asker1 budget1 (endings.Stopped s)
 stopped_answers live0 live1 stack0 stack1 asker0 asker1 x args budget0 budget1 s begins is home told = record {
-  served = served_some live0 live1 stack0 stack1 asker0 asker1 x args budget0 budget1 told told (endings.Stopped s) (λ front programs a callers subject below h called. begins front told programs a callers subject below h called);
+  served = served_some live0 live1 stack0 stack1 asker0 asker1 x args budget0 budget1 told told (endings.Stopped s) (λ front real programs a callers subject below h called. begins front real told programs a callers subject below h called);
   same = asker_too asker0 asker1 is.0;
   spends = is.1;
   home = home;
@@ -103,11 +97,11 @@ pub runs_answers : (live0 live1 : Live) (stack0 stack1 : List Value) (asker0 ask
     → HasEntered (Some x) args live0 stack0 asker0 budget0 live1 stack1 frame (left_behind x (length stack0) args) asker1 budget1
 runs_answers live0 live1 stack0 stack1 asker0 asker1 x args budget0 budget1 frame begins is home memory = record {
   less = is.1;
-  can = λ told h. can_go any_front told live0 live1 stack0 stack1 frame asker0 asker1 x args budget0 budget1 h begins;
+  can = λ told h. can_go told live0 live1 stack0 stack1 frame asker0 asker1 x args budget0 budget1 h begins;
   depth = λ told0 told1 live2 stack2 asker2 budget2 e fin. omega (arith, fin.same.depth, is.0.depth);
   bottom = λ told0 told1 live2 stack2 asker2 budget2 e h fin.
-      let b = begins any_front told0 h.programs h.ask h.is.callers h.is.subject h.below h.asked (called_so told0 h.programs live0 asker0 h.ask x h.is) in
-      let y = fin.went any_front b.p b.k b.row b.function b.around b.moment b.body b.going in
+      let b = begins h.front h.real told0 h.programs h.ask h.is.callers h.is.subject h.below h.asked (called_so told0 h.programs live0 asker0 h.ask x h.is) in
+      let y = fin.went h.front h.real b.p b.k b.row b.function b.around b.moment b.body b.going in
       omega (arith, ap length h.asked.lies, length-append h.below h.ask.arguments, h.asked.many, ap length y.lies, length-append b.around.below y.top, ap length b.below_is);
   answers = λ told0 told1 live2 stack2 stack3 asker2 asker3 budget2 e given fin cut back placed fit.
       let gone = back (asker_before asker0 asker2) x.caller (caller_came x.caller asker0 asker1 asker2 is.0 fin.same) in

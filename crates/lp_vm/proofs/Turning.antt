@@ -18,6 +18,7 @@ use Rattle.lp_isa.specs.Work.{NextLess, work_of}
 use Rattle.lp_isa.specs.Runs.{Does}
 use Rattle.lp_meaning.specs.Closing.{Ends}
 use Rattle.lp_meaning.specs.FrontEnd.{FrontEnd}
+use Rattle.lp_front_end.specs.FrontEnds.{IsFrontEnd}
 use Rattle.lp_meaning.proofs.Kept.{outcomes_can_be}
 use Rattle.lp_world.specs.declared.frame.Frame.{Frame}
 use Rattle.lp_world.specs.declared.live.Live.{Live}
@@ -221,7 +222,7 @@ abbrev pub TurnsTo : Option Ending → FrontEnd → (p : RawProgram) → (k : �
 TurnsTo None front p k row f a m course told live stack frame asker budget = GoesOn front p k row f a course told live stack frame asker budget × (left_of frame budget < work_of a.code m)
 TurnsTo (Some e) front p k row f a m course told live stack frame asker budget = EndsSo front a course told live stack asker budget e
 
-module _ (front : FrontEnd) (p : RawProgram) (k : ℕ) (row : FunRow) (f : IsFunction p k row) (a : Around) (m : Moment) (course : Course Value) (told0 told1 told2 : Option Bytes) (live0 live1 live2 live3 : Live) (stack0 stack1 stack3 stack4 : List Value) (frame0 frame1 frame4 : Frame) (asker0 asker3 : Asker)
+module _ (front : FrontEnd) (real : IsFrontEnd front) (p : RawProgram) (k : ℕ) (row : FunRow) (f : IsFunction p k row) (a : Around) (m : Moment) (course : Course Value) (told0 told1 told2 : Option Bytes) (live0 live1 live2 live3 : Live) (stack0 stack1 stack3 stack4 : List Value) (frame0 frame1 frame4 : Frame) (asker0 asker3 : Asker)
     (budget0 budget1 budget3 args : ℕ) (request : Request) (e : Ending) (g : IsGoing p k row f a m course told0 live0 stack0 frame0 asker0 budget0) (c : Waits f.shapes a m live1 stack1 frame1 budget1 args)
     (is : IsRequest request told1 a.programs live2 asker0 (ask_of a c)) (outs : live2.outputs ≡ live1.outputs)
     (served : Served request args told1 live2 stack1 asker0 budget1 told2 live3 stack3 asker3 budget3 e) (same : IsSameAsker asker0 asker3) (home : KeepsVariables live1.objects live3.objects) where
@@ -235,7 +236,7 @@ module _ (front : FrontEnd) (p : RawProgram) (k : ℕ) (row : FunRow) (f : IsFun
   w = awaited p k row f a m course told0 live0 live1 stack0 stack1 frame0 frame1 asker0 budget0 budget1 args g c
 
   sv : Serves front told2 a.programs live2.outputs live3 stack3 c.low asker3 budget3 e ask
-  sv = served front a.programs ask c.low
+  sv = served front real a.programs ask c.low
       (is_asked p k row f a m course told0 live0 live1 stack0 stack1 frame0 frame1 asker0 budget0 budget1 args g c told1 live2 (world_asked request told1 a.programs live2 asker0 ask is)) is
 
   abbrev o : Outcome

@@ -14,6 +14,7 @@ use Rattle.lp_meaning.specs.Askers as meaning
 use Rattle.lp_meaning.specs.Askers.{ask_value, question}
 use Rattle.lp_meaning.specs.Closing.{Ends}
 use Rattle.lp_meaning.specs.FrontEnd.{FrontEnd}
+use Rattle.lp_front_end.specs.FrontEnds.{IsFrontEnd}
 use Rattle.lp_meaning.specs.FunctionCalls.{callers_behind, depth_behind}
 use Rattle.lp_meaning.proofs.Kept.{outcomes_can_be}
 use Rattle.lp_world.specs.declared.live.Live.{Live}
@@ -47,7 +48,7 @@ use Rattle.lp_vm.specs.Jobs.{Feeds, WorkAsks}
 use Rattle.lp_vm.specs.Working.{CanReach, CanWork, FindsAsked, IsAskedSo, IsWorking, WorkContinues, WorkTurned, Worked, WorkedTo, WorksOn}
 use Rattle.lp_vm.proofs.Answered.{answer_outcome, setting}
 use Rattle.lp_vm.proofs.Carried.{world_settled}
-use Rattle.lp_vm.proofs.Startings.{any_front, same_asker, same_later}
+use Rattle.lp_vm.proofs.Startings.{same_asker, same_later}
 use Rattle.lp_vm.proofs.Turning.{end_for, outcome_end, world_reached}
 
 -- The question
@@ -103,10 +104,10 @@ module _ (this : ObjId) (job0 job1 : Job) (told0 told1 : Option Bytes) (live0 li
       }
 
       -- What an answer leads to
-      module _ (front : FrontEnd) (outs : live2.outputs ≡ live1.outputs) (told3 : Option Bytes) (live3 : Live) (stack3 stack4 : List Value) (asker3 : Asker) (budget3 : ℕ) (job3 : Job) (e : Ending)
+      module _ (front : FrontEnd) (real : IsFrontEnd front) (outs : live2.outputs ≡ live1.outputs) (told3 : Option Bytes) (live3 : Live) (stack3 stack4 : List Value) (asker3 : Asker) (budget3 : ℕ) (job3 : Job) (e : Ending)
           (answers : Answers (requests.Function found) args told1 live2 stack1 asker0 budget1 told3 live3 stack3 asker3 budget3 e) where
         sv : Serves front told3 programs live2.outputs live3 stack3 (low ++ has.own) asker3 budget3 e the_ask
-        sv = answers.served front programs the_ask (low ++ has.own) asked reaches
+        sv = answers.served front real programs the_ask (low ++ has.own) asked reaches
 
         can_be : CanAnswer the_ask sv.outcome
         can_be = outcomes_can_be front the_ask sv.outcome sv.has
@@ -189,6 +190,8 @@ module _ (this : ObjId) (job0 job1 : Job) (told0 told1 : Option Bytes) (live0 li
   module _ (finds : FindsAsked this q told0 live1 told1 live2 found) (as_many : args ≡ n) (outs : live2.outputs ≡ live1.outputs) where
     job_can : IfSome found (λ x. IsInMemory live2 x.callee x.code) → CanWork this job0 told0 live0 stack0 asker0 budget0 → CanServe told1 live2 stack1 asker0 budget1 (requests.Function found) args
     job_can memory h = record {
+      front = h.front;
+      real = h.real;
       programs = h.programs;
       ask = the_ask h.programs h.before h.by h.scene h.state h.low h.own h.working;
       below = h.low ++ (has h.programs h.before h.by h.scene h.state h.low h.own h.working).own;
@@ -201,15 +204,15 @@ module _ (this : ObjId) (job0 job1 : Job) (told0 told1 : Option Bytes) (live0 li
         → IsJobOn job1 stack3
     job_on told3 live3 stack3 asker3 budget3 e h answers =
         let x = has h.programs h.before h.by h.scene h.state h.low h.own h.working in
-        let y = answers.served any_front h.programs (the_ask h.programs h.before h.by h.scene h.state h.low h.own h.working) (h.low ++ x.own) (asked h.programs h.before h.by h.scene h.state h.low h.own h.working finds as_many)
+        let y = answers.served h.front h.real h.programs (the_ask h.programs h.before h.by h.scene h.state h.low h.own h.working) (h.low ++ x.own) (asked h.programs h.before h.by h.scene h.state h.low h.own h.working finds as_many)
         (reaches h.programs h.before h.by h.scene h.state h.low h.own h.working finds as_many) in
         subst (IsJobOn job1) (sym y.left) x.fits
 
     job_turned : (job3 : Job) (told3 : Option Bytes) (live3 : Live) (stack3 stack4 : List Value) (asker3 : Asker) (budget3 : ℕ) (e : Ending) (r : Option Ending)
         → Answers (requests.Function found) args told1 live2 stack1 asker0 budget1 told3 live3 stack3 asker3 budget3 e → Feeds r e job1 live3 stack3 job3 stack4
         → WorkTurned r this job0 told0 live0 stack0 asker0 budget0 job3 told3 live3 stack4 asker3 budget3
-    job_turned job3 told3 live3 stack3 stack4 asker3 budget3 e None answers feeds = λ front programs before by c s low own w. turned_to programs before by c s low own w finds as_many front outs told3 live3 stack3 stack4 asker3 budget3 job3 e answers None feeds
-    job_turned job3 told3 live3 stack3 stack4 asker3 budget3 e (Some d) answers feeds = λ front programs before by c s low own w. turned_to programs before by c s low own w finds as_many front outs told3 live3 stack3 stack4 asker3 budget3 job3 e answers (Some d) feeds
+    job_turned job3 told3 live3 stack3 stack4 asker3 budget3 e None answers feeds = λ front real programs before by c s low own w. turned_to programs before by c s low own w finds as_many front real outs told3 live3 stack3 stack4 asker3 budget3 job3 e answers None feeds
+    job_turned job3 told3 live3 stack3 stack4 asker3 budget3 e (Some d) answers feeds = λ front real programs before by c s low own w. turned_to programs before by c s low own w finds as_many front real outs told3 live3 stack3 stack4 asker3 budget3 job3 e answers (Some d) feeds
 
     pub job_asks : IfSome found (λ x. IsInMemory live2 x.callee x.code) → budget1 ≤ budget0 → KeepsVariables live0.objects live1.objects → KeepsVariables live1.objects live2.objects → IsFit live2 stack1 → questions_left job1 ≤ questions_left job0 → IsAsking job1
         → WorkAsks found args this job0 told0 live0 stack0 asker0 budget0 job1 told1 live2 stack1 budget1
@@ -228,7 +231,7 @@ module _ (this : ObjId) (job0 job1 : Job) (told0 told1 : Option Bytes) (live0 li
 pub job_ends : (this : ObjId) (job0 job1 : Job) (told : Option Bytes) (live0 live1 : Live) (stack0 stack1 : List Value) (asker : Asker) (budget0 budget1 : ℕ) (x : Answer) → Goes (goes_to.Ends x) job0 live0 asker.turn stack0 budget0 job1 live1 stack1 budget1
     → budget1 ≤ budget0 → KeepsVariables live0.objects live1.objects → IsFit live1 stack1 → IsEndingThere live1.cells (ending_of x) → Works this job0 told live0 stack0 asker budget0 told live1 stack1 asker budget1 (ending_of x)
 job_ends this job0 job1 told live0 live1 stack0 stack1 asker budget0 budget1 x goes spends home fit there = record {
-  worked = λ front programs before by c s low own w.
+  worked = λ front real programs before by c s low own w.
       let h : HasStopped x job0 own live0 asker.turn budget0 low stack1 live1 budget1 = goes low own w.lies w.height in
       let over = h.course (setting told programs before) by s w.at in
       record {
@@ -248,30 +251,30 @@ job_ends this job0 job1 told live0 live1 stack0 stack1 asker budget0 budget1 x g
 
 -- none so far
 pub works_same : (this : ObjId) (job : Job) (told : Option Bytes) (live : Live) (stack : List Value) (asker : Asker) (budget : ℕ) → WorkContinues this job told live stack asker budget job told live stack asker budget
-works_same this job told live stack asker budget front programs before by c s low own w = record { state = s; own = own; working = w; back = λ e h. h }
+works_same this job told live stack asker budget front real programs before by c s low own w = record { state = s; own = own; working = w; back = λ e h. h }
 
 -- one more
 pub works_more : (this : ObjId) (job0 job1 job2 : Job) (told0 told1 told2 : Option Bytes) (live0 live1 live2 : Live) (stack0 stack1 stack2 : List Value) (asker0 asker1 asker2 : Asker) (budget0 budget1 budget2 : ℕ)
     → WorkContinues this job0 told0 live0 stack0 asker0 budget0 job1 told1 live1 stack1 asker1 budget1 → WorkContinues this job1 told1 live1 stack1 asker1 budget1 job2 told2 live2 stack2 asker2 budget2
     → WorkContinues this job0 told0 live0 stack0 asker0 budget0 job2 told2 live2 stack2 asker2 budget2
-works_more this job0 job1 job2 told0 told1 told2 live0 live1 live2 stack0 stack1 stack2 asker0 asker1 asker2 budget0 budget1 budget2 h n front programs before by c s low own w =
-    let x = h front programs before by c s low own w in
-    let y = n front programs before by c x.state low x.own x.working in
+works_more this job0 job1 job2 told0 told1 told2 live0 live1 live2 stack0 stack1 stack2 asker0 asker1 asker2 budget0 budget1 budget2 h n front real programs before by c s low own w =
+    let x = h front real programs before by c s low own w in
+    let y = n front real programs before by c x.state low x.own x.working in
     record { state = y.state; own = y.own; working = y.working; back = λ e l. x.back e (y.back e l) }
 
 -- it can work on
 pub can_work_on : (this : ObjId) (job0 job1 : Job) (told0 told1 : Option Bytes) (live0 live1 : Live) (stack0 stack1 : List Value) (asker0 asker1 : Asker) (budget0 budget1 : ℕ) → CanWork this job0 told0 live0 stack0 asker0 budget0
     → WorkContinues this job0 told0 live0 stack0 asker0 budget0 job1 told1 live1 stack1 asker1 budget1 → CanWork this job1 told1 live1 stack1 asker1 budget1
 can_work_on this job0 job1 told0 told1 live0 live1 stack0 stack1 asker0 asker1 budget0 budget1 h n =
-    let x = n any_front h.programs h.before h.by h.scene h.state h.low h.own h.working in
-    record { programs = h.programs; before = h.before; by = h.by; scene = h.scene; state = x.state; low = h.low; own = x.own; working = x.working }
+    let x = n h.front h.real h.programs h.before h.by h.scene h.state h.low h.own h.working in
+    record { front = h.front; real = h.real; programs = h.programs; before = h.before; by = h.by; scene = h.scene; state = x.state; low = h.low; own = x.own; working = x.working }
 
 -- and the end
 works_to_end : (this : ObjId) (job0 job1 : Job) (told0 told1 told2 : Option Bytes) (live0 live1 live2 : Live) (stack0 stack1 stack2 : List Value) (asker0 asker1 asker2 : Asker) (budget0 budget1 budget2 : ℕ) (e : Ending)
     → WorkContinues this job0 told0 live0 stack0 asker0 budget0 job1 told1 live1 stack1 asker1 budget1 → Worked this job1 told1 live1 stack1 asker1 budget1 told2 live2 stack2 asker2 budget2 e → Worked this job0 told0 live0 stack0 asker0 budget0 told2 live2 stack2 asker2 budget2 e
-works_to_end this job0 job1 told0 told1 told2 live0 live1 live2 stack0 stack1 stack2 asker0 asker1 asker2 budget0 budget1 budget2 e h n front programs before by c s low own w =
-    let x = h front programs before by c s low own w in
-    let y = n front programs before by c x.state low x.own x.working in
+works_to_end this job0 job1 told0 told1 told2 live0 live1 live2 stack0 stack1 stack2 asker0 asker1 asker2 budget0 budget1 budget2 e h n front real programs before by c s low own w =
+    let x = h front real programs before by c s low own w in
+    let y = n front real programs before by c x.state low x.own x.working in
     record { end = y.end; ends = x.back y.end y.ends; is = y.is; left = y.left }
 
 pub works_later : (this : ObjId) (job0 job1 : Job) (told0 told1 told2 : Option Bytes) (live0 live1 live2 : Live) (stack0 stack1 stack2 : List Value) (asker0 asker1 asker2 : Asker) (budget0 budget1 budget2 : ℕ) (e : Ending)

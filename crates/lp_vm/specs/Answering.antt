@@ -12,6 +12,7 @@ use Rattle.lp_language.specs.Course.{Ask, Course, End, Outcome, Reply, Scene, ou
 use Rattle.lp_isa.specs.Machine.{Moment}
 use Rattle.lp_meaning.specs.Closing.{Ends, Has}
 use Rattle.lp_meaning.specs.FrontEnd.{FrontEnd}
+use Rattle.lp_front_end.specs.FrontEnds.{IsFrontEnd}
 use Rattle.lp_meaning.specs.FunctionCalls.{place_of, placed_end}
 use Rattle.lp_meaning.specs.Questions.{means}
 use Rattle.lp_world.specs.declared.frame.Frame.{Frame}
@@ -78,7 +79,7 @@ BeginsTo (begins.Runs frame) front course told programs before live stack below 
 
 abbrev pub Begins : Begun → Callee → RawProgram → Option ObjId → ℕ → Live → List Value → Asker → ℕ → Live → List Value → Asker → ℕ → Type 0
 Begins r callee code caller args live0 stack0 asker0 budget0 live1 stack1 asker1 budget1 =
-    (front : FrontEnd) (told : Option Bytes) (programs : List RawProgram) (a : Ask) (callers : List ObjId) (subject : Subject) (below : List Value)
+    (front : FrontEnd) (real : IsFrontEnd front) (told : Option Bytes) (programs : List RawProgram) (a : Ask) (callers : List ObjId) (subject : Subject) (below : List Value)
     → IsAsked told programs live0 stack0 below asker0 args budget0 a → IsCalled programs asker0 a callee code caller callers subject
     → BeginsTo r front (calling_subject a callee.this callers subject) told programs live0.outputs live1 stack1 below asker1 budget1 a (site_of_subject a callee.this callers subject).scene
 
@@ -86,7 +87,7 @@ Begins r callee code caller args live0 stack0 asker0 budget0 live1 stack1 asker1
 
 abbrev pub Entered : Callee → RawProgram → Option ObjId → ℕ → Option Bytes → Live → List Value → Asker → ℕ → Option Bytes → Live → List Value → Asker → ℕ → Ending → Type 0
 Entered callee code caller args told0 live0 stack0 asker0 budget0 told1 live1 stack1 asker1 budget1 e =
-    (front : FrontEnd) (programs : List RawProgram) (a : Ask) (callers : List ObjId) (subject : Subject) (below : List Value)
+    (front : FrontEnd) (real : IsFrontEnd front) (programs : List RawProgram) (a : Ask) (callers : List ObjId) (subject : Subject) (below : List Value)
     → IsAsked told0 programs live0 stack0 below asker0 args budget0 a → IsCalled programs asker0 a callee code caller callers subject
     → Answered front (calling_subject a callee.this callers subject) told1 programs live0.outputs live1 stack1 below asker1 budget1 e
 
@@ -100,11 +101,13 @@ pub record Serves (front : FrontEnd) (told : Option Bytes) (programs : List RawP
 -- for every question of the meaning that is this request
 abbrev pub Served : Request → ℕ → Option Bytes → Live → List Value → Asker → ℕ → Option Bytes → Live → List Value → Asker → ℕ → Ending → Type 0
 Served request args told0 live0 stack0 asker0 budget0 told1 live1 stack1 asker1 budget1 e =
-    (front : FrontEnd) (programs : List RawProgram) (a : Ask) (below : List Value) → IsAsked told0 programs live0 stack0 below asker0 args budget0 a → IsRequest request told0 programs live0 asker0 a
+    (front : FrontEnd) (real : IsFrontEnd front) (programs : List RawProgram) (a : Ask) (below : List Value) → IsAsked told0 programs live0 stack0 below asker0 args budget0 a → IsRequest request told0 programs live0 asker0 a
     → Serves front told1 programs live0.outputs live1 stack1 below asker1 budget1 e a
 
--- in some world, with the object and the program of a function in memory
+-- in some world, with a front end, and with the object and the program of a function in memory
 pub record CanServe (told : Option Bytes) (live : Live) (stack : List Value) (asker : Asker) (budget : ℕ) (request : Request) (args : ℕ) : Type 0 where
+  pub front : FrontEnd
+  pub real : IsFrontEnd front
   pub programs : List RawProgram
   pub ask : Ask
   pub below : List Value

@@ -6,6 +6,7 @@ use Rattle.lp_code.specs.declared.program.RawProgram.{RawProgram}
 use Rattle.lp_swapfile.specs.Device.{Bytes}
 use Rattle.lp_language.specs.Course.{Ask}
 use Rattle.lp_meaning.specs.FrontEnd.{FrontEnd}
+use Rattle.lp_front_end.specs.FrontEnds.{IsFrontEnd}
 use Rattle.lp_world.specs.declared.live.Live.{Live}
 use Rattle.lp_asking.specs.declared.asker.Asker.{Asker}
 use Rattle.lp_asking.specs.declared.ending.Ending.{Ending}
@@ -24,5 +25,5 @@ pub record CanCall (caller : Option ObjId) (ob : ObjId) (name : List ℕ) (args 
 -- world, budget, player and commands, its outputs follow those that were there, and the arguments are gone.
 abbrev pub CallIsMeant : Option ObjId → ObjId → List ℕ → ℕ → Option Bytes → Live → List Value → Asker → ℕ → Option Bytes → Live → List Value → Asker → ℕ → Ending → Type 0
 CallIsMeant caller ob name args told0 live0 stack0 asker0 budget0 told1 live1 stack1 asker1 budget1 e =
-    (front : FrontEnd) (programs : List RawProgram) (a : Ask) (below : List Value) → IsAsked told0 programs live0 stack0 below asker0 args budget0 a → Applies asker0 caller ob name a
+    (front : FrontEnd) (real : IsFrontEnd front) (programs : List RawProgram) (a : Ask) (below : List Value) → IsAsked told0 programs live0 stack0 below asker0 args budget0 a → Applies asker0 caller ob name a
     → Serves front told1 programs live0.outputs live1 stack1 below asker1 budget1 e a

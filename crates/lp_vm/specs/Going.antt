@@ -12,6 +12,7 @@ use Rattle.lp_isa.specs.Machine.{Moment, Goes}
 use Rattle.lp_isa.specs.Runs.{Does}
 use Rattle.lp_meaning.specs.Closing.{Ends}
 use Rattle.lp_meaning.specs.FrontEnd.{FrontEnd}
+use Rattle.lp_front_end.specs.FrontEnds.{IsFrontEnd}
 use Rattle.lp_world.specs.declared.frame.Frame.{Frame}
 use Rattle.lp_world.specs.declared.live.Live.{Live}
 use Rattle.lp_world.specs.Matches.{Around}
@@ -58,8 +59,10 @@ pub record IsGoing (p : RawProgram) (k : ℕ) (row : FunRow) (f : IsFunction p k
   pub code : a.code ≡ code_in a.programs p
   pub does : Does a.code a.scene (Goes m) course
 
--- in some world
+-- in some world, with a front end
 pub record CanGo (told : Option Bytes) (live : Live) (stack : List Value) (frame : Frame) (asker : Asker) (budget : ℕ) : Type 0 where
+  pub front : FrontEnd
+  pub real : IsFrontEnd front
   pub p : RawProgram
   pub k : ℕ
   pub row : FunRow
@@ -94,12 +97,12 @@ pub record EndsSo (front : FrontEnd) (a : Around) (course : Course Value) (told 
 -- in every world in which it ran
 abbrev pub Went : Option Bytes → Live → List Value → Frame → Asker → ℕ → Option Bytes → Live → List Value → Asker → ℕ → Ending → Type 0
 Went told0 live0 stack0 frame0 asker0 budget0 told1 live1 stack1 asker1 budget1 e =
-    (front : FrontEnd) (p : RawProgram) (k : ℕ) (row : FunRow) (f : IsFunction p k row) (a : Around) (m : Moment) (course : Course Value)
+    (front : FrontEnd) (real : IsFrontEnd front) (p : RawProgram) (k : ℕ) (row : FunRow) (f : IsFunction p k row) (a : Around) (m : Moment) (course : Course Value)
     → IsGoing p k row f a m course told0 live0 stack0 frame0 asker0 budget0 → EndsSo front a course told1 live1 stack1 asker1 budget1 e
 
 abbrev pub Continues : Option Bytes → Live → List Value → Frame → Asker → ℕ → Option Bytes → Live → List Value → Frame → Asker → ℕ → Type 0
 Continues told0 live0 stack0 frame0 asker0 budget0 told1 live1 stack1 frame1 asker1 budget1 =
-    (front : FrontEnd) (p : RawProgram) (k : ℕ) (row : FunRow) (f : IsFunction p k row) (a : Around) (m : Moment) (course : Course Value)
+    (front : FrontEnd) (real : IsFrontEnd front) (p : RawProgram) (k : ℕ) (row : FunRow) (f : IsFunction p k row) (a : Around) (m : Moment) (course : Course Value)
     → IsGoing p k row f a m course told0 live0 stack0 frame0 asker0 budget0 → GoesOn front p k row f a course told1 live1 stack1 frame1 asker1 budget1
 
 -- what a turn leads to: on, or to the end

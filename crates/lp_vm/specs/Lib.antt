@@ -12,3 +12,4 @@ pub mod Turns
 pub mod Jobs
 pub mod Applying
 pub mod Initialising
+pub mod Making

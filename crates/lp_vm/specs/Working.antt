@@ -9,6 +9,7 @@ use Rattle.lp_language.specs.Course.{Ask, Course, End, Scene, State, outcome_of}
 use Rattle.lp_meaning.specs.Askers as meaning
 use Rattle.lp_meaning.specs.Closing.{Ends}
 use Rattle.lp_meaning.specs.FrontEnd.{FrontEnd}
+use Rattle.lp_front_end.specs.FrontEnds.{IsFrontEnd}
 use Rattle.lp_world.specs.declared.live.Live.{Live}
 use Rattle.lp_efuns.specs.Turns.{At}
 use Rattle.lp_calling.specs.declared.job.Job.{Job}
@@ -66,8 +67,10 @@ pub record IsWorking (this : ObjId) (job : Job) (told : Option Bytes) (programs 
   pub lies : stack ≡ low ++ own
   pub height : length low ≡ job.low
 
--- so in some world
+-- so in some world, with a front end
 pub record CanWork (this : ObjId) (job : Job) (told : Option Bytes) (live : Live) (stack : List Value) (asker : Asker) (budget : ℕ) : Type 0 where
+  pub front : FrontEnd
+  pub real : IsFrontEnd front
   pub programs : List RawProgram
   pub before : List Out
   pub by : meaning.Asker
@@ -94,12 +97,12 @@ pub record WorkedTo (front : FrontEnd) (course : Course Value) (told : Option By
 -- in every world in which it worked
 abbrev pub Worked : ObjId → Job → Option Bytes → Live → List Value → Asker → ℕ → Option Bytes → Live → List Value → Asker → ℕ → Ending → Type 0
 Worked this job told0 live0 stack0 asker0 budget0 told1 live1 stack1 asker1 budget1 e =
-    (front : FrontEnd) (programs : List RawProgram) (before : List Out) (by : meaning.Asker) (c : Scene) (s : State) (low own : List Value)
+    (front : FrontEnd) (real : IsFrontEnd front) (programs : List RawProgram) (before : List Out) (by : meaning.Asker) (c : Scene) (s : State) (low own : List Value)
     → IsWorking this job told0 programs before live0 stack0 asker0 budget0 by c s low own → WorkedTo front (course_of job own by s) told1 programs before live1 stack1 low asker1 budget1 e
 
 abbrev pub WorkContinues : ObjId → Job → Option Bytes → Live → List Value → Asker → ℕ → Job → Option Bytes → Live → List Value → Asker → ℕ → Type 0
 WorkContinues this job0 told0 live0 stack0 asker0 budget0 job1 told1 live1 stack1 asker1 budget1 =
-    (front : FrontEnd) (programs : List RawProgram) (before : List Out) (by : meaning.Asker) (c : Scene) (s : State) (low own : List Value)
+    (front : FrontEnd) (real : IsFrontEnd front) (programs : List RawProgram) (before : List Out) (by : meaning.Asker) (c : Scene) (s : State) (low own : List Value)
     → IsWorking this job0 told0 programs before live0 stack0 asker0 budget0 by c s low own → WorksOn front this (course_of job0 own by s) job1 told1 programs before live1 stack1 asker1 budget1 by c low
 
 -- what an answer leads to: on, or to the end

@@ -12,6 +12,7 @@ use crate::fault::VmFault;
 use lp_asking::asker::Asker;
 use lp_asking::ending::Ending;
 use lp_asking::truth::Truthful;
+use lp_front_end::law_there_is_one;
 use lp_reaching::applying::find_applied;
 use lp_values::id::ObjId;
 use lp_values::value::Value;
@@ -49,6 +50,7 @@ pub fn call<W: Truthful>(
     ensures tells { Tells (W.content swap.new) (W.last swap.new) (W.read_faults swap.old) (W.read_faults swap.new) (W.write_faults swap.old) (W.write_faults swap.new)
         (W.is_truthful swap.old) (W.is_truthful swap.new) (W.is_honest swap.old) (W.is_honest swap.new) live.new (read_of result) }
 {
+    law_there_is_one();
     let reached = find_applied(live, swap, caller, ob, name)?;
     answer(alloc, live, swap, stack, asker, reached, args, budget)
 }

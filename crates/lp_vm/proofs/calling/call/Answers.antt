@@ -14,7 +14,7 @@ answer-requires-clause-fit g c = record { closed = c.in_ok-reached.ensures.close
 pub answer-requires-clause-can : goal.answer-requires-clause-can
 answer-requires-clause-can g c =
     can_answer c.args.caller c.args.ob c.args.name.now c.args.args (g.W.SwapFile.content c.args.swap.now) (g.W.SwapFile.content c.find_applied.new.swap) c.args.live.now c.find_applied.new.live c.args.stack.now.items c.args.asker.now c.args.budget.now c.in_ok-reached.reached
-    c.requires.can c.in_ok-reached.ensures.found c.in_ok-reached.ensures.there
+    c.law_there_is_one.ensures c.requires.can c.in_ok-reached.ensures.found c.in_ok-reached.ensures.there
 
 pub returns-clause-meant : goal.returns-clause-meant
 returns-clause-meant g c =

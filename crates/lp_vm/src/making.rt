@@ -1,0 +1,180 @@
+//! Objects that were made begin: what their jobs ask, and how they go on.
+ghost use Rattle.std.specs.Prelude.{◌≡◌, IfOk, IfSome, IsSome, OnOk};
+ghost use Rattle.lp_step.specs.Steps.{IsFit, KeepsVariables};
+ghost use Rattle.lp_world.specs.Closed.{IsClosed};
+ghost use Rattle.lp_world.specs.Rows.{row_at, variables_at};
+ghost use Rattle.lp_reaching.specs.Reaching.{IsInMemory};
+ghost use Rattle.lp_beginning.specs.declared.job.Question.TheVariants as questions;
+ghost use Rattle.lp_beginning.specs.Feeding.{Feeds, LeavesLess};
+ghost use Rattle.lp_vm.specs.Causes.{Tells, read_of};
+ghost use Rattle.lp_vm.specs.Making.{CanAskNext, CanMake, CanReachFor, FindsFor, MakeAsks, Makes, StandsForOne, TellsOnce, object_for};
+
+use crate::cycle::answer;
+use crate::fault::VmFault;
+use lp_asking::asker::Asker;
+use lp_asking::ending::{Ending, Place};
+use lp_asking::truth::Truthful;
+use lp_beginning::feed::feed;
+use lp_beginning::job::{Fed, Making, Question};
+use lp_beginning::next::next;
+use lp_reaching::applying::find_applied;
+use lp_reaching::initialising::find_initialisers;
+use lp_reaching::reached::Reached;
+use lp_values::id::ObjId;
+use lp_values::value::Value;
+use lp_world::live::Live;
+use std::alloc::Global;
+
+/// The initialisers of a part of a new object's program.
+fn reach_initialisers<W: Truthful>(
+    live: &mut Live,
+    swap: &mut W,
+    caller: Option<ObjId>,
+    ob: ObjId,
+    part: u16,
+) -> Result<Option<Reached>, VmFault>
+    requires closed { IsClosed live.old }
+    requires object { IsSome (row_at live.old.objects ob.0) }
+    requires can { CanReachFor caller (questions.Initialise ob part) (W.content swap.old) live.old }
+    ensures found { IfOk result (λ r. FindsFor caller (questions.Initialise ob part) (W.content swap.old) live.old (W.content swap.new) live.new r) }
+    ensures there { IfOk result (λ r. IfSome r (λ x. IsInMemory live.new x.callee x.code)) }
+    ensures closed { IsClosed live.new }
+    ensures home { KeepsVariables live.old.objects live.new.objects }
+    ensures cells { live.new.cells ≡ live.old.cells }
+    ensures outputs { live.new.outputs ≡ live.old.outputs }
+    ensures tells { Tells (W.content swap.new) (W.last swap.new) (W.read_faults swap.old) (W.read_faults swap.new) (W.write_faults swap.old) (W.write_faults swap.new)
+        (W.is_truthful swap.old) (W.is_truthful swap.new) (W.is_honest swap.old) (W.is_honest swap.new) live.new (read_of result) }
+{
+    Ok(find_initialisers(live, swap, caller, ob, part)?)
+}
+
+/// `create` of a new object.
+fn reach_create<W: Truthful>(
+    live: &mut Live,
+    swap: &mut W,
+    caller: Option<ObjId>,
+    ob: ObjId,
+) -> Result<Option<Reached>, VmFault>
+    requires closed { IsClosed live.old }
+    requires object { IsSome (row_at live.old.objects ob.0) }
+    requires can { CanReachFor caller (questions.Create ob) (W.content swap.old) live.old }
+    ensures found { IfOk result (λ r. FindsFor caller (questions.Create ob) (W.content swap.old) live.old (W.content swap.new) live.new r) }
+    ensures there { IfOk result (λ r. IfSome r (λ x. IsInMemory live.new x.callee x.code)) }
+    ensures closed { IsClosed live.new }
+    ensures home { KeepsVariables live.old.objects live.new.objects }
+    ensures cells { live.new.cells ≡ live.old.cells }
+    ensures outputs { live.new.outputs ≡ live.old.outputs }
+    ensures tells { Tells (W.content swap.new) (W.last swap.new) (W.read_faults swap.old) (W.read_faults swap.new) (W.write_faults swap.old) (W.write_faults swap.new)
+        (W.is_truthful swap.old) (W.is_truthful swap.new) (W.is_honest swap.old) (W.is_honest swap.new) live.new (read_of result) }
+{
+    Ok(find_applied(live, swap, caller, ob, "create")?)
+}
+
+/// The function that a question of a job reaches, if there is one.
+fn reach_for<W: Truthful>(
+    live: &mut Live,
+    swap: &mut W,
+    caller: Option<ObjId>,
+    question: Question,
+) -> Result<Option<Reached>, VmFault>
+    requires closed { IsClosed live.old }
+    requires object { IsSome (row_at live.old.objects (object_for question).0) }
+    requires can { CanReachFor caller question (W.content swap.old) live.old }
+    ensures found { IfOk result (λ r. FindsFor caller question (W.content swap.old) live.old (W.content swap.new) live.new r) }
+    ensures there { IfOk result (λ r. IfSome r (λ x. IsInMemory live.new x.callee x.code)) }
+    ensures closed { IsClosed live.new }
+    ensures home { KeepsVariables live.old.objects live.new.objects }
+    ensures cells { live.new.cells ≡ live.old.cells }
+    ensures outputs { live.new.outputs ≡ live.old.outputs }
+    ensures tells { Tells (W.content swap.new) (W.last swap.new) (W.read_faults swap.old) (W.read_faults swap.new) (W.write_faults swap.old) (W.write_faults swap.new)
+        (W.is_truthful swap.old) (W.is_truthful swap.new) (W.is_honest swap.old) (W.is_honest swap.new) live.new (read_of result) }
+{
+    match question {
+        Question::Initialise(ob, part) => reach_initialisers(live, swap, caller, ob, part),
+        Question::Create(ob) => reach_create(live, swap, caller, ob),
+    }
+}
+
+/// What the job of a new object asks next reaches this function, if there is one. What is needed for it comes into memory.
+///
+/// # Errors
+/// `NoMemory` and `Swap` as where a running function asks.
+fn ask_next<W: Truthful>(
+    live: &mut Live,
+    swap: &mut W,
+    caller: Option<ObjId>,
+    making: &Making,
+) -> Result<Option<Reached>, VmFault>
+    requires closed { IsClosed live.old }
+    requires object { IsSome (row_at live.old.objects making.now.object.0) }
+    requires can { CanAskNext caller making.now (W.content swap.old) live.old }
+    ensures asks { IfOk result (λ r. MakeAsks r caller making.now (W.content swap.old) live.old (W.content swap.new) live.new) }
+    ensures there { IfOk result (λ r. IfSome r (λ x. IsInMemory live.new x.callee x.code)) }
+    ensures closed { IsClosed live.new }
+    ensures home { KeepsVariables live.old.objects live.new.objects }
+    ensures cells { live.new.cells ≡ live.old.cells }
+    ensures outputs { live.new.outputs ≡ live.old.outputs }
+    ensures tells { Tells (W.content swap.new) (W.last swap.new) (W.read_faults swap.old) (W.read_faults swap.new) (W.write_faults swap.old) (W.write_faults swap.new)
+        (W.is_truthful swap.old) (W.is_truthful swap.new) (W.is_honest swap.old) (W.is_honest swap.new) live.new (read_of result) }
+{
+    reach_for(live, swap, caller, next(making))
+}
+
+/// The job of a new object is told how its question ended: it asks again, or ends. For the log the place of who asks is given.
+///
+/// # Errors
+/// `NoMemory` and `Swap` as where the program of the place of a stop comes into memory.
+fn feed_on<W: Truthful>(
+    making: &mut Making,
+    live: &mut Live,
+    swap: &mut W,
+    at: Option<Place>,
+    ending: Ending,
+) -> Result<Fed, VmFault>
+    requires closed { IsClosed live.old }
+    requires stands { StandsForOne (W.content swap.old) live.old }
+    ensures feeds { IfOk result (λ r. Feeds r making.old ending at (W.content swap.old) live.old making.new live.new) }
+    ensures less { IfOk result (λ r. LeavesLess r making.old making.new) }
+    ensures told { W.content swap.new ≡ W.content swap.old }
+    ensures closed { IsClosed live.new }
+    ensures cells { live.new.cells ≡ live.old.cells }
+    ensures home { KeepsVariables live.old.objects live.new.objects }
+    ensures tells { TellsOnce (W.content swap.new) (W.last swap.new) (W.read_faults swap.old) (W.read_faults swap.new) (W.write_faults swap.old) (W.write_faults swap.new)
+        (W.is_truthful swap.old) (W.is_truthful swap.new) (W.is_honest swap.old) (W.is_honest swap.new) (read_of result) }
+{
+    Ok(feed(making, live, swap, at, ending)?)
+}
+
+/// An object that was made begins: its job goes on to its end. The caller is the object for which an efun makes it, if one does,
+/// and for the log the place of who asks is given.
+///
+/// # Errors
+/// `NoMemory`, also where the swap file gave other bytes of the same digest; `Swap` where it failed or gave bytes of another
+/// digest; `NotYet` where a function asks what is not carried out yet. Nothing is said of the state then.
+pub fn make<W: Truthful>(
+    alloc: Global,
+    live: &mut Live,
+    swap: &mut W,
+    stack: &mut Vec<Value>,
+    asker: &mut Asker,
+    caller: Option<ObjId>,
+    at: Option<Place>,
+    mut making: Making,
+    budget: &mut u64,
+) -> Result<Ending, VmFault>
+    requires object { IsSome (variables_at live.old.objects making.object) }
+    requires fit { IsFit live.old stack.old.items }
+    requires can { CanMake caller at making (W.content swap.old) live.old asker.old budget.old }
+    ensures makes { IfOk result (λ e. Makes caller at making (W.content swap.old) live.old stack.old.items asker.old budget.old (W.content swap.new) live.new stack.new.items asker.new budget.new e) }
+    ensures tells { TellsOnce (W.content swap.new) (W.last swap.new) (W.read_faults swap.old) (W.read_faults swap.new) (W.write_faults swap.old) (W.write_faults swap.new)
+        (W.is_truthful swap.old) (W.is_truthful swap.new) (W.is_honest swap.old) (W.is_honest swap.new) (read_of result) }
+{
+    'questions: loop {
+        let reached = ask_next(live, swap, caller, &making)?;
+        let ending = answer(alloc, live, swap, stack, asker, reached, 0, budget)?;
+        match feed_on(&mut making, live, swap, at, ending)? {
+            Fed::Goes => {}
+            Fed::Ends(ending) => return Ok(ending),
+        }
+    }
+}
