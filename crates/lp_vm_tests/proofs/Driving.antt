@@ -1,13 +1,12 @@
 -- The driver calls a function.
-use Rattle.std.proofs.Common.{◌≡◌, ◌∙◌, ◌++◌, ◌+◌, ℕ, arith, List, [], Option, Some, None, refl, ap, sym, subst, map, length, false}
+use Rattle.std.proofs.Common.{◌≡◌, ◌∙◌, ◌++◌, ◌+◌, ℕ, arith, List, [], Option, Some, None, refl, ap, sym, subst, map, length}
 use Rattle.std.specs.Prelude.{reverse}
-use Rattle.lp_tree.specs.declared.pragma.TypeMode.TheVariants as modes
 use Rattle.lp_values.specs.declared.id.ObjId.{ObjId}
 use Rattle.lp_values.specs.declared.value.Value.{Value}
 use Rattle.lp_code.specs.declared.program.RawProgram.{RawProgram}
 use Rattle.lp_language.specs.World.{World}
 use Rattle.lp_language.specs.Course.{Apply, Ask}
-use Rattle.lp_meaning.specs.FrontEnd.{Declares, FrontEnd}
+use Rattle.lp_front_end.specs.FrontEnds.{ThereIsOne}
 use Rattle.lp_world.specs.declared.live.Live.{Live}
 use Rattle.lp_world.specs.Closed.{IsClosed}
 use Rattle.lp_step.specs.Steps.{IsFit}
@@ -60,19 +59,12 @@ can_call live stack asker args budget ob name d s e =
       applies = applies g.world stack asker budget ob name d;
     }
 
--- a front end
-abbrev some_front : FrontEnd
-some_front = record {
-  read = λ files path. Declares [] (record { no_clone = false; no_inherit = false; no_shadow = false; types = modes.Weak });
-  check = λ w path items pragmas parents simuls. [];
-}
-
-pub called : (old new : Live) (stack rest : List Value) (was asker : Asker) (args budget left : ℕ) (ob : ObjId) (name : List ℕ) (e : Ending) → IsDriver was → IsSet old → length stack ≡ args
+pub called : (old new : Live) (stack rest : List Value) (was asker : Asker) (args budget left : ℕ) (ob : ObjId) (name : List ℕ) (e : Ending) → ThereIsOne → IsDriver was → IsSet old → length stack ≡ args
     → CallIsMeant None ob name args None old stack was budget None new rest asker left e → IsFit new rest → IsSet new
-called old new stack rest was asker args budget left ob name e d s n meant fit =
+called old new stack rest was asker args budget left ob name e one d s n meant fit =
     let g = s.world in
     let a = asked_by g.world stack was budget ob name in
-    let served = meant some_front g.programs a [] (is_asked g.programs old g.world stack was args budget ob name d g.is n) (applies g.world stack was budget ob name d) in
+    let served = meant one.0 one.1 g.programs a [] (is_asked g.programs old g.world stack was args budget ob name d g.is n) (applies g.world stack was budget ob name d) in
     record { world = record { programs = g.programs; world = served.outcome.world; is = served.is.world }; closed = fit.closed }
 
 pub still_driver : (was asker : Asker) → IsSameAsker was asker → IsDriver was → IsDriver asker

@@ -7,6 +7,7 @@ use crate::fault::GameFault;
 use crate::game::Game;
 use lp_asking::ending::Ending;
 use lp_cells::cells::Cells;
+use lp_front_end::law_there_is_one;
 use lp_values::id::ObjId;
 use lp_values::value::Value;
 use lp_vm::calling::call;
@@ -43,6 +44,7 @@ pub fn play(
     requires { IsPlayable game }
     ensures { IfOk result (λ r. IsPlayable r.game) }
 {
+    law_there_is_one();
     let mut game = game;
     let mut stack = args;
     let mut left = budget;

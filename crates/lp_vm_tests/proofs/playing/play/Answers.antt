@@ -13,6 +13,6 @@ returns c =
     let e = c.in_ok-ending.ensures in
     record {
       set = called c.args.game.live c.call.new.live c.args.args.items c.call.new.stack.items c.args.game.asker c.call.new.asker c.len-count.result c.args.budget c.call.new.budget c.args.ob c.args.name.now c.in_ok-ending.ending
-          c.requires.driver c.requires.set many e.meant e.fit;
+          c.law_there_is_one.ensures c.requires.driver c.requires.set many e.meant e.fit;
       driver = still_driver c.args.game.asker c.call.new.asker e.asker c.requires.driver;
     }
