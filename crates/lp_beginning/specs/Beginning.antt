@@ -159,7 +159,14 @@ abbrev pub entered_by : {A : Type 0} → Result A EnterFault → Result (Unit {0
 entered_by (Ok x) = Ok tt
 entered_by (Err e) = Err e
 
--- Programs were brought into memory, or not, and then the state changed by no device.
-pub record BringsFirst (told0 told1 : Option Bytes) (last : Last) (reads0 reads1 writes0 writes1 : ℕ) (true0 true1 honest0 honest1 : Type 0) (live0 : Live) (brought : Result (Unit {0}) EnterFault) : Type 0 where
+-- only where the swap file failed, or gave other bytes
+abbrev pub OnSwap : Result (Unit {0}) EnterFault → Type 0 → Type 0
+OnSwap (Ok x) P = ⊤
+OnSwap (Err (enters.Swap cause)) P = P
+OnSwap (Err enters.NoMemory) P = ⊤
+
+-- Programs were brought into memory, or not, and then the state changed by no device; and not at all where the swap file failed, or gave other bytes.
+pub record BringsFirst (told0 told1 : Option Bytes) (last : Last) (reads0 reads1 writes0 writes1 : ℕ) (true0 true1 honest0 honest1 : Type 0) (live0 live1 : Live) (brought : Result (Unit {0}) EnterFault) : Type 0 where
   pub between : Live
   pub brings : Brings told0 told1 last reads0 reads1 writes0 writes1 true0 true1 honest0 honest1 live0 between brought
+  pub still : OnSwap brought (live1 ≡ between)

@@ -98,7 +98,7 @@ pub fn begin<W: Truthful>(
     ensures refused { IfErr result (IsRefusedFor (W.content swap.old) live.old (chars name.now)) }
     ensures still { OnErr result (W.is_truthful swap.new → StandsStill (W.content swap.old) live.old (W.content swap.new) live.new) }
     ensures brings { BringsFirst (W.content swap.old) (W.content swap.new) (W.last swap.new) (W.read_faults swap.old) (W.read_faults swap.new) (W.write_faults swap.old) (W.write_faults swap.new)
-        (W.is_truthful swap.old) (W.is_truthful swap.new) (W.is_honest swap.old) (W.is_honest swap.new) live.old (brought_by result) }
+        (W.is_truthful swap.old) (W.is_truthful swap.new) (W.is_honest swap.old) (W.is_honest swap.new) live.old live.new (brought_by result) }
     ensures closed { IsClosed live.new }
     ensures cells { live.new.cells ≡ live.old.cells }
     ensures outputs { live.new.outputs ≡ live.old.outputs }

@@ -60,7 +60,7 @@ fn log<W: Truthful>(
     requires closed { IsClosed live.old }
     ensures logged { OnOk result (IsLogged (W.content swap.old) live.old live.new cause.now at) }
     ensures brings { BringsFirst (W.content swap.old) (W.content swap.new) (W.last swap.new) (W.read_faults swap.old) (W.read_faults swap.new) (W.write_faults swap.old) (W.write_faults swap.new)
-        (W.is_truthful swap.old) (W.is_truthful swap.new) (W.is_honest swap.old) (W.is_honest swap.new) live.old (entered_by result) }
+        (W.is_truthful swap.old) (W.is_truthful swap.new) (W.is_honest swap.old) (W.is_honest swap.new) live.old live.new (entered_by result) }
     ensures closed { IsClosed live.new }
     ensures cells { live.new.cells ≡ live.old.cells }
     ensures names { live.new.names ≡ live.old.names }
@@ -87,7 +87,7 @@ fn stopped<W: Truthful>(
     requires closed { IsClosed live.old }
     ensures stops { IfOk result (λ e. StopsAs kind object stop asker e (W.content swap.old) live.old live.new) }
     ensures brings { BringsFirst (W.content swap.old) (W.content swap.new) (W.last swap.new) (W.read_faults swap.old) (W.read_faults swap.new) (W.write_faults swap.old) (W.write_faults swap.new)
-        (W.is_truthful swap.old) (W.is_truthful swap.new) (W.is_honest swap.old) (W.is_honest swap.new) live.old (entered_by result) }
+        (W.is_truthful swap.old) (W.is_truthful swap.new) (W.is_honest swap.old) (W.is_honest swap.new) live.old live.new (entered_by result) }
     ensures closed { IsClosed live.new }
     ensures cells { live.new.cells ≡ live.old.cells }
     ensures names { live.new.names ≡ live.old.names }
@@ -122,7 +122,7 @@ pub fn feed<W: Truthful>(
     ensures feeds { IfOk result (λ r. Feeds r job.old ending asker (W.content swap.old) live.old job.new live.new) }
     ensures less { IfOk result (λ r. LeavesLess r job.old job.new) }
     ensures brings { BringsFirst (W.content swap.old) (W.content swap.new) (W.last swap.new) (W.read_faults swap.old) (W.read_faults swap.new) (W.write_faults swap.old) (W.write_faults swap.new)
-        (W.is_truthful swap.old) (W.is_truthful swap.new) (W.is_honest swap.old) (W.is_honest swap.new) live.old (entered_by result) }
+        (W.is_truthful swap.old) (W.is_truthful swap.new) (W.is_honest swap.old) (W.is_honest swap.new) live.old live.new (entered_by result) }
     ensures closed { IsClosed live.new }
     ensures cells { live.new.cells ≡ live.old.cells }
     ensures names { live.new.names ≡ live.old.names }

@@ -108,8 +108,9 @@ fn program_name(live: &Live, p: ProgId) -> Result<Vec<char>, AllocError>
     }
 }
 
-/// The name of an object. Where it is not known any more, the answer is want of memory.
-fn object_name(live: &Live, o: ObjId) -> Result<Vec<char>, AllocError>
+/// The name of an object. Where it is not known any more, which is after the end of the turn in which the object died, the answer is
+/// want of memory.
+pub fn object_name(live: &Live, o: ObjId) -> Result<Vec<char>, AllocError>
     ensures { IfOk result (λ v. IsObjectName live.now o v.items) }
 {
     match live.names.name(o) {

@@ -1,6 +1,8 @@
 -- How a clone begins, step by step.
 use Rattle.std.proofs.Common.{◌≡◌, ◌∙◌, ℕ, refl, sym, ap, subst, Bool, true, false, List, Option, Some, None}
-use Rattle.std.specs.Prelude.{◌+◌, if◌then◌else◌}
+use Rattle.std.specs.Prelude.{◌+◌, ◌++◌, ◌==◌, codes, if◌then◌else◌}
+use Rattle.std.specs.Fmt.{decimal}
+use Rattle.lp_objects.specs.Objects.{Named}
 use Rattle.lp_values.specs.declared.id.ObjId.{ObjId}
 use Rattle.lp_values.specs.declared.id.ProgId.{ProgId}
 use Rattle.lp_values.specs.declared.value.Value.{Value}
@@ -11,7 +13,7 @@ use Rattle.lp_code.specs.declared.program.RawProgram.{RawProgram}
 use Rattle.lp_swapfile.specs.Device.{Bytes}
 use Rattle.lp_objects.specs.declared.objects.Objects.{Objects}
 use Rattle.lp_objects.specs.Stands as names
-use Rattle.lp_language.specs.World.{World, object_at, version_at}
+use Rattle.lp_language.specs.World.{World, version_at}
 use Rattle.lp_language.specs.Course as course
 use Rattle.lp_language.specs.Course.{Course, End, Failed, Gives, IsFaulty, IsSound, Over, Plain, Reply, State, Stops, WasRead, and_then, here, stops}
 use Rattle.lp_language.specs.Resolve.{Heir, Heritage, version_of}
@@ -24,7 +26,7 @@ use Rattle.lp_world.specs.Rows.{row_at}
 use Rattle.lp_world.specs.Stands.{Stands, named_of}
 use Rattle.std.specs.Prelude.{map}
 use Rattle.lp_inherit.specs.Heirs.{table}
-use Rattle.lp_part_laws.specs.Versions.{AreCompiled, FitsVersion, heritage_in}
+use Rattle.lp_part_laws.specs.Versions.{AreCompiled, heritage_in}
 use Rattle.lp_part_laws.proofs.Trees.{version_settled}
 use Rattle.lp_targets.specs.Brought.{StaysInMemory, program_at}
 use Rattle.lp_targets.proofs.Worlds.{version_is}
@@ -192,3 +194,18 @@ outputs_brought old new s = ap (λ (l : Live). l.outputs) s.others
 -- The version of an object is that of its row.
 pub cloning_same : (g : Setting) (live : Live) (turn : Turn) (budget : ℕ) (s : State) (name : List ℕ) (o : ObjId) (x : Object) (v : ProgId) (by : Asker) → Fits g live turn budget s → row_at live.objects o.0 ≡ Some x → x.program ≡ v → cloning by name o s ≡ made_of name v by s
 cloning_same g live turn budget s name o x v by f e p = ap (λ z. made_of name z by s) (version_is g.told g.programs live s.world o x f.world.stands e ∙ p)
+
+given_so : (b : Bool) (number n m last : ℕ) → Some number ≡ (if b then None else Some n) → m ≡ (if b then last else n + 1) → (number ≡ n) × (m ≡ n + 1)
+given_so true number n m last g a = absurd cc
+given_so false number n m last g a = (cc, a)
+
+-- the number that the table of names gave is the world's
+pub numbers : (told : Option Bytes) (live : Live) (table : Objects) (name full : List ℕ) (number : ℕ) → Some number ≡ (if names.next_clone_in live.names == names.last_number then None else Some (names.next_clone_in live.names))
+    → names.next_clone_in table ≡ (if names.next_clone_in live.names == names.last_number then names.last_number else names.next_clone_in live.names + 1) → ((all : List Named) → names.Stands live.names all → names.Stands table all)
+    → full ≡ name ++ codes "#" ++ decimal number → Numbers told live (record live { names = table }) name full
+numbers told live table name full number given after same is =
+    let x = given_so (names.next_clone_in live.names == names.last_number) number (names.next_clone_in live.names) (names.next_clone_in table) names.last_number given after in
+    record {
+      fits = λ g turn budget s q f. fits_numbered g live turn budget s table f (same (map named_of s.world.objects) f.world.stands.names) (x.1 ∙ ap (λ n. n + 1) f.world.stands.rest.next_clone);
+      named = λ g turn budget s q f. is ∙ ap (λ n. name ++ codes "#" ++ decimal n) (x.0 ∙ f.world.stands.rest.next_clone);
+    }

@@ -1,1 +1,3 @@
 pub mod Cloned
+pub mod Told
+pub mod Arguing

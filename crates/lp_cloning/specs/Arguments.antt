@@ -1,5 +1,5 @@
 -- What the arguments of `clone_object` name.
-use Rattle.std.specs.Prelude.{◌≡◌, ◌++◌, ⊤, ℕ, List, [], ◌∷◌, None, length}
+use Rattle.std.specs.Prelude.{◌≡◌, ◌++◌, ℕ, List, None, length}
 use Rattle.lp_values.specs.declared.value.Value.{Value}
 use Rattle.lp_values.specs.Errors.{bad_arg}
 use Rattle.lp_instr.specs.EfunList.{efun_name}
@@ -7,6 +7,8 @@ use Rattle.lp_instr.specs.declared.efun.Efun.TheVariants as efuns
 use Rattle.lp_swapfile.specs.Device.{Bytes}
 use Rattle.std.specs.Prelude.{Option}
 use Rattle.lp_language.specs.Course.{Scene, State, and_then}
+use Rattle.lp_language.specs.Operations.{cells_of, living}
+use Rattle.lp_ops.specs.Operands.{operand}
 use Rattle.lp_meaning.specs.Askers.{Asker}
 use Rattle.lp_meaning.specs.CallingEfuns.{calls, clone_object}
 use Rattle.lp_meaning.specs.EfunArguments.{arg, opened_args}
@@ -20,6 +22,11 @@ use Rattle.lp_cloning.specs.declared.job.Begun.{Begun}
 use Rattle.lp_cloning.specs.declared.job.Begun.TheVariants as begun
 use Rattle.lp_cloning.specs.Beginning.{BeginsAs}
 use Rattle.lp_cloning.specs.Jobs.{ended}
+
+-- a value names the blueprint with this name, in each state for which the live state stands
+abbrev pub NamesBlueprint : Live → Value → List ℕ → Type 0
+NamesBlueprint live v name =
+    (g : Setting) (turn : Turn) (budget : ℕ) (by : Asker) (s : State) → At g live turn budget s → clone_object by s (operand (living s) (cells_of s) v) ≡ clone_of by name s
 
 -- the first of some arguments names the blueprint with this name, in each state for which the live state stands
 abbrev pub IsBlueprintName : Live → List Value → List ℕ → Type 0

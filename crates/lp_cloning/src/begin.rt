@@ -1,8 +1,10 @@
 //! `clone_object` begins.
-ghost use Rattle.std.specs.Prelude.{◌≡◌, ◌-◌, ◌≤◌, All, IfOk, OnOk, drop, length, map, take};
+ghost use Rattle.std.specs.Prelude.{◌≡◌, ◌-◌, ◌≤◌, All, IfOk, OnOk, drop, length, map, slice_get, take};
+ghost use Rattle.std.specs.Option.{option_copied};
 ghost use Rattle.std.specs.Str.{chars};
 ghost use Rattle.std.specs.String.{string_bytes};
 ghost use Rattle.lp_cells.specs.Cells.{IsThere, Store};
+ghost use Rattle.lp_values.specs.declared.value.Value.{Value as V};
 ghost use Rattle.lp_instr.specs.EfunKinds.{kinds};
 ghost use Rattle.lp_language.specs.Course.{State};
 ghost use Rattle.lp_language.specs.Operations.{cells_of, living};
@@ -12,7 +14,7 @@ ghost use Rattle.lp_ops.specs.Operands.{operand};
 ghost use Rattle.lp_world.specs.Closed.{IsClosed};
 ghost use Rattle.lp_world.specs.Rows.{live_in};
 ghost use Rattle.lp_step.specs.Steps.{IsFit, KeepsVariables};
-ghost use Rattle.lp_cloning.specs.Arguments.{ActsAs, IsBlueprintName, IsRefused, IsSpent};
+ghost use Rattle.lp_cloning.specs.Arguments.{ActsAs, IsBlueprintName, IsRefused, IsSpent, NamesBlueprint};
 ghost use Rattle.lp_cloning.specs.Beginning.{Begins, IsReady, StartsAs};
 
 use crate::clone::{clone_live, error_begun};
@@ -21,6 +23,7 @@ use crate::job::{Begun, Cloning};
 use crate::naming::{is_clone_name, load_name};
 use lp_asking::ending::{Cause, Ending, Stop};
 use lp_asking::truth::Truthful;
+use lp_beginning::report::object_name;
 use lp_cells::cells::Cells;
 use lp_efuns::names::as_name;
 use lp_efuns::plain::pay_wide;
@@ -28,7 +31,8 @@ use lp_instr::efun::Efun;
 use lp_value_efuns::fit::first_bad;
 use lp_value_efuns::price::price_before;
 use lp_values::error::{ErrorKind, RunError};
-use lp_values::value::Value;
+use lp_values::id::ObjId;
+use lp_values::value::{Living, Value};
 use lp_world::live::Live;
 use lp_world::objects::ObjectTable;
 use std::alloc::{AllocError, Global};
@@ -87,26 +91,47 @@ fn refused(alloc: Global, number: u64) -> Result<Begun, AllocError>
     })))
 }
 
-/// The name of the blueprint that the first of some arguments names: a text names one, an object has one.
-fn blueprint_name(live: &Live, args: &[Value]) -> Result<String, AllocError>
-    ensures { IfOk result (λ s. IsBlueprintName live.now args.now (chars (string_bytes s))) }
+/// The name of the blueprint of a live object. Of one that is not live the answer is want of memory.
+fn object_blueprint(live: &Live, o: ObjId) -> Result<String, AllocError>
+    ensures { IfOk result (λ s. NamesBlueprint live.now (V.Obj o) (chars (string_bytes s))) }
 {
-    match args.get(0) {
-        Some(Value::Str(t)) => as_name(live.alloc, t.as_slice()),
-        Some(Value::Obj(o)) => match live.names.name(*o) {
-            Some(name) => load_name(live.alloc, name),
-            None => Err(AllocError),
-        },
+    if !live.objects.is_live(o) {
+        return Err(AllocError);
+    }
+    let name = object_name(live, o)?;
+    load_name(live.alloc, name)
+}
+
+/// The name of the blueprint that a value names: a text names one, an object has one. Of another value the answer is want of memory.
+fn value_blueprint(live: &Live, v: &Value) -> Result<String, AllocError>
+    ensures { IfOk result (λ s. NamesBlueprint live.now v.now (chars (string_bytes s))) }
+{
+    match v {
+        Value::Str(t) => as_name(live.alloc, t.as_slice()),
+        Value::Obj(o) => object_blueprint(live, *o),
         _ => Err(AllocError),
     }
 }
 
+/// The first of some arguments.
+fn first_of(args: &[Value]) -> Option<&Value>
+    ensures { option_copied result ≡ slice_get args.now 0 }
+{
+    args.get(0)
+}
+
+/// The name of the blueprint that the first of some arguments names.
+fn blueprint_name(live: &Live, args: &[Value]) -> Result<String, AllocError>
+    ensures { IfOk result (λ s. IsBlueprintName live.now args.now (chars (string_bytes s))) }
+{
+    match first_of(args) {
+        Some(v) => value_blueprint(live, v),
+        None => Err(AllocError),
+    }
+}
+
 /// A clone of the blueprint with a name: it is loaded where it does not live. A clone's name is an error.
-fn clone_of<W: Truthful>(
-    live: &mut Live,
-    swap: &mut W,
-    name: String,
-) -> Result<Begun, CloningFault>
+fn clone_of<W: Truthful>(live: &mut Live, swap: &mut W, name: String) -> Result<Begun, CloningFault>
     requires closed { IsClosed live.old }
     ensures starts { IfOk result (λ r. StartsAs r (λ by s. clone_of by (chars (string_bytes name)) s) (W.content swap.old) live.old live.new) }
     ensures ready { IfOk result (IsReady live.new.objects) }

@@ -112,7 +112,11 @@ fn loaded<W: Truthful>(
 {
     match answer {
         Answered::Value(v) => clone_value(live, swap, name.as_str(), v),
-        Answered::Faults(faults) => match load_failed(live.alloc, name.as_str(), faults.as_slice()) {
+        Answered::Faults(faults) => match load_failed(
+            live.alloc,
+            name.as_str(),
+            faults.as_slice(),
+        ) {
             Ok(begun) => Ok(begun),
             Err(_) => Err(CloningFault::NoMemory),
         },

@@ -47,10 +47,9 @@ fn load_len(name: &[char]) -> usize
 }
 
 /// The name of the blueprint of an object with this name: what stands before the `#`.
-pub(crate) fn load_name(alloc: Global, name: &str) -> Result<String, AllocError>
-    ensures { IfOk result (λ s. chars (string_bytes s) ≡ load_name (chars name.now)) }
+pub(crate) fn load_name(alloc: Global, mut all: Vec<char>) -> Result<String, AllocError>
+    ensures { IfOk result (λ s. chars (string_bytes s) ≡ load_name all.items) }
 {
-    let mut all = code_points(alloc, name)?;
     let n = load_len(all.as_slice());
     all.truncate(n);
     text_of(alloc, all.as_slice())

@@ -1,0 +1,12 @@
+pub mod OwnRows
+pub mod Outside
+pub mod Worlds
+pub mod Parents
+pub mod SeenNames
+pub mod Making
+pub mod Telling
+pub mod Paying
+pub mod Parting
+pub mod Answered
+pub mod SimulFirst
+pub mod ParentAsked

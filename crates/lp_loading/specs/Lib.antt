@@ -1,0 +1,9 @@
+pub mod Present
+pub mod Rows
+pub mod Compiling
+pub mod Loads
+pub mod Readings
+pub mod Simuls
+pub mod Versions
+pub mod Going
+pub mod Parents

@@ -1,0 +1,16 @@
+//! The load of a file as a job: what it does by itself, what it asks, and how it goes on with what was answered.
+//!
+//! Reading and checking the file is no question: the job compiles it at once, which gives what the front end tells.
+#![tactic(auto)]
+
+mod asking;
+pub mod begin;
+pub mod compiling;
+pub mod job;
+pub mod laws;
+pub mod own;
+mod parts;
+mod present;
+mod simuls;
+mod taking;
+mod versions;

@@ -1,0 +1,142 @@
+//! A load takes the answer of a load that it asked for: that of the simul-efun object, or of a parent.
+ghost use Rattle.std.specs.Prelude.{◌≡◌, IfOk, List, None, Option, Some, ℕ};
+ghost use Rattle.std.specs.Str.{IsAscii};
+ghost use Rattle.lp_asking.specs.declared.asker.Loading.{Loading};
+ghost use Rattle.lp_asking.specs.declared.ending.Place.{Place};
+ghost use Rattle.lp_code.specs.declared.program.RawProgram.{RawProgram as Raw};
+ghost use Rattle.lp_efuns.specs.declared.caller.Turn.{Turn};
+ghost use Rattle.lp_language.specs.World.{World, object_named};
+ghost use Rattle.lp_loading.specs.Going.{Takes};
+ghost use Rattle.lp_meaning.specs.FileLoads.{object_of_value};
+ghost use Rattle.lp_loading.specs.declared.job.Answer.TheVariants as answers;
+ghost use Rattle.lp_loading.specs.declared.job.Waiting.TheVariants as waitings;
+ghost use Rattle.lp_swapfile.specs.Device.{Bytes};
+ghost use Rattle.lp_values.specs.declared.value.Value.{Value as V};
+ghost use Rattle.lp_values.specs.declared.id.ObjId.{ObjId as Oid};
+ghost use Rattle.lp_world.specs.Stands.{Stands};
+
+use crate::job::{Answer, Fed, Going, LoadFault, LoadJob, MadeFor};
+use crate::present::version_of_object;
+use lp_code::name::Name;
+use lp_values::id::{ObjId, ProgId};
+use lp_values::value::Value;
+use lp_world::live::Live;
+
+/// The object that a value is, live or not.
+fn object_of(v: &Value) -> Option<ObjId>
+    ensures { result ≡ object_of_value v.now }
+{
+    match v {
+        Value::Obj(o) => Some(*o),
+        _ => None,
+    }
+}
+
+/// The live object with the name of a load.
+fn own_object(job: &LoadJob, live: &Live) -> Option<ObjId>
+    requires { IsAscii job.now.name }
+    ensures { (told : Option Bytes) (programs : List Raw) (w : World) → Stands told programs live.now w → result ≡ object_named w job.now.name }
+{
+    live.names.find(job.name.as_str())
+}
+
+/// The simul-efun object was loaded: the load ends with the object of its own name, where one lives by then, or reads its file.
+fn after_simul(job: &LoadJob, live: &Live) -> Fed
+    requires { IsAscii job.now.name }
+    ensures { (v : V) (o : Oid) (place : Option Place) (loads : List Loading) (told : Option Bytes) (turn : Turn) (budget : ℕ) → object_of_value v ≡ Some o
+        → Takes result job.now waitings.Simul (answers.Value v) place loads told live.now told job.now live.now turn budget }
+{
+    match own_object(job, live) {
+        Some(o) => Fed::Ends(Answer::Value(Value::Obj(o))),
+        None => Fed::Goes(Going::Read),
+    }
+}
+
+/// A load takes the value of the load of the simul-efun object.
+fn simul_value(job: &LoadJob, live: &Live, v: &Value) -> Fed
+    requires { IsAscii job.now.name }
+    ensures { (place : Option Place) (loads : List Loading) (told : Option Bytes) (turn : Turn) (budget : ℕ)
+        → Takes result job.now waitings.Simul (answers.Value v.now) place loads told live.now told job.now live.now turn budget }
+{
+    match object_of(v) {
+        Some(_) => after_simul(job, live),
+        None => Fed::Ends(Answer::Value(Value::Int(0))),
+    }
+}
+
+/// A load takes the answer of the load of the simul-efun object.
+pub(crate) fn take_simul(job: &LoadJob, live: &Live, answer: Answer) -> Fed
+    requires { IsAscii job.now.name }
+    ensures { (place : Option Place) (loads : List Loading) (told : Option Bytes) (turn : Turn) (budget : ℕ)
+        → Takes result job.now waitings.Simul answer place loads told live.now told job.now live.now turn budget }
+{
+    match answer {
+        Answer::Value(v) => simul_value(job, live, &v),
+        Answer::Faulty(faults) => Fed::Ends(Answer::Faulty(faults)),
+        Answer::Stopped(stop) => Fed::Ends(Answer::Stopped(stop)),
+    }
+}
+
+/// A parent was loaded, and no object of the load's own name lives: its version is noted, and the file is read again.
+fn note_parent(job: &mut LoadJob, live: &Live, name: Name, ob: ObjId) -> Result<Fed, LoadFault>
+    requires none { (told : Option Bytes) (programs : List Raw) (w : World) → Stands told programs live.now w → None ≡ object_named w job.old.name }
+    ensures takes { IfOk result (λ r. (v : V) (place : Option Place) (loads : List Loading) (told : Option Bytes) (turn : Turn) (budget : ℕ) → object_of_value v ≡ Some ob
+        → Takes r job.old (waitings.Parent name) (answers.Value v) place loads told live.now told job.new live.now turn budget) }
+    ensures name { job.new.name ≡ job.old.name }
+{
+    match version_of_object(&live.objects, ob) {
+        Some(version) => {
+            job.made.insert(0, MadeFor { name, version })?;
+            Ok(Fed::Goes(Going::Read))
+        }
+        None => Err(LoadFault::NoMemory),
+    }
+}
+
+/// A parent was loaded: the load ends with the object of its own name, where one lives by then, or reads its file again.
+fn after_parent(job: &mut LoadJob, live: &Live, name: Name, ob: ObjId) -> Result<Fed, LoadFault>
+    requires { IsAscii job.old.name }
+    ensures takes { IfOk result (λ r. (v : V) (place : Option Place) (loads : List Loading) (told : Option Bytes) (turn : Turn) (budget : ℕ) → object_of_value v ≡ Some ob
+        → Takes r job.old (waitings.Parent name) (answers.Value v) place loads told live.now told job.new live.now turn budget) }
+    ensures name { job.new.name ≡ job.old.name }
+{
+    match own_object(job, live) {
+        Some(o) => Ok(Fed::Ends(Answer::Value(Value::Obj(o)))),
+        None => note_parent(job, live, name, ob),
+    }
+}
+
+/// A load takes the value of the load of a parent.
+fn parent_value(job: &mut LoadJob, live: &Live, name: Name, v: &Value) -> Result<Fed, LoadFault>
+    requires { IsAscii job.old.name }
+    ensures takes { IfOk result (λ r. (place : Option Place) (loads : List Loading) (told : Option Bytes) (turn : Turn) (budget : ℕ)
+        → Takes r job.old (waitings.Parent name) (answers.Value v.now) place loads told live.now told job.new live.now turn budget) }
+    ensures name { job.new.name ≡ job.old.name }
+{
+    match object_of(v) {
+        Some(o) => after_parent(job, live, name, o),
+        None => Ok(Fed::Ends(Answer::Value(Value::Int(0)))),
+    }
+}
+
+/// A load takes the answer of the load of a parent.
+///
+/// # Errors
+/// `NoMemory`, also where nothing is left of the parent's object.
+pub(crate) fn take_parent(
+    job: &mut LoadJob,
+    live: &Live,
+    name: Name,
+    answer: Answer,
+) -> Result<Fed, LoadFault>
+    requires { IsAscii job.old.name }
+    ensures takes { IfOk result (λ r. (place : Option Place) (loads : List Loading) (told : Option Bytes) (turn : Turn) (budget : ℕ)
+        → Takes r job.old (waitings.Parent name) answer place loads told live.now told job.new live.now turn budget) }
+    ensures name { job.new.name ≡ job.old.name }
+{
+    match answer {
+        Answer::Value(v) => parent_value(job, live, name, &v),
+        Answer::Faulty(faults) => Ok(Fed::Ends(Answer::Faulty(faults))),
+        Answer::Stopped(stop) => Ok(Fed::Ends(Answer::Stopped(stop))),
+    }
+}

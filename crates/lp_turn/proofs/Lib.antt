@@ -1,0 +1,11 @@
+pub mod Kept
+pub mod Words
+pub mod Connected
+pub mod Mastered
+pub mod Ended
+pub mod Lined
+pub mod Reloading
+pub mod Initial
+pub mod Opened
+pub mod Remembered
+pub mod Preloaded

@@ -1,0 +1,14 @@
+use Rattle.std.proofs.Common.{subst}
+use Rattle.std.proofs.lemmas.Result.{IfOk-weaker}
+use Rattle.lp_turn.specs.Masters.{IsMasterOf}
+use Rattle.lp_turn.proofs.Mastered.{loaded_applied, unloaded}
+use Rattle.lp_turn.proofs.master.call_loaded.Goals as goal
+
+pub returns-in-Some-clause-goes : goal.returns-in-Some-clause-goes
+returns-in-Some-clause-goes c =
+    IfOk-weaker c.apply.result _ _ (λ r a. loaded_applied c.args.live.now c.in-Some.m c.args.f r a (subst (λ q. IsMasterOf c.args.live.now.names q) c.in-Some.is c.master.ensures)) c.apply.ensures.applies
+
+pub returns-in-None-clause-goes : goal.returns-in-None-clause-goes
+returns-in-None-clause-goes c =
+    IfOk-weaker c.unanswered.result _ _
+    (λ r b. unloaded c.args.live.now c.unanswered.new.live c.args.f r (subst (λ q. IsMasterOf c.args.live.now.names q) c.in-None.is c.master.ensures) b) c.unanswered.ensures.begins

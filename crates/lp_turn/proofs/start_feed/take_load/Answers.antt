@@ -1,0 +1,12 @@
+use Rattle.std.proofs.Common.{subst}
+use Rattle.lp_turn.specs.Ends.{IsLoadEnd}
+use Rattle.lp_turn.proofs.Opened.{load_answered}
+use Rattle.lp_turn.proofs.Words.{chars-master}
+use Rattle.lp_turn.proofs.start_feed.take_load.Goals as goal
+
+pub returns-in-Ok-clause-takes : goal.returns-in-Ok-clause-takes
+returns-in-Ok-clause-takes g c = λ t.
+    let told0 = g.W.SwapFile.content c.args.swap.now in
+    let told1 = g.W.SwapFile.content c.loaded.new.swap in
+    load_answered told0 told1 c.args.live.now c.loaded.new.live c.args.f c.args.end
+    (subst (λ name. IsLoadEnd name c.args.end told0 c.args.live.now told1 c.loaded.new.live) chars-master (c.in-Ok.ensures.end t))

@@ -1,0 +1,9 @@
+use Rattle.lp_turn.proofs.Opened.{master_answered}
+use Rattle.lp_turn.proofs.start_feed.take_master.Goals as goal
+
+pub returns-in-Ok-clause-takes : goal.returns-in-Ok-clause-takes
+returns-in-Ok-clause-takes g c = λ t.
+    master_answered (g.W.SwapFile.content c.args.swap.now) (g.W.SwapFile.content c.value_of.new.swap) c.args.live.now c.value_of.new.live c.args.f c.args.end c.in-Ok.v c.behind.result (c.in-Ok.ensures.value t) c.behind.ensures.course
+
+pub returns-in-Ok-clause-there : goal.returns-in-Ok-clause-there
+returns-in-Ok-clause-there g c = λ cells i. c.behind.ensures.there cells (c.in-Ok.ensures.there cells i)

@@ -1,0 +1,12 @@
+pub mod Resting
+pub mod Calls
+pub mod Turns
+pub mod Connections
+pub mod Lines
+pub mod Masters
+pub mod Ends
+pub mod Going
+pub mod Starts
+pub mod Starting
+pub mod StartSteps
+pub mod StartEnds

@@ -1,0 +1,20 @@
+//! The turns of the driver as jobs: what a turn does by itself, which calls it asks for, and how it goes on when they ended.
+//!
+//! No function runs while a turn goes on: the driver carries out what it asks for, each call with a full budget.
+#![tactic(auto)]
+
+pub mod begin;
+mod connecting;
+mod ends;
+pub mod feed;
+pub mod job;
+mod lines;
+mod master;
+pub mod next;
+mod outputs;
+pub mod reloads;
+mod simul;
+pub mod start_feed;
+pub mod start_job;
+mod start_master;
+pub mod starting;
