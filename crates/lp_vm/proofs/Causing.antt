@@ -16,7 +16,7 @@ use Rattle.lp_calling.specs.declared.job.CallingFault.{CallingFault}
 use Rattle.lp_calling.specs.declared.job.CallingFault.TheVariants as calling_faults
 use Rattle.lp_vm.specs.declared.fault.VmFault.{VmFault}
 use Rattle.lp_vm.specs.Causes.{IsReadless, Tells, read_fault, read_of}
-use Rattle.lp_vm.specs.Making.{StandsForOne, TellsOnce}
+use Rattle.lp_vm.specs.Making.{StandsForOne}
 use Rattle.lp_beginning.specs.Beginning.{BringsFirst}
 use Rattle.lp_vm.specs.Faults.{calling_fault, fault_of}
 
@@ -74,22 +74,20 @@ pub calling_readless : (x : CallingFault) (e : VmFault) → e ≡ calling_fault 
 calling_readless calling_faults.NoMemory e is = ap read_fault is
 calling_readless calling_faults.NotYet e is = ap read_fault is
 
--- The same where the state changed after what was brought.
-pub tells_fault_once : {told0 told1 : Option Bytes} {last : Last} {reads0 reads1 writes0 writes1 : ℕ} {true0 true1 honest0 honest1 : Type 0} {live0 : Live} {e : EnterFault}
-    → BringsFirst told0 told1 last reads0 reads1 writes0 writes1 true0 true1 honest0 honest1 live0 (Err e) → StandsForOne told0 live0
-    → TellsOnce told1 last reads0 reads1 writes0 writes1 true0 true1 honest0 honest1 (Err (read_fault (fault_of e)))
-tells_fault_once h stands = record { live = h.between; tells = tells_fault h.brings stands.0 stands.1 stands.2 }
+-- The same where the state changed after what was brought, ..
+pub tells_fault_first : {told0 told1 : Option Bytes} {last : Last} {reads0 reads1 writes0 writes1 : ℕ} {true0 true1 honest0 honest1 : Type 0} {live0 live1 : Live} (e : EnterFault)
+    → BringsFirst told0 told1 last reads0 reads1 writes0 writes1 true0 true1 honest0 honest1 live0 live1 (Err e) → StandsForOne told0 live0
+    → Tells told1 last reads0 reads1 writes0 writes1 true0 true1 honest0 honest1 live1 (Err (read_fault (fault_of e)))
+tells_fault_first {told1 = told1} {last = last} {reads0 = reads0} {reads1 = reads1} {writes0 = writes0} {writes1 = writes1} {true0 = true0} {true1 = true1} {honest0 = honest0} {honest1 = honest1} (enter_faults.Swap cause) h stands =
+    subst (λ l. Tells told1 last reads0 reads1 writes0 writes1 true0 true1 honest0 honest1 l (Err (enter_faults.Swap cause))) (sym h.still) (tells_fault h.brings stands.0 stands.1 stands.2)
+tells_fault_first enter_faults.NoMemory h stands =
+    let k = tells_fault h.brings stands.0 stands.1 stands.2 in
+    record { cause = tt; faults = k.faults; write_faults = k.write_faults; truthful = k.truthful; honest = k.honest }
 
--- what follows what went well
-pub tells_once_more : {told1 told2 : Option Bytes} {last1 last2 : Last} {reads0 reads1 reads2 writes0 writes1 writes2 : ℕ} {true0 true1 true2 honest0 honest1 honest2 : Type 0} {live1 : Live} {r : Result (Unit {0}) EnterFault}
-    → Tells told1 last1 reads0 reads1 writes0 writes1 true0 true1 honest0 honest1 live1 (Ok tt) → TellsOnce told2 last2 reads1 reads2 writes1 writes2 true1 true2 honest1 honest2 r
-    → TellsOnce told2 last2 reads0 reads2 writes0 writes2 true0 true2 honest0 honest2 r
-tells_once_more h k = record { live = k.live; tells = tells_more h k.tells }
-
--- one call, whose state is told
-pub tells_once : {told : Option Bytes} {last : Last} {reads0 reads1 writes0 writes1 : ℕ} {true0 true1 honest0 honest1 : Type 0} {live : Live} {r : Result (Unit {0}) EnterFault} → Tells told last reads0 reads1 writes0 writes1 true0 true1 honest0 honest1 live r
-    → TellsOnce told last reads0 reads1 writes0 writes1 true0 true1 honest0 honest1 r
-tells_once {live = live} h = record { live = live; tells = h }
+-- .. and where all was brought.
+pub tells_brought_first : {told0 told1 : Option Bytes} {last : Last} {reads0 reads1 writes0 writes1 : ℕ} {true0 true1 honest0 honest1 : Type 0} {live0 live1 : Live} → BringsFirst told0 told1 last reads0 reads1 writes0 writes1 true0 true1 honest0 honest1 live0 live1 (Ok tt)
+    → Tells told1 last reads0 reads1 writes0 writes1 true0 true1 honest0 honest1 live1 (Ok tt)
+tells_brought_first {live1 = live1} h = tells_still (tells_brought h.brings) live1
 
 -- a fault that is handed on
 pub read_exit : {A : Type 0} (P : Result (Unit {0}) EnterFault → Type 0) (r : Result A VmFault) (f : VmFault) → IsErrAnd r (λ g. g ≡ f) → P (Err (read_fault f)) → P (read_of r)

@@ -1,11 +1,11 @@
 -- An object that was made begins: its job goes on for a course of the meaning.
-use Rattle.std.specs.Prelude.{◌≡◌, ◌+◌, ◌≤◌, ◌++◌, ℕ, List, Option, Some, Result, All, codes, map, reverse, true}
+use Rattle.std.specs.Prelude.{◌≡◌, ◌+◌, ◌≤◌, ◌++◌, ℕ, List, Option, Some, All, codes, map, reverse, true}
 use Rattle.std.specs.Option.{option_to_list}
 use Rattle.lp_values.specs.declared.id.ObjId.{ObjId}
 use Rattle.lp_values.specs.declared.value.Value.{Value}
 use Rattle.lp_code.specs.declared.program.RawProgram.{RawProgram}
 use Rattle.lp_events.specs.declared.out.Out.{Out}
-use Rattle.lp_swapfile.specs.Device.{Bytes, Last}
+use Rattle.lp_swapfile.specs.Device.{Bytes}
 use Rattle.lp_language.specs.World.{Keeps, World}
 use Rattle.lp_language.specs.Course.{Ask, Course, End, Reply, State}
 use Rattle.lp_language.specs.Resolve.{Part, heritage_of, part_at}
@@ -17,7 +17,6 @@ use Rattle.lp_front_end.specs.FrontEnds.{IsFrontEnd}
 use Rattle.lp_world.specs.declared.live.Live.{Live}
 use Rattle.lp_world.specs.Stands.{Stands}
 use Rattle.lp_step.specs.Steps.{IsFit, KeepsVariables}
-use Rattle.lp_residence.specs.declared.answers.EnterFault.{EnterFault}
 use Rattle.lp_targets.specs.Callees.{IsWorldOf}
 use Rattle.lp_asking.specs.declared.asker.Asker.{Asker}
 use Rattle.lp_asking.specs.declared.ending.Ending.{Ending}
@@ -34,7 +33,6 @@ use Rattle.lp_beginning.specs.Beginning.{Fits}
 use Rattle.lp_beginning.specs.Feeding.{AsksNext, IsAskerAt}
 use Rattle.lp_beginning.specs.Jobs.{course_of, parts_left}
 use Rattle.lp_vm.specs.Answering.{Answered, IsSameAsker}
-use Rattle.lp_vm.specs.Causes.{Tells}
 
 -- What the job asks
 
@@ -131,8 +129,3 @@ pub record Makes (caller : Option ObjId) (at : Option Place) (job : Making) (tol
 -- the live state stands for some world
 abbrev pub StandsForOne : Option Bytes → Live → Type 0
 StandsForOne told live = (programs : List RawProgram) × (w : World) × Stands told programs live w
-
--- what the device did, told of the state at the last read
-pub record TellsOnce (told : Option Bytes) (last : Last) (reads0 reads1 writes0 writes1 : ℕ) (true0 true1 honest0 honest1 : Type 0) (answer : Result (Unit {0}) EnterFault) : Type 0 where
-  pub live : Live
-  pub tells : Tells told last reads0 reads1 writes0 writes1 true0 true1 honest0 honest1 live answer

@@ -7,7 +7,7 @@ ghost use Rattle.lp_reaching.specs.Reaching.{IsInMemory};
 ghost use Rattle.lp_beginning.specs.declared.job.Question.TheVariants as questions;
 ghost use Rattle.lp_beginning.specs.Feeding.{Feeds, LeavesLess};
 ghost use Rattle.lp_vm.specs.Causes.{Tells, read_of};
-ghost use Rattle.lp_vm.specs.Making.{CanAskNext, CanMake, CanReachFor, FindsFor, MakeAsks, Makes, StandsForOne, TellsOnce, object_for};
+ghost use Rattle.lp_vm.specs.Making.{CanAskNext, CanMake, CanReachFor, FindsFor, MakeAsks, Makes, StandsForOne, object_for};
 
 use crate::cycle::answer;
 use crate::fault::VmFault;
@@ -139,8 +139,8 @@ fn feed_on<W: Truthful>(
     ensures closed { IsClosed live.new }
     ensures cells { live.new.cells ≡ live.old.cells }
     ensures home { KeepsVariables live.old.objects live.new.objects }
-    ensures tells { TellsOnce (W.content swap.new) (W.last swap.new) (W.read_faults swap.old) (W.read_faults swap.new) (W.write_faults swap.old) (W.write_faults swap.new)
-        (W.is_truthful swap.old) (W.is_truthful swap.new) (W.is_honest swap.old) (W.is_honest swap.new) (read_of result) }
+    ensures tells { Tells (W.content swap.new) (W.last swap.new) (W.read_faults swap.old) (W.read_faults swap.new) (W.write_faults swap.old) (W.write_faults swap.new)
+        (W.is_truthful swap.old) (W.is_truthful swap.new) (W.is_honest swap.old) (W.is_honest swap.new) live.new (read_of result) }
 {
     Ok(feed(making, live, swap, at, ending)?)
 }
@@ -166,8 +166,8 @@ pub fn make<W: Truthful>(
     requires fit { IsFit live.old stack.old.items }
     requires can { CanMake caller at making (W.content swap.old) live.old asker.old budget.old }
     ensures makes { IfOk result (λ e. Makes caller at making (W.content swap.old) live.old stack.old.items asker.old budget.old (W.content swap.new) live.new stack.new.items asker.new budget.new e) }
-    ensures tells { TellsOnce (W.content swap.new) (W.last swap.new) (W.read_faults swap.old) (W.read_faults swap.new) (W.write_faults swap.old) (W.write_faults swap.new)
-        (W.is_truthful swap.old) (W.is_truthful swap.new) (W.is_honest swap.old) (W.is_honest swap.new) (read_of result) }
+    ensures tells { Tells (W.content swap.new) (W.last swap.new) (W.read_faults swap.old) (W.read_faults swap.new) (W.write_faults swap.old) (W.write_faults swap.new)
+        (W.is_truthful swap.old) (W.is_truthful swap.new) (W.is_honest swap.old) (W.is_honest swap.new) live.new (read_of result) }
 {
     'questions: loop {
         let reached = ask_next(live, swap, caller, &making)?;

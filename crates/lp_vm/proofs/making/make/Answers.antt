@@ -7,16 +7,17 @@ use Rattle.lp_world.specs.Rows.{variables_at}
 use Rattle.lp_step.specs.Steps.{IsFit, KeepsVariables}
 use Rattle.lp_run.proofs.Together.{home_later}
 use Rattle.lp_beginning.specs.Feeding.{Feeds, IsLater, LeavesLess}
-use Rattle.lp_vm.specs.Making.{MakeContinues, TellsOnce}
-use Rattle.lp_vm.proofs.Causing.{read_exit, tells_more, tells_once, tells_once_more, tells_still}
+use Rattle.lp_vm.specs.Causes.{Tells}
+use Rattle.lp_vm.specs.Making.{MakeContinues}
+use Rattle.lp_vm.proofs.Causing.{read_exit, tells_more}
 use Rattle.lp_vm.proofs.Makings.{can_make_on, make_can, make_ends, make_goes, make_lies, make_stands, makes_later, makes_more, still_there}
 use Rattle.lp_vm.proofs.Startings.{same_later}
 use Rattle.lp_vm.proofs.making.make.Goals as goal
 
 pub returns-in_err-reached-clause-tells : goal.returns-in_err-reached-clause-tells
 returns-in_err-reached-clause-tells g c =
-    read_exit (TellsOnce (g.W.SwapFile.content c.ask_next.new.swap) (g.W.SwapFile.last c.ask_next.new.swap) (g.W.SwapFile.read_faults c.args.swap.now) (g.W.SwapFile.read_faults c.ask_next.new.swap) (g.W.SwapFile.write_faults c.args.swap.now) (g.W.SwapFile.write_faults c.ask_next.new.swap) (g.W.SwapFile.is_truthful c.args.swap.now) (g.W.SwapFile.is_truthful c.ask_next.new.swap) (g.W.SwapFile.is_honest c.args.swap.now) (g.W.SwapFile.is_honest c.ask_next.new.swap))
-    c.from_residual.result c.in_err-reached.field-0.0 c.from_residual.ensures.1 (tells_once_more c.questions.invariant.tells (tells_once c.in_err-reached.ensures.tells))
+    read_exit (Tells (g.W.SwapFile.content c.ask_next.new.swap) (g.W.SwapFile.last c.ask_next.new.swap) (g.W.SwapFile.read_faults c.args.swap.now) (g.W.SwapFile.read_faults c.ask_next.new.swap) (g.W.SwapFile.write_faults c.args.swap.now) (g.W.SwapFile.write_faults c.ask_next.new.swap) (g.W.SwapFile.is_truthful c.args.swap.now) (g.W.SwapFile.is_truthful c.ask_next.new.swap) (g.W.SwapFile.is_honest c.args.swap.now) (g.W.SwapFile.is_honest c.ask_next.new.swap) c.ask_next.new.live)
+    c.from_residual.result c.in_err-reached.field-0.0 c.from_residual.ensures.1 (tells_more c.questions.invariant.tells c.in_err-reached.ensures.tells)
 
 pub answer-requires-clause-can : goal.answer-requires-clause-can
 answer-requires-clause-can g c =
@@ -24,8 +25,8 @@ answer-requires-clause-can g c =
 
 pub returns-in_err-ending-clause-tells : goal.returns-in_err-ending-clause-tells
 returns-in_err-ending-clause-tells g c =
-    read_exit (TellsOnce (g.W.SwapFile.content c.answer.new.swap) (g.W.SwapFile.last c.answer.new.swap) (g.W.SwapFile.read_faults c.args.swap.now) (g.W.SwapFile.read_faults c.answer.new.swap) (g.W.SwapFile.write_faults c.args.swap.now) (g.W.SwapFile.write_faults c.answer.new.swap) (g.W.SwapFile.is_truthful c.args.swap.now) (g.W.SwapFile.is_truthful c.answer.new.swap) (g.W.SwapFile.is_honest c.args.swap.now) (g.W.SwapFile.is_honest c.answer.new.swap))
-    c.from_residual-in_err-ending.result c.in_err-ending.field-0.0 c.from_residual-in_err-ending.ensures.1 (tells_once_more c.questions.invariant.tells (tells_once (tells_more c.in_ok-reached.ensures.tells c.in_err-ending.ensures.tells)))
+    read_exit (Tells (g.W.SwapFile.content c.answer.new.swap) (g.W.SwapFile.last c.answer.new.swap) (g.W.SwapFile.read_faults c.args.swap.now) (g.W.SwapFile.read_faults c.answer.new.swap) (g.W.SwapFile.write_faults c.args.swap.now) (g.W.SwapFile.write_faults c.answer.new.swap) (g.W.SwapFile.is_truthful c.args.swap.now) (g.W.SwapFile.is_truthful c.answer.new.swap) (g.W.SwapFile.is_honest c.args.swap.now) (g.W.SwapFile.is_honest c.answer.new.swap) c.answer.new.live)
+    c.from_residual-in_err-ending.result c.in_err-ending.field-0.0 c.from_residual-in_err-ending.ensures.1 (tells_more c.questions.invariant.tells (tells_more c.in_ok-reached.ensures.tells c.in_err-ending.ensures.tells))
 
 pub feed_on-requires-clause-stands : goal.feed_on-requires-clause-stands
 feed_on-requires-clause-stands g c =
@@ -34,9 +35,9 @@ feed_on-requires-clause-stands g c =
 
 pub returns-in_err-feed_on-clause-tells : goal.returns-in_err-feed_on-clause-tells
 returns-in_err-feed_on-clause-tells g c =
-    read_exit (TellsOnce (g.W.SwapFile.content c.feed_on.new.swap) (g.W.SwapFile.last c.feed_on.new.swap) (g.W.SwapFile.read_faults c.args.swap.now) (g.W.SwapFile.read_faults c.feed_on.new.swap) (g.W.SwapFile.write_faults c.args.swap.now) (g.W.SwapFile.write_faults c.feed_on.new.swap) (g.W.SwapFile.is_truthful c.args.swap.now) (g.W.SwapFile.is_truthful c.feed_on.new.swap) (g.W.SwapFile.is_honest c.args.swap.now) (g.W.SwapFile.is_honest c.feed_on.new.swap))
+    read_exit (Tells (g.W.SwapFile.content c.feed_on.new.swap) (g.W.SwapFile.last c.feed_on.new.swap) (g.W.SwapFile.read_faults c.args.swap.now) (g.W.SwapFile.read_faults c.feed_on.new.swap) (g.W.SwapFile.write_faults c.args.swap.now) (g.W.SwapFile.write_faults c.feed_on.new.swap) (g.W.SwapFile.is_truthful c.args.swap.now) (g.W.SwapFile.is_truthful c.feed_on.new.swap) (g.W.SwapFile.is_honest c.args.swap.now) (g.W.SwapFile.is_honest c.feed_on.new.swap) c.feed_on.new.live)
     c.from_residual-in_err-feed_on.result c.in_err-feed_on.field-0.0 c.from_residual-in_err-feed_on.ensures.1
-    (tells_once_more c.questions.invariant.tells (tells_once_more (tells_more c.in_ok-reached.ensures.tells c.in_ok-ending.ensures.tells) c.in_err-feed_on.ensures.tells))
+    (tells_more c.questions.invariant.tells (tells_more c.in_ok-reached.ensures.tells (tells_more c.in_ok-ending.ensures.tells c.in_err-feed_on.ensures.tells)))
 
 pub questions-preserved : goal.questions-preserved
 questions-preserved g c =
@@ -47,7 +48,6 @@ questions-preserved g c =
     make_goes c.args.caller c.args.at c.questions.making (g.W.SwapFile.content c.questions.swap) (g.W.SwapFile.content c.ask_next.new.swap) c.questions.live c.ask_next.new.live c.questions.stack.items c.questions.asker c.questions.budget c.in_ok-reached.reached c.in_ok-reached.ensures.asks
     c.in_ok-reached.ensures.outputs (g.W.SwapFile.content c.answer.new.swap) c.answer.new.live c.answer.new.stack.items c.answer.new.asker c.answer.new.budget c.in_ok-ending.ending c.in_ok-ending.ensures.answers (g.W.SwapFile.content c.feed_on.new.swap) c.feed_on.new.making c.feed_on.new.live c.in_ok-feed_on.ensures.told
     (subst (λ r. Feeds r c.questions.making c.in_ok-ending.ending c.args.at (g.W.SwapFile.content c.answer.new.swap) c.answer.new.live c.feed_on.new.making c.feed_on.new.live) c.in-Goes.is c.in_ok-feed_on.ensures.feeds) later in
-    let told = c.in_ok-feed_on.ensures.tells in
     record {
       can = can_make_on c.args.caller c.args.at c.questions.making c.feed_on.new.making (g.W.SwapFile.content c.questions.swap) (g.W.SwapFile.content c.feed_on.new.swap) c.questions.live c.feed_on.new.live c.questions.asker c.answer.new.asker c.questions.budget c.answer.new.budget c.questions.invariant.can more;
       there = subst (λ (o : ObjId). IsSome (variables_at c.feed_on.new.live.objects o)) (sym later.object) (still_there c.questions.live.objects c.feed_on.new.live.objects c.questions.making.object home c.questions.invariant.there);
@@ -57,7 +57,7 @@ questions-preserved g c =
       same = same_later c.args.asker.now c.questions.asker c.answer.new.asker c.questions.invariant.same c.in_ok-ending.ensures.answers.same;
       spends = le_trans c.in_ok-ending.ensures.answers.spends c.questions.invariant.spends;
       home = home_later c.args.live.now.objects c.questions.live.objects c.feed_on.new.live.objects c.questions.invariant.home home;
-      tells = tells_more c.questions.invariant.tells (tells_more c.in_ok-reached.ensures.tells (tells_more c.in_ok-ending.ensures.tells (tells_still told.tells c.feed_on.new.live)));
+      tells = tells_more c.questions.invariant.tells (tells_more c.in_ok-reached.ensures.tells (tells_more c.in_ok-ending.ensures.tells c.in_ok-feed_on.ensures.tells));
       goes = makes_more c.args.caller c.args.at c.args.making c.questions.making c.feed_on.new.making (g.W.SwapFile.content c.args.swap.now) (g.W.SwapFile.content c.questions.swap) (g.W.SwapFile.content c.feed_on.new.swap) c.args.live.now c.questions.live c.feed_on.new.live c.args.asker.now c.questions.asker c.answer.new.asker
           c.args.budget.now c.questions.budget c.answer.new.budget c.questions.invariant.goes more;
     }
