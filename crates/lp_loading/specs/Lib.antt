@@ -5,5 +5,7 @@ pub mod Loads
 pub mod Readings
 pub mod Simuls
 pub mod Versions
+pub mod Reads
 pub mod Going
 pub mod Parents
+pub mod Faults
