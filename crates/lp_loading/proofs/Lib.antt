@@ -12,3 +12,4 @@ pub mod SimulFirst
 pub mod ParentAsked
 pub mod FaultTexts
 pub mod FilesRead
+pub mod FirstLines

@@ -6,6 +6,7 @@ pub mod Readings
 pub mod Simuls
 pub mod Versions
 pub mod Reads
+pub mod Lines
 pub mod Going
 pub mod Parents
 pub mod Faults

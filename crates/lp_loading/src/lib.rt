@@ -10,6 +10,7 @@ mod faults;
 pub mod job;
 pub mod laws;
 pub mod own;
+mod lines;
 mod parts;
 mod present;
 mod reading;

@@ -34,7 +34,7 @@ use lp_world::live::Live;
 use std::alloc::{AllocError, Global};
 
 /// The file of a name of letters of ASCII.
-fn file_of(alloc: Global, name: &str) -> Result<String, AllocError>
+pub(crate) fn file_of(alloc: Global, name: &str) -> Result<String, AllocError>
     requires { IsAscii name.now }
     ensures { IfOk result (λ s. string_bytes s ≡ file_bytes name.now) }
 {
