@@ -91,8 +91,8 @@ line_same names of reads front live w made name file line real has l m =
     let there = (reads front live.store w.files (file_of_name name) real has).declared l.items l.pragmas l.declares in
     let same : l.items ≡ m.items = items_same (front.read w.files (file_of_name name)) l.items m.items l.pragmas m.pragmas there m.read in
     let first : first_of file (files.parents_in l.items) ≡ Some (by_file m.parent) =
-        ap (λ x. first_of file (files.parents_in x)) same ∙ ap (first_of file) (of m.items)
-        ∙ first_is names w made (parents_in m.items) m.parent file (λ xs. (bytes_eq-Decides xs xs).1 refl) m.missing m.file_is in
+    ap (λ x. first_of file (files.parents_in x)) same ∙ ap (first_of file) (of m.items)
+    ∙ first_is names w made (parents_in m.items) m.parent file (λ xs. (bytes_eq-Decides xs xs).1 refl) m.missing m.file_is in
     let q : l.parent ≡ by_file m.parent = ap (λ o. unwrap_or o l.parent) (sym l.first ∙ first) in
     l.line_is ∙ ap (λ (x : Inherited). x.line) q
 
@@ -112,7 +112,7 @@ too_far_goes goes names of reads fs kind name file line job loads told0 live0 to
     let again = λ (made : List Made) (s : State). reading m (kind_of job.purpose) by job.nested job.name made s in
     let way : is_under_way miss.parent.name by.loads ≡ is_under_way far.name (loads_of loads) = ap (λ x. is_under_way x by.loads) (sym same) ∙ ap (is_under_way far.name) under.2 in
     let ended : faulty fs.items s ≡ parent_missing by job.nested job.name made again miss.parent s =
-        ap (λ x. faulty x s) (one ∙ ap (λ x. record { file = file_bytes x; line = line; kind = kind } ∷ []) (sym n) ∙ ap (λ x. file_fault job.name x kind ∷ []) its) ∙ by_why by job made again miss.parent s kind (is_under_way far.name (loads_of loads)) (nat_lt max_nested (suc job.nested)) way refl far.why in
+    ap (λ x. faulty x s) (one ∙ ap (λ x. record { file = file_bytes x; line = line; kind = kind } ∷ []) (sym n) ∙ ap (λ x. file_fault job.name x kind ∷ []) its) ∙ by_why by job made again miss.parent s kind (is_under_way far.name (loads_of loads)) (nat_lt max_nested (suc job.nested)) way refl far.why in
     let it : HasEnded front (answers.Faulty fs) (going_course (suc m) job goings.Read by s) told1 before (record live1 { outputs = live1.outputs ++ os }) turn budget = record {
       programs = programs;
       end = Gives (IsFaulty fs.items) (told os s);

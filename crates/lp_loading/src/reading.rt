@@ -82,7 +82,8 @@ pub(crate) fn tell_faults(live: &mut Live, faults: Vec<Fault>) -> Result<Step, A
 /// # Errors
 /// `NotYet` where the path has letters beyond ASCII. `NoMemory`, also where it does not end in `.c`, as each file of a name does.
 pub(crate) fn parent_name(alloc: Global, file: &str) -> Result<Name, LoadFault>
-    ensures { IfOk result (λ n. file.now ≡ file_bytes n) }
+    ensures file { IfOk result (λ n. file.now ≡ file_bytes n) }
+    ensures ascii { IfOk result (λ n. IsAscii n) }
 {
     if !is_ascii(file) {
         return Err(LoadFault::NotYet);
