@@ -10,3 +10,6 @@ pub mod Parting
 pub mod Answered
 pub mod SimulFirst
 pub mod ParentAsked
+pub mod FaultTexts
+pub mod FilesRead
+pub mod FirstLines

@@ -5,5 +5,8 @@ pub mod Loads
 pub mod Readings
 pub mod Simuls
 pub mod Versions
+pub mod Reads
+pub mod Lines
 pub mod Going
 pub mod Parents
+pub mod Faults

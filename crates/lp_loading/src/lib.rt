@@ -6,11 +6,14 @@
 mod asking;
 pub mod begin;
 pub mod compiling;
+mod faults;
 pub mod job;
 pub mod laws;
+mod lines;
 pub mod own;
 mod parts;
 mod present;
+mod reading;
 mod simuls;
 mod taking;
 mod versions;

@@ -1,0 +1,104 @@
+//! The file of a load is read: its faults end the load, or a parent that is missing is asked for.
+ghost use Rattle.std.specs.Prelude.{◌≡◌, IfOk, List, Option, false, nat_lt, suc, ℕ};
+ghost use Rattle.std.specs.Str.{IsAscii};
+ghost use Rattle.std.specs.String.{string_bytes};
+ghost use Rattle.lp_asking.specs.declared.asker.Loading.{Loading as Loads};
+ghost use Rattle.lp_efuns.specs.declared.caller.Turn.{Turn};
+ghost use Rattle.lp_front_end.specs.Parents.{file_bytes};
+ghost use Rattle.lp_loading.specs.Going.{Goes};
+ghost use Rattle.lp_loading.specs.Present.{HasWorld};
+ghost use Rattle.lp_loading.specs.Reads.{HasRead};
+ghost use Rattle.lp_loading.specs.declared.compiling.Compiled.TheVariants as compiled;
+ghost use Rattle.lp_loading.specs.declared.job.Going.TheVariants as stages;
+ghost use Rattle.lp_loading.specs.declared.job.LoadJob.{LoadJob as Job};
+ghost use Rattle.lp_loading.specs.Loads.{loads_of};
+ghost use Rattle.lp_meaning.specs.FileLoads.{is_under_way as under_way};
+ghost use Rattle.lp_meaning.specs.Limits.{max_nested};
+ghost use Rattle.lp_swapfile.specs.Device.{Bytes};
+ghost use Rattle.lp_world.specs.Closed.{IsClosed};
+ghost use Rattle.lp_world.specs.declared.live.Live.{Live as L};
+
+use crate::asking::ask_parent;
+use crate::compiling::{Compiled, compile_file};
+use crate::faults::end_faulty;
+use crate::job::{LoadFault, LoadJob, Step};
+use crate::laws::law_faulty_ends;
+use crate::present::is_ascii;
+use crate::simuls::simul_names;
+use lp_asking::asker::Loading;
+use lp_asking::truth::Truthful;
+use lp_code::name::Name;
+use lp_tree::fault::Fault;
+use lp_values::id::ProgId;
+use lp_world::live::Live;
+use std::alloc::{AllocError, Global};
+
+/// The file of a name of letters of ASCII.
+pub(crate) fn file_of(alloc: Global, name: &str) -> Result<String, AllocError>
+    requires { IsAscii name.now }
+    ensures { IfOk result (λ s. string_bytes s ≡ file_bytes name.now) }
+{
+    let mut path = String::from_str(alloc, name)?;
+    path.push_str(".c")?;
+    Ok(path)
+}
+
+/// Reads and compiles the file of a load, while these loads are under way. Programs of parents, and those of the simul-efun
+/// object, come into memory for it.
+///
+/// # Errors
+/// Those of `simul_names` and `compile_file`.
+pub(crate) fn compile_own<W: Truthful>(
+    job: &LoadJob,
+    live: &mut Live,
+    swap: &mut W,
+    loads: &[Loading],
+) -> Result<Compiled, LoadFault>
+    requires closed { IsClosed live.old }
+    requires world { HasWorld (W.content swap.old) live.old }
+    requires ascii { IsAscii job.now.name }
+    ensures read { IfOk result (λ r. HasRead r job.now loads.now (W.content swap.old) live.old (W.content swap.new) live.new) }
+    ensures closed { IsClosed live.new }
+{
+    let simuls = simul_names(live, swap, loads)?;
+    let path = file_of(live.alloc, job.name.as_str())?;
+    let own = ProgId(live.versions.len() as u64);
+    compile_file(live, swap, job.made.as_slice(), path.as_str(), own, &simuls)
+}
+
+/// The faults of the file that was read are logged, and end the load.
+pub(crate) fn tell_faults(live: &mut Live, faults: Vec<Fault>) -> Result<Step, AllocError>
+    requires closed { IsClosed live.old }
+    ensures goes { IfOk result (λ r. (job : Job) (loads : List Loads) (told0 : Option Bytes) (live0 : L) (told1 : Option Bytes) (budget : ℕ) (turn : Turn) → HasRead (compiled.Faulty faults) job loads told0 live0 told1 live.old
+        → Goes r job stages.Read loads told0 live0 budget told1 live.new budget turn) }
+    ensures closed { IsClosed live.new }
+{
+    law_faulty_ends();
+    end_faulty(live, faults)
+}
+
+/// The name of a parent, by its file.
+///
+/// # Errors
+/// `NotYet` where the path has letters beyond ASCII. `NoMemory`, also where it does not end in `.c`, as each file of a name does.
+pub(crate) fn parent_name(alloc: Global, file: &str) -> Result<Name, LoadFault>
+    ensures file { IfOk result (λ n. file.now ≡ file_bytes n) }
+    ensures ascii { IfOk result (λ n. IsAscii n) }
+{
+    if !is_ascii(file) {
+        return Err(LoadFault::NotYet);
+    }
+    match file.strip_suffix(".c") {
+        Some(name) => Ok(Name::from_str(alloc, name)?),
+        None => Err(LoadFault::NoMemory),
+    }
+}
+
+/// A load asks for the first of its parents that is missing, as the file that was read tells, where no load of it is under way and
+/// loads are not nested too deep.
+pub(crate) fn ask_missing(alloc: Global, name: Name) -> Result<Step, AllocError>
+    ensures { IfOk result (λ r. (file : List ℕ) (job : Job) (loads : List Loads) (told0 : Option Bytes) (live0 : L) (told1 : Option Bytes) (live1 : L) (budget : ℕ) (turn : Turn) → HasRead (compiled.Missing file) job loads told0 live0 told1 live1
+        → file ≡ file_bytes name → under_way name (loads_of loads) ≡ false → nat_lt max_nested (suc job.nested) ≡ false → Goes r job stages.Read loads told0 live0 budget told1 live1 budget turn) }
+{
+    ask_parent(alloc, name)
+}
