@@ -3,6 +3,7 @@ use Rattle.std.proofs.Common.{◌≡◌, ◌∙◌, ◌⊎◌, ◌<◌, ◌≤�
 use Rattle.std.proofs.lemmas.List.Elements.{All-cons, All-nil}
 use Rattle.std.proofs.lemmas.Slice.Eq.{bytes_eq-Decides}
 use Rattle.lp_files.specs.declared.store.Store.{Store}
+use Rattle.lp_tree.specs.declared.pragma.Pragmas.{Pragmas}
 use Rattle.lp_tree.specs.Units.{Fun, Inherit, ItemTree, Proto, Var}
 use Rattle.lp_values.specs.declared.id.ProgId.{ProgId}
 use Rattle.lp_code.specs.declared.program.RawProgram.{RawProgram}
@@ -11,7 +12,7 @@ use Rattle.lp_code.specs.Programs.{FindsRows}
 use Rattle.lp_instr.specs.EfunList.{is_name}
 use Rattle.lp_types_expr.specs.declared.fault.FaultAt.{FaultAt}
 use Rattle.lp_types.specs.TypeFaults.{type_faults}
-use Rattle.lp_layout.specs.Layout.{inherits}
+use Rattle.lp_layout.specs.Layout.{IsSpelled, inherits}
 use Rattle.lp_layout.specs.LayoutFaults.{layout_fault}
 use Rattle.lp_language.specs.World.{IsSameVersion, Version, World, no_version, object_at, with_object}
 use Rattle.lp_meaning.specs.WorldSteps.{entered, version_entered}
@@ -21,16 +22,21 @@ use Rattle.lp_inherit.specs.Heirs.{AreNumbered, AreUnambiguous, laid, table, tab
 use Rattle.lp_plan_laws.specs.Tables.{AreNamedOnce}
 use Rattle.lp_front.specs.declared.parents.Parent.{Parent}
 use Rattle.lp_front.specs.Names.{parents_in}
+use Rattle.lp_front.specs.Reading.{Declares}
 use Rattle.lp_front.specs.Settling.{faults_of, in_file, path_of, tables_of, types_or_layout, versions_of}
 use Rattle.lp_compile.specs.Known.{AreGiven, Known}
 use Rattle.lp_faultless.specs.Trees.{IsFine}
 use Rattle.lp_faultless.proofs.Faultless.{faultless_is_fine}
-use Rattle.lp_part_laws.specs.Versions.{AreCompiled, AreSameVersions, FitsVersion, IsTreeFor, heritage_in, program_of, rows_of}
+use Rattle.lp_part_laws.specs.Versions.{AreCompiled, AreSameVersions, AreSpelledTrees, FitsVersion, IsTreeFor, heritage_in, program_of, rows_of}
 use Rattle.std.specs.Prelude.{slice_set}
 use Rattle.std.proofs.Math.ListN.{length-set}
 use Rattle.lp_part_laws.proofs.Latest.{stay_compiled}
 use Rattle.lp_fits.specs.Fits.{EntryStillFits, HaveTables, IsVersionOf, NewVersionFits}
 use Rattle.lp_fits.proofs.Trees.{inside, kept, tree_of_new}
+
+-- what the front end tells of each file that declares something
+FilesAreSpelled : Type 0
+FilesAreSpelled = (files : Store) (path : List ℕ) (is : List ItemTree) (p : Pragmas) → Declares files path is p → IsSpelled is
 
 -- The path of a version
 
@@ -110,9 +116,14 @@ module _ (programs : List RawProgram) (versions : List Version) (c : AreCompiled
   parents_once (n ∷ ns) [] h = absurd h
   parents_once (n ∷ ns) (t ∷ ts) h = ((c.fit n.0 h.0.program h.0.is).own.once, parents_once ns ts h.1)
 
+  parents_spelled : (ns : List ProgId) (ts : List Tables) → HaveTables programs ns ts → AreSpelledTrees (each_heritage tree ns)
+  parents_spelled [] ts h = tt
+  parents_spelled (n ∷ ns) [] h = absurd h
+  parents_spelled (n ∷ ns) (t ∷ ts) h = ((c.fit n.0 h.0.program h.0.is).spelled, parents_spelled ns ts h.1)
+
   -- the new version
 
-  module _ (files : Store) (path : List ℕ) (own : ProgId) (known : Known) (simuls : List (List ℕ)) (p : RawProgram) (v : Version) (number : own.0 ≡ length versions) (is : IsVersionOf files path own known simuls programs p v) where
+  module _ (spells : FilesAreSpelled) (files : Store) (path : List ℕ) (own : ProgId) (known : Known) (simuls : List (List ℕ)) (p : RawProgram) (v : Version) (number : own.0 ≡ length versions) (is : IsVersionOf files path own known simuls programs p v) where
     abbrev ts : List Tables
     ts = is.compiled.parents
 
@@ -184,6 +195,7 @@ module _ (programs : List RawProgram) (versions : List Version) (c : AreCompiled
       places = is.places;
       parts = subst (λ (t : Tables). length t.parts ≤ 65535) own_table fine.parts;
       variables = let l : length p.tables.vars ≤ 65535 = subst (λ (t : Tables). length t.vars ≤ 65535) own_table fine.variables in omega (arith, l);
+      spelled = (subst (λ (i : List ItemTree). IsSpelled i) (sym is.items) (spells files path is.compiled.items is.compiled.pragmas is.compiled.declares), parents_spelled v.parents ts is.tables);
     }
 
     lower : All (λ (u : ProgId). u.0 < length versions) v.parents
@@ -218,8 +230,8 @@ module _ (programs : List RawProgram) (versions : List Version) (c : AreCompiled
       ];
     }
 
-pub new_version_fits : NewVersionFits
-new_version_fits files path own known simuls programs versions p v c number is = compiled_more programs versions c files path own known simuls p v number is
+pub new_version_fits : FilesAreSpelled → NewVersionFits
+new_version_fits spells files path own known simuls programs versions p v c number is = compiled_more programs versions c spells files path own known simuls p v number is
 
 -- Clocks
 

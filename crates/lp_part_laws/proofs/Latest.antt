@@ -10,10 +10,10 @@ use Rattle.lp_code.specs.Programs.{FindsRows}
 use Rattle.lp_language.specs.World.{IsSameVersion, Version, no_version, version_at}
 use Rattle.lp_language.specs.Resolve.{Heritage, Heir, Heritages, NoParent, OneParent, each_heritage, heritage_within, or_else, own_names, own_variables, parents_of, place_moved, place_shown, sighted_from, variable_count, variable_last, variable_outside, variables_before, version_of, without_c}
 use Rattle.lp_isa.specs.Programs.{StandsForVersion, own_functions}
-use Rattle.lp_layout.specs.Layout.{laid_tables, parts_before}
+use Rattle.lp_layout.specs.Layout.{IsSpelled, laid_tables, parts_before}
 use Rattle.lp_inherit.specs.Heirs.{AreDistinct, AreNumbered, AreUnambiguous, IsNumbered, IsUnambiguous, table, tables}
 use Rattle.lp_plan_laws.specs.Tables.{AreNamedOnce, AreOnce, IsNamedOnce}
-use Rattle.lp_part_laws.specs.Versions.{AreSameVersions, FitsVersion, StayCompiled, heritage_in, program_of, rows_of}
+use Rattle.lp_part_laws.specs.Versions.{AreSameVersions, AreSpelledTrees, FitsVersion, IsSpelledTree, StayCompiled, heritage_in, program_of, rows_of}
 use Rattle.lp_part_laws.proofs.Lists.{is_below, there_below}
 use Rattle.lp_part_laws.proofs.Trees.{bare}
 
@@ -100,6 +100,16 @@ mutual
   all_once (OneParent h hs) (OneParent k ks) a c = (once_alike h k a.0 c.0, all_once hs ks a.1 c.1)
 
 mutual
+  spelled_alike : (h k : Heritage) → Alike h k → IsSpelledTree h → IsSpelledTree k
+  spelled_alike (Heir n v ps) (Heir m u qs) a c = (subst (λ is. IsSpelled is) (sym a.1.items) c.0, all_spelled ps qs a.2 c.1)
+
+  all_spelled : (hs ks : Heritages) → AreAlike hs ks → AreSpelledTrees hs → AreSpelledTrees ks
+  all_spelled NoParent NoParent a c = tt
+  all_spelled NoParent (OneParent k ks) a c = absurd a
+  all_spelled (OneParent h hs) NoParent a c = absurd a
+  all_spelled (OneParent h hs) (OneParent k ks) a c = (spelled_alike h k a.0 c.0, all_spelled hs ks a.1 c.1)
+
+mutual
   unambiguous_alike : (h k : Heritage) → Alike h k → IsUnambiguous h → IsUnambiguous k
   unambiguous_alike (Heir n v ps) (Heir m u qs) a c = (
     subst (λ is. AreDistinct (own_variables is)) (sym a.1.items) c.0,
@@ -149,6 +159,7 @@ fits_alike h k p a f =
       places = f.places;
       parts = f.parts;
       variables = f.variables;
+      spelled = spelled_alike h k a f.spelled;
     }
 
 -- The trees of the same versions.

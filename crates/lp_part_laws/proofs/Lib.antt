@@ -3,5 +3,6 @@ pub mod Latest
 pub mod Lists
 pub mod Places
 pub mod Rows
+pub mod Spelled
 pub mod Texts
 pub mod Trees

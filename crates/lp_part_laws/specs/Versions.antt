@@ -1,12 +1,13 @@
 -- What it says that programs fit the versions that they were made for.
-use Rattle.std.specs.Prelude.{◌≡◌, ℕ, ◌-◌, ◌<◌, ◌≤◌, ◌^◌, List, [], map, length, All, Some, slice_get}
+use Rattle.std.specs.Prelude.{◌≡◌, ℕ, ◌-◌, ◌<◌, ◌≤◌, ◌^◌, ⊤, List, [], map, length, All, Some, IsAscii, slice_get}
 use Rattle.lp_values.specs.declared.id.ProgId.{ProgId}
 use Rattle.lp_code.specs.declared.program.FunRow.{FunRow as CodeRow}
 use Rattle.lp_code.specs.declared.program.RawProgram.{RawProgram}
 use Rattle.lp_code.specs.declared.tables.Tables.{Tables}
 use Rattle.lp_code.specs.Programs.{FindsRows, IsProgram, code_of}
 use Rattle.lp_language.specs.World.{IsSameVersion, Version, new_world}
-use Rattle.lp_language.specs.Resolve.{Heritage, heritage, parents_of, version_of}
+use Rattle.lp_language.specs.Resolve.{Found, Heir, Heritage, Heritages, NoParent, OneParent, heritage, parents_of, resolve, version_of}
+use Rattle.lp_layout.specs.Layout.{IsSpelled}
 use Rattle.lp_isa.specs.Programs.{FunRow, Program, StandsForVersion}
 use Rattle.lp_inherit.specs.Heirs.{IsNumbered, IsUnambiguous, table, tables}
 use Rattle.lp_codegen_layout.specs.Laid.{row_names}
@@ -40,6 +41,15 @@ pub record IsTreeFor (p : RawProgram) (h k : Heritage) : Type 0 where
   pub unambiguous : IsUnambiguous k
   pub once : IsNamedOnce k
 
+-- In none of the files of a tree is a name of a function or variable of other letters than those of ASCII.
+mutual
+  pub IsSpelledTree : Heritage → Type 0
+  IsSpelledTree (Heir n v ps) = IsSpelled v.items × AreSpelledTrees ps
+
+  pub AreSpelledTrees : Heritages → Type 0
+  AreSpelledTrees NoParent = ⊤
+  AreSpelledTrees (OneParent h hs) = IsSpelledTree h × AreSpelledTrees hs
+
 -- A program fits a version: it is sound and small enough for its places, has the tables of the version's inheritance tree,
 -- and stands for each tree that is as this one. Its calls of parents find their rows.
 pub record FitsVersion (h : Heritage) (p : RawProgram) : Type 0 where
@@ -50,6 +60,7 @@ pub record FitsVersion (h : Heritage) (p : RawProgram) : Type 0 where
   pub places : length p.instrs < 2 ^ 32
   pub parts : length p.tables.parts ≤ 65535
   pub variables : length p.tables.vars < 2 ^ 32
+  pub spelled : IsSpelledTree h
 
 -- each parent of a version has a lower number
 abbrev pub AreRising : List Version → Type 0
@@ -69,3 +80,7 @@ pub record AreSameVersions (old new : List Version) : Type 0 where
 -- Programs still fit where the latest clocks of versions changed.
 abbrev pub StayCompiled : Type 0
 StayCompiled = (programs : List RawProgram) (old new : List Version) → AreCompiled programs old → AreSameVersions old new → AreCompiled programs new
+
+-- So a name that means a function is of ASCII.
+abbrev pub NamesAreSpelled : Type 0
+NamesAreSpelled = (programs : List RawProgram) (versions : List Version) (v : ProgId) (name : List ℕ) (f : Found) → AreCompiled programs versions → resolve (heritage_in versions v) name ≡ Some f → IsAscii name

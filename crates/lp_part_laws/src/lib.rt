@@ -3,7 +3,7 @@
 #![tactic(auto)]
 
 ghost use Rattle.lp_part_laws.specs.Parts.{FoundInText, NamesReach, PartsSplit, RowsAreFunctions, TreesOfVersions};
-ghost use Rattle.lp_part_laws.specs.Versions.{StayCompiled};
+ghost use Rattle.lp_part_laws.specs.Versions.{NamesAreSpelled, StayCompiled};
 
 /// The law of clocks: programs still fit where the latest clocks of versions changed.
 pub fn law_latest()
@@ -34,4 +34,9 @@ pub fn law_names()
 /// The law of functions: a row of a program that fits is that of the function at its place in the file.
 pub fn law_functions()
     ensures { RowsAreFunctions }
+{}
+
+/// The law of spelling: a name that means a function of a version is of letters of ASCII, so that its code points are its bytes.
+pub fn law_spelled()
+    ensures { NamesAreSpelled }
 {}

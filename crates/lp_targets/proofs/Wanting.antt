@@ -7,7 +7,7 @@ use Rattle.lp_values.specs.declared.id.ObjId.{ObjId}
 use Rattle.lp_code.specs.declared.program.RawProgram.{RawProgram}
 use Rattle.lp_code.specs.declared.tables.Slot.{Slot}
 use Rattle.lp_language.specs.World.{World}
-use Rattle.lp_language.specs.Resolve.{Found, Heritage, callable_found, function_of, heritage_of, is_callable, is_private, is_protected, is_protected_word, is_static, is_static_word, resolve}
+use Rattle.lp_language.specs.Resolve.{Found, Heritage, callable_found, function_of, heritage_of, is_callable, is_private, is_protected, is_protected_word, is_static, is_static_word, resolve, shown}
 use Rattle.lp_isa.specs.Programs.{IsReached}
 use Rattle.lp_types_expr.specs.Signatures.{has_bit, has_function}
 use Rattle.lp_layout.specs.Layout.{bit_of, bits, bits_from, digit, has_word, slot_named}
@@ -19,7 +19,7 @@ use Rattle.lp_part_laws.specs.Parts.{reached_in}
 use Rattle.lp_part_laws.proofs.Rows.{fit_reached, table_means}
 use Rattle.lp_targets.specs.Callees.{AreInText, is_callable_number, wanted, wanted_in, wanted_row}
 use Rattle.lp_targets.specs.declared.wants.Want.{Want}
-use Rattle.lp_targets.specs.declared.wants.Want.TheVariants.{Any, Callable}
+use Rattle.lp_targets.specs.declared.wants.Want.TheVariants.{Any, NotPrivate, Callable}
 use Rattle.lp_targets.proofs.Calls.{resolve_in_text}
 
 -- Modifiers as a number
@@ -105,8 +105,34 @@ callable_reached h is_self s x r m = by (has_function s) refl x r m (is_callable
     by false e None r m false q = tt
     by false e (Some f) r m c q = absurd r
 
+shown_reached : (h : Heritage) (s : Slot) (x : Option Found) → IsReached h x (reached_by s) → MeansTheSame (with_function (Some s)) x → IsReached h (shown x) (wanted_row NotPrivate s)
+shown_reached h s x r m = by (has_function s) refl x r m (has_bit 1 s.mods) refl
+  where
+    by : (b : Bool) → has_function s ≡ b → (x : Option Found) → IsReached h x (if b then Some (record { part = s.part; fun = s.fun }) else None) → MeansTheSame (if b then Some s else None) x → (c : Bool) → has_bit 1 s.mods ≡ c
+        → IsReached h (shown x) (if c then None else (if b then Some (record { part = s.part; fun = s.fun }) else None))
+    by true e None r m c q = absurd r
+    by true e (Some f) r m c q = this c (is_private f.function.modifiers) (sym (sym q ∙ ap (has_bit 1) m.mods ∙ private_bit f.function.modifiers)) r
+      where
+        this : (c d : Bool) → d ≡ c → IsReached h (Some f) (Some (record { part = s.part; fun = s.fun })) → IsReached h (if d then None else Some f) (if c then None else Some (record { part = s.part; fun = s.fun }))
+        this true true g r = tt
+        this false false g r = r
+        this true false g r = absurd cc
+        this false true g r = absurd cc
+    by false e None r m true q = tt
+    by false e None r m false q = tt
+    by false e (Some f) r m c q = absurd r
+
 pub wanted_reached : (h : Heritage) (p : RawProgram) (want : Want) (w : List ℕ) → FitsVersion h p → IsReached h (wanted want (resolve h w)) (wanted_in want (slot_named p.tables.slots w))
 wanted_reached h p Any w f = subst (IsReached h (resolve h w)) (sym (any_same (slot_named p.tables.slots w))) (fit_reached h p w f)
+wanted_reached h p NotPrivate w f = by (slot_named p.tables.slots w) refl (fit_reached h p w f)
+  where
+    none : (x : Option Found) → IsReached h x None → IsReached h (shown x) None
+    none None r = tt
+    none (Some f) r = absurd r
+
+    by : (o : Option Slot) → slot_named p.tables.slots w ≡ o → IsReached h (resolve h w) (reached_in o) → IsReached h (shown (resolve h w)) (wanted_in NotPrivate o)
+    by None e r = none (resolve h w) r
+    by (Some s) e r = shown_reached h s (resolve h w) r (table_means h w s f.own.numbered (subst (λ t. slot_named t.slots w ≡ Some s) (sym f.own.own) e))
 wanted_reached h p (Callable is_self) w f = by (slot_named p.tables.slots w) refl (fit_reached h p w f)
   where
     none : (x : Option Found) → IsReached h x None → IsReached h (callable_found is_self x) None
@@ -119,6 +145,15 @@ wanted_reached h p (Callable is_self) w f = by (slot_named p.tables.slots w) ref
 
 pub wanted_in_text : (w : World) (o : ObjId) (want : Want) (name : List ℕ) → AreInText (heritage_of w o) (wanted want (function_of w o name))
 wanted_in_text w o Any name = resolve_in_text (heritage_of w o) name
+wanted_in_text w o NotPrivate name = by (resolve (heritage_of w o) name) (resolve_in_text (heritage_of w o) name)
+  where
+    by : (x : Option Found) → AreInText (heritage_of w o) x → AreInText (heritage_of w o) (shown x)
+    by None t = tt
+    by (Some f) t = this (is_private f.function.modifiers)
+      where
+        this : (b : Bool) → AreInText (heritage_of w o) (if b then None else Some f)
+        this true = tt
+        this false = t
 wanted_in_text w o (Callable is_self) name = by (resolve (heritage_of w o) name) (resolve_in_text (heritage_of w o) name)
   where
     by : (x : Option Found) → AreInText (heritage_of w o) x → AreInText (heritage_of w o) (callable_found is_self x)

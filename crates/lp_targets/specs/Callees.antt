@@ -14,7 +14,7 @@ use Rattle.lp_targets.specs.declared.wants.Want.{Want}
 use Rattle.lp_targets.specs.declared.wants.Want.TheVariants as wants
 use Rattle.lp_swapfile.specs.Device.{Bytes}
 use Rattle.lp_language.specs.World.{World, is_live}
-use Rattle.lp_language.specs.Resolve.{Found, Heritage, Part, Target, callable_found, or_else, chain_of, first_with, function_of, heritage_of, number_of, part_at, target_here}
+use Rattle.lp_language.specs.Resolve.{Found, Heritage, Part, Target, callable_found, or_else, chain_of, first_with, function_of, heritage_of, number_of, part_at, shown, target_here}
 use Rattle.lp_meaning.specs.FunctionCalls.{goes_to_shadows}
 use Rattle.lp_layout.specs.Layout.{slot_named}
 use Rattle.lp_world.specs.declared.live.Live.{Live}
@@ -93,6 +93,7 @@ is_callable_number is_self mods = not (has_bit 1 mods) && not (has_bit 2 mods) &
 -- the function of a row of tables that is wanted
 abbrev pub wanted_row : Want → Slot → Option Reached
 wanted_row wants.Any s = reached_by s
+wanted_row wants.NotPrivate s = if has_bit 1 s.mods then None else reached_by s
 wanted_row (wants.Callable is_self) s = if is_callable_number is_self s.mods then reached_by s else None
 
 abbrev pub wanted_in : Want → Option Slot → Option Reached
@@ -102,6 +103,7 @@ wanted_in want (Some s) = wanted_row want s
 -- and of what resolve gives
 abbrev pub wanted : Want → Option Found → Option Found
 wanted wants.Any x = x
+wanted wants.NotPrivate x = shown x
 wanted (wants.Callable is_self) x = callable_found is_self x
 
 -- what is wanted of an object

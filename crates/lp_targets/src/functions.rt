@@ -66,7 +66,7 @@ fn named_in(live: &Live, version: ProgId, name: &str, want: Want) -> Option<FunA
 }
 
 /// The function of a name in an object, where it is wanted. The program of the object's version comes into memory for it.
-pub(crate) fn function_in<W: SwapFile>(
+pub fn function_in<W: SwapFile>(
     live: &mut Live,
     swap: &mut W,
     ob: ObjId,

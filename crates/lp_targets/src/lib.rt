@@ -8,7 +8,7 @@ pub mod applies;
 pub mod bringing;
 mod callees;
 mod chains;
-mod functions;
+pub mod functions;
 pub mod internal;
 pub mod outside;
 pub mod parents;

@@ -67,6 +67,13 @@ fn wanted_row(slot: &Slot, want: Want) -> Option<FunAt>
 {
     match want {
         Want::Any => reached(slot),
+        Want::NotPrivate => {
+            if slot.mods % 2 == 1 {
+                None
+            } else {
+                reached(slot)
+            }
+        }
         Want::Callable(is_self) => {
             if is_callable(is_self, slot.mods) {
                 reached(slot)

@@ -9,6 +9,8 @@ use lp_values::id::ObjId;
 pub enum Want {
     /// Each one.
     Any,
+    /// Those that are not private.
+    NotPrivate,
     /// Those that a call from outside may call: of its own object, or of another one.
     Callable(bool),
 }
