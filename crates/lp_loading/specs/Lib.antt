@@ -10,3 +10,4 @@ pub mod Lines
 pub mod Going
 pub mod Parents
 pub mod Faults
+pub mod Growing
