@@ -1,3 +1,4 @@
+pub mod Growing
 pub mod Faults
 pub mod Causes
 pub mod Going
@@ -13,3 +14,4 @@ pub mod Jobs
 pub mod Applying
 pub mod Initialising
 pub mod Making
+pub mod Loading

@@ -32,6 +32,7 @@ use Rattle.lp_beginning.specs.declared.job.Question.TheVariants as questions
 use Rattle.lp_beginning.specs.Beginning.{Fits}
 use Rattle.lp_beginning.specs.Feeding.{AsksNext, IsAskerAt}
 use Rattle.lp_beginning.specs.Jobs.{course_of, parts_left}
+use Rattle.lp_vm.specs.Growing.{Grows}
 use Rattle.lp_vm.specs.Answering.{Answered, IsSameAsker}
 
 -- What the job asks
@@ -75,15 +76,19 @@ pub record IsInitialised (w : World) (o : ObjId) (part : ℕ) : Type 0 where
   pub has : has_initialisers place.tree ≡ true
 
 -- The state stands for a state of the meaning, in which who asks has what was handed down, and the caller as its latest. In
--- each world to which that leads the parts that are left have initialisers, and this is the place of who asks.
-pub record IsMaking (caller : Option ObjId) (at : Option Place) (job : Making) (told : Option Bytes) (programs : List RawProgram) (before : List Out) (live : Live) (asker : Asker) (budget : ℕ) (by : meaning.Asker) (s : State) : Type 0 where
+-- each world to which that leads this is the place of who asks.
+pub record IsBehind (caller : Option ObjId) (at : Option Place) (told : Option Bytes) (programs : List RawProgram) (before : List Out) (live : Live) (asker : Asker) (budget : ℕ) (by : meaning.Asker) (s : State) : Type 0 where
   pub fits : Fits (record { told = told; programs = programs; before = before }) live asker.turn budget s
   pub interactive : by.interactive ≡ asker.interactive
   pub loads : by.loads ≡ map loading_of (reverse asker.loads.items)
   pub callers : callers_behind by.scene ≡ reverse (asker.callers.items ++ option_to_list caller)
   pub depth : depth_behind by.scene ≡ asker.depth + 1
-  pub parts : (w : World) → Keeps s.world w → All (IsInitialised w job.object) (parts_left job)
   pub place : (w : World) → Keeps s.world w → IsAskerAt programs w at by
+
+-- And in each such world the parts that are left of a job have initialisers.
+pub record IsMaking (caller : Option ObjId) (at : Option Place) (job : Making) (told : Option Bytes) (programs : List RawProgram) (before : List Out) (live : Live) (asker : Asker) (budget : ℕ) (by : meaning.Asker) (s : State) : Type 0 where
+  pub behind : IsBehind caller at told programs before live asker budget by s
+  pub parts : (w : World) → Keeps s.world w → All (IsInitialised w job.object) (parts_left job)
 
 -- so in some world, with a front end
 pub record CanMake (caller : Option ObjId) (at : Option Place) (job : Making) (told : Option Bytes) (live : Live) (asker : Asker) (budget : ℕ) : Type 0 where
@@ -100,7 +105,9 @@ abbrev pub CanAskNext : Option ObjId → Making → Option Bytes → Live → Ty
 CanAskNext caller job told live = (at : Option Place) × (asker : Asker) × (budget : ℕ) × CanMake caller at job told live asker budget
 
 -- THE JOB GOES ON with what is left of the course: what that ends with, the whole ends with.
-pub record MakesOn (front : FrontEnd) (caller : Option ObjId) (at : Option Place) (course : Course Reply) (job : Making) (told : Option Bytes) (programs : List RawProgram) (before : List Out) (live : Live) (asker : Asker) (budget : ℕ) (by : meaning.Asker) : Type 0 where
+pub record MakesOn (front : FrontEnd) (caller : Option ObjId) (at : Option Place) (course : Course Reply) (job : Making) (told : Option Bytes) (old : List RawProgram) (before : List Out) (live : Live) (asker : Asker) (budget : ℕ) (by : meaning.Asker) : Type 0 where
+  pub programs : List RawProgram
+  pub grown : Grows old programs
   pub state : State
   pub making : IsMaking caller at job told programs before live asker budget by state
   pub back : (e : End Reply) → Ends front (course_of job by state) e → Ends front course e

@@ -23,6 +23,7 @@ use Rattle.lp_asking.specs.Asking.{loading_of}
 use Rattle.lp_asking.specs.Endings.{plain_end}
 use Rattle.lp_reaching.specs.declared.reached.Reached.{Reached}
 use Rattle.lp_reaching.specs.Reaching.{Applies, AsksOutside, ReachesIf}
+use Rattle.lp_vm.specs.Growing.{Grows}
 use Rattle.lp_vm.specs.Going.{IsOutcome}
 
 -- What a job asks
@@ -81,7 +82,9 @@ pub record CanWork (this : ObjId) (job : Job) (told : Option Bytes) (live : Live
   pub working : IsWorking this job told programs before live stack asker budget by scene state low own
 
 -- THE WORK GOES ON with what is left of the course: what that ends with, the whole ends with.
-pub record WorksOn (front : FrontEnd) (this : ObjId) (course : Course Value) (job : Job) (told : Option Bytes) (programs : List RawProgram) (before : List Out) (live : Live) (stack : List Value) (asker : Asker) (budget : ℕ) (by : meaning.Asker) (c : Scene) (low : List Value) : Type 0 where
+pub record WorksOn (front : FrontEnd) (this : ObjId) (course : Course Value) (job : Job) (told : Option Bytes) (old : List RawProgram) (before : List Out) (live : Live) (stack : List Value) (asker : Asker) (budget : ℕ) (by : meaning.Asker) (c : Scene) (low : List Value) : Type 0 where
+  pub programs : List RawProgram
+  pub grown : Grows old programs
   pub state : State
   pub own : List Value
   pub working : IsWorking this job told programs before live stack asker budget by c state low own
