@@ -14,4 +14,7 @@ pub mod Workings
 pub mod Cycling
 pub mod Applied
 pub mod Initialised
+pub mod LoadsGrown
 pub mod Makings
+pub mod Loads
+pub mod LoadCauses

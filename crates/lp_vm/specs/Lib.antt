@@ -15,3 +15,4 @@ pub mod Applying
 pub mod Initialising
 pub mod Making
 pub mod Loading
+pub mod LoadFaults

@@ -12,6 +12,7 @@ ghost use Rattle.lp_step.specs.Steps.{KeepsVariables};
 ghost use Rattle.lp_swapfile.specs.Device.{Bytes};
 ghost use Rattle.lp_world.specs.Closed.{IsClosed};
 ghost use Rattle.lp_vm.specs.Causes.{IsReadless, Tells, read_of};
+ghost use Rattle.lp_vm.specs.LoadFaults.{load_fault};
 ghost use Rattle.lp_vm.specs.Loading.{LeadsOn, LoadBegins, answer_of};
 
 use crate::fault::VmFault;
@@ -21,11 +22,25 @@ use lp_asking::truth::Truthful;
 use lp_code::name::Name;
 use lp_loading::begin::begin;
 use lp_loading::feed::feed;
-use lp_loading::job::{Answer, Begun, Fed, Going, LoadJob, Purpose, Step, Waiting};
+use lp_loading::job::{Answer, Begun, Fed, Going, LoadFault, LoadJob, Purpose, Step, Waiting};
 use lp_loading::next::next;
 use lp_values::text::Text;
 use lp_world::live::Live;
 use std::alloc::{AllocError, Global};
+
+impl From<LoadFault> for VmFault {
+    ghost from_gives = { λ x e. e ≡ load_fault x };
+
+    fn from(e: LoadFault) -> VmFault {
+        match e {
+            LoadFault::Swap(cause) => VmFault::Swap(cause),
+            LoadFault::TooLarge => VmFault::NotYet,
+            LoadFault::NotYet => VmFault::NotYet,
+            LoadFault::NameTaken => VmFault::NotYet,
+            LoadFault::NoMemory => VmFault::NoMemory,
+        }
+    }
+}
 
 /// The code points of bytes: each byte is one.
 fn chars_of(alloc: Global, bytes: &[u8]) -> Result<Vec<char>, AllocError>
