@@ -10,16 +10,14 @@ use Rattle.lp_cells.specs.Cells.{Store}
 use Rattle.lp_code.specs.declared.program.RawProgram.{RawProgram}
 use Rattle.lp_events.specs.declared.out.Out.{Out}
 use Rattle.lp_swapfile.specs.Device.{Bytes}
-use Rattle.lp_language.specs.World.{Keeps, World}
 use Rattle.lp_language.specs.Course as course
 use Rattle.lp_language.specs.Course.{Ask, Asks, CanAnswer, Course, End, Gives, IsFaulty, IsSound, Load, Over, Plain, Reply, Spent, State, Stops, WasRead, after, end_of_reply, here, outcome_of}
-use Rattle.lp_language.proofs.Kept.{keeps_same, keeps_trans}
 use Rattle.lp_meaning.specs.Askers as meaning
 use Rattle.lp_meaning.specs.Askers.{asker_of, question, state_of}
 use Rattle.lp_meaning.specs.Closing.{Ends, Has}
 use Rattle.lp_meaning.specs.FrontEnd.{FrontEnd}
 use Rattle.lp_meaning.specs.FileLoads.{load_call, under_way}
-use Rattle.lp_meaning.specs.FunctionCalls.{callers_behind, depth_behind, place_of_asker}
+use Rattle.lp_meaning.specs.FunctionCalls.{callers_behind, depth_behind}
 use Rattle.lp_meaning.proofs.Kept.{outcomes_can_be}
 use Rattle.lp_front_end.specs.FrontEnds.{IsFrontEnd}
 use Rattle.lp_world.specs.declared.live.Live.{Live}
@@ -51,14 +49,15 @@ use Rattle.lp_loading.specs.declared.job.Waiting.{Waiting}
 use Rattle.lp_loading.specs.Going.{FedTo, HasAsked, HasMade, IsAnswerOf, IsAnswerThere, IsAt, IsEndAt, Takes, setting, state_in}
 use Rattle.lp_loading.specs.Loads.{IsUnderWay, going_course, kind_of, loads_of, waiting_course}
 use Rattle.lp_loading.specs.Present.{HasWorld}
+use Rattle.lp_loading.specs.Steps.{IsSameLoad, answer_of}
 use Rattle.lp_efuns.specs.declared.caller.Turn.{Turn}
 use Rattle.lp_efuns.specs.Turns.{command_of}
 use Rattle.lp_vm.specs.Answering.{IsSameAsker}
 use Rattle.lp_vm.specs.Going.{IsOutcome}
 use Rattle.lp_vm.specs.Growing.{Grows}
-use Rattle.lp_vm.specs.Loading.{BeginsLoad, CanLoad, CanLoadOn, CannotPay, HasLoad, IsLoading, IsPaidFor, LeadsOn, LoadContinues, LoadEnds, LoadGoesOn, Loads, LoadsOn, answer_of, goings_left, load_course}
+use Rattle.lp_vm.specs.Loading.{BeginsLoad, CanLoad, CanLoadOn, CannotPay, HasLoad, IsLoading, IsPaidFor, LeadsOn, LoadContinues, LoadEnds, LoadGoesOn, Loads, LoadsOn, load_course}
 use Rattle.lp_vm.specs.Making.{CanMake, IsBehind, IsMaking, Makes}
-use Rattle.lp_vm.proofs.LoadsGrown.{grows_none, grows_twice, place_if_stays}
+use Rattle.lp_vm.proofs.LoadsGrown.{asks_still, grows_none, grows_twice}
 use Rattle.lp_vm.proofs.Startings.{asker_too, same_asker, same_later}
 
 -- Ends, as they are in the state of who asked
@@ -112,10 +111,6 @@ at_after told programs before live1 live2 turn budget s (Stops x t) o h = record
   world = h.world;
 }
 
-keeps_after : (a : Ask) (s : State) (x : End Reply) → CanAnswer a (outcome_of x) → Keeps a.world (state_in (end_after s x)).world
-keeps_after a s (Gives r t) h = h.keeps
-keeps_after a s (Stops x t) h = h.keeps
-
 -- Turns: a stop leaves nothing to do, so that it does not matter how many are left
 
 abbrev turns_for : Answer → ℕ → ℕ → ℕ
@@ -162,14 +157,14 @@ under_still job0 job1 loads0 loads1 by name nested same h =
 
 -- who asks is behind something in a later state, ..
 behind_later : (caller : Option ObjId) (at : Option Place) (told0 told1 : Option Bytes) (old new : List RawProgram) (before : List Out) (live0 live1 : Live) (asker0 asker1 : Asker) (budget0 budget1 : ℕ) (by : meaning.Asker) (s t : State)
-    → IsBehind caller at told0 old before live0 asker0 budget0 by s → IsAt (setting told1 new before) live1 asker1.turn budget1 t → Grows old new → Keeps s.world t.world → IsSameAsker asker0 asker1 → IsBehind caller at told1 new before live1 asker1 budget1 by t
-behind_later caller at told0 told1 old new before live0 live1 asker0 asker1 budget0 budget1 by s t h i grown keeps same = record {
-  fits = record { at = i.at; world = i.world };
+    → IsBehind caller at told0 old before live0 asker0 budget0 by s → IsAt (setting told1 new before) live1 asker1.turn budget1 t → Grows old new → IsSameAsker asker0 asker1 → IsBehind caller at told1 new before live1 asker1 budget1 by t
+behind_later caller at told0 told1 old new before live0 live1 asker0 asker1 budget0 budget1 by s t h i grown same = record {
+  fits = i;
   interactive = h.interactive ∙ sym same.interactive;
   loads = h.loads ∙ ap (λ l. map loading_of (reverse l)) (sym same.loads);
   callers = h.callers ∙ ap (λ l. reverse (l ++ option_to_list caller)) (sym same.callers);
   depth = h.depth ∙ ap (λ n. n + 1) (sym same.depth);
-  place = λ u k. place_if_stays old new u at (place_of_asker u by) grown (h.place u (keeps_trans s.world t.world u keeps k));
+  place = asks_still old new at by.scene grown h.place;
 }
 
 -- ONE STEP
@@ -179,28 +174,28 @@ load_world caller at job told live asker budget h = record { programs = h.progra
 
 module _ (caller : Option ObjId) (at : Option Place) (job : LoadJob) (going : Going) (told0 told1 : Option Bytes) (live0 live1 : Live) (stack : List Value) (asker : Asker) (budget : ℕ) where
   -- It ends.
-  pub load_ended : (a : Answer) → LeadsOn (steps.Ends a) job going asker.loads.items told0 live0 told1 live1 → KeepsVariables live0.objects live1.objects → IsFit live1 stack → IsAnswerThere live1.cells a
+  pub load_ended : (a : Answer) → LeadsOn (steps.Ends a) job going asker.loads.items told0 live0 told1 live1 → KeepsVariables live0.objects live1.objects → IsFit live1 stack → CanLoadOn caller at job told0 live0 asker budget
       → LoadsOn caller at job going told0 live0 stack asker budget told1 live1 stack asker budget a
-  load_ended a leads home fit there = record {
+  load_ended a leads home fit can = record {
     loaded = λ front real programs before by s turns w.
-        let h = leads budget asker.turn front programs before by s turns real (record { at = w.behind.fits.at; world = w.behind.fits.world }) w.under w.enough in
-        record { end = h.end; ends = h.ends; programs = h.programs; grown = h.grown; at = h.is.at; answer = h.is.answer; left = refl };
+        let h = leads budget asker.turn front programs before by s turns real w.behind.fits w.under w.enough in
+        record { end = h.0.end; ends = h.0.ends; programs = h.0.programs; grown = h.0.grown; at = h.0.is.at; answer = h.0.is.answer; left = refl };
     same = same_asker asker;
     spends = le_refl budget;
     home = home;
     fit = fit;
-    there = there;
+    there = (leads budget asker.turn can.front can.programs can.before can.by can.state can.turns can.real can.loading.behind.fits can.loading.under can.loading.enough).1;
   }
 
   -- Its object was made.
   module _ (making : Making) (leads : LeadsOn (steps.Makes making) job going asker.loads.items told0 live0 told1 live1) (home : IsSome (variables_at live1.objects making.object)) where
     module _ (front : FrontEnd) (real : IsFrontEnd front) (programs : List RawProgram) (before : List Out) (by : meaning.Asker) (s : State) (turns : ℕ) (w : IsLoading caller at job told0 programs before live0 asker budget by s turns) where
-      made_by : HasMade front making (going_course turns job going by s) programs s.world told1 before live1 asker.turn budget by
-      made_by = leads budget asker.turn front programs before by s turns real (record { at = w.behind.fits.at; world = w.behind.fits.world }) w.under w.enough
+      made_by : HasMade front making (going_course turns job going by s) programs told1 before live1 asker.turn budget by
+      made_by = leads budget asker.turn front programs before by s turns real w.behind.fits w.under w.enough
 
       is_making : IsMaking caller at making told1 made_by.programs before live1 asker budget by made_by.state
       is_making = record {
-        behind = behind_later caller at told0 told1 programs made_by.programs before live0 live1 asker asker budget budget by s made_by.state w.behind made_by.at made_by.grown made_by.keeps (same_asker asker);
+        behind = behind_later caller at told0 told1 programs made_by.programs before live0 live1 asker asker budget budget by s made_by.state w.behind made_by.at made_by.grown (same_asker asker);
         parts = λ u k. parts_stay told1 made_by.programs live1 made_by.state.world u making made_by.at.world home made_by.parts k;
       }
 
@@ -234,11 +229,11 @@ module _ (caller : Option ObjId) (at : Option Place) (job : LoadJob) (going : Go
   -- It asks.
   module _ (name : List ℕ) (waiting : Waiting) (leads : LeadsOn (steps.Asks name waiting) job going asker.loads.items told0 live0 told1 live1) where
     module _ (front : FrontEnd) (real : IsFrontEnd front) (programs : List RawProgram) (before : List Out) (by : meaning.Asker) (s : State) (turns : ℕ) (w : IsLoading caller at job told0 programs before live0 asker budget by s turns) where
-      asked : HasAsked front name waiting job (going_course turns job going by s) programs s.world told1 before live1 asker.turn budget by
-      asked = leads budget asker.turn front programs before by s turns real (record { at = w.behind.fits.at; world = w.behind.fits.world }) w.under w.enough
+      asked : HasAsked front name waiting job (going_course turns job going by s) programs told1 before live1 asker.turn budget by
+      asked = leads budget asker.turn front programs before by s turns real w.behind.fits w.under w.enough
 
       asks_so : IsBehind caller at told1 asked.programs before live1 asker budget by asked.state
-      asks_so = behind_later caller at told0 told1 programs asked.programs before live0 live1 asker asker budget budget by s asked.state w.behind asked.at asked.grown asked.keeps (same_asker asker)
+      asks_so = behind_later caller at told0 told1 programs asked.programs before live0 live1 asker asker budget budget by s asked.state w.behind asked.at asked.grown (same_asker asker)
 
       abbrev the_ask : Ask
       the_ask = question (Load name course.Inherited) [] by asked.state
@@ -269,18 +264,15 @@ module _ (caller : Option ObjId) (at : Option Place) (job : LoadJob) (going : Go
             let same = same_waiting inner.programs r asked.turns budget2 job waiting by end is_end.answer in
             asked.ends x (asks_ends front the_ask (λ o. waiting_course asked.turns job waiting by (end_of_reply o.answer (after asked.state o))) (outcome_of inner.end) x has can_be (subst (λ k. Ends front k x) (sym is ∙ same) h))
 
-        taken : (f : Fed) (job3 : LoadJob) → ((ls : List Loading) (told : Option Bytes) (turn : Turn) (b : ℕ) → Takes f job waiting r ls told live2 told job3 live2 turn b) → FedTo front f job waiting turns_then by end told2 inner.programs before job3 live2 asker2.turn budget2
-        taken f job3 takes = takes asker.loads.items told2 asker2.turn budget2 front inner.programs before by turns_then end is_end w.under (turns_enough r asked.turns budget budget2 asked.enough loads.paid)
+        taken : (f : Fed) (job3 : LoadJob) → ((told : Option Bytes) (turn : Turn) (b : ℕ) → Takes f job waiting r told live2 job3 turn b) → FedTo front f job waiting turns_then by end told2 inner.programs before job3 live2 asker2.turn budget2
+        taken f job3 takes = takes told2 asker2.turn budget2 front inner.programs before by turns_then end is_end (turns_enough r asked.turns budget budget2 asked.enough loads.paid)
 
         grew : Grows programs inner.programs
         grew = grows_twice programs asked.programs inner.programs asked.grown inner.grown
 
-        kept : Keeps s.world (state_in end).world
-        kept = keeps_trans s.world asked.state.world (state_in end).world asked.keeps (keeps_after the_ask asked.state inner.end can_be)
-
-        goes_on : (next : Going) (job3 : LoadJob) → ((ls : List Loading) (told : Option Bytes) (turn : Turn) (b : ℕ) → Takes (fed.Goes next) job waiting r ls told live2 told job3 live2 turn b) → job3.name ≡ job.name → job3.nested ≡ job.nested
+        goes_on : (next : Going) (job3 : LoadJob) → ((told : Option Bytes) (turn : Turn) (b : ℕ) → Takes (fed.Goes next) job waiting r told live2 job3 turn b) → IsSameLoad job job3
             → LoadGoesOn front caller at (going_course turns job going by s) job3 next told2 programs before live2 asker2 budget2 by
-        goes_on next job3 takes same nested =
+        goes_on next job3 takes same =
             let k = taken (fed.Goes next) job3 takes in
             record {
               programs = inner.programs;
@@ -288,14 +280,14 @@ module _ (caller : Option ObjId) (at : Option Place) (job : LoadJob) (going : Go
               state = state_in end;
               turns = k.1.left;
               loading = record {
-                behind = behind_later caller at told0 told2 programs inner.programs before live0 live2 asker asker2 budget budget2 by s (state_in end) w.behind k.0 grew kept loads.same;
-                under = under_still job job3 asker.loads.items asker2.loads.items by same nested loads.same.loads w.under;
+                behind = behind_later caller at told0 told2 programs inner.programs before live0 live2 asker asker2 budget budget2 by s (state_in end) w.behind k.0 grew loads.same;
+                under = under_still job job3 asker.loads.items asker2.loads.items by (ap (λ (j : LoadJob). j.name) same) (ap (λ (j : LoadJob). j.nested) same) loads.same.loads w.under;
                 enough = k.1.enough;
               };
               back = λ x l. back_by (going_course k.1.left job3 next by (state_in end)) x k.1.course l;
             }
 
-        ends : (a : Answer) (job3 : LoadJob) → ((ls : List Loading) (told : Option Bytes) (turn : Turn) (b : ℕ) → Takes (fed.Ends a) job waiting r ls told live2 told job3 live2 turn b) → LoadEnds front (going_course turns job going by s) told2 programs before live2 stack2 stack asker2 budget2 a
+        ends : (a : Answer) (job3 : LoadJob) → ((told : Option Bytes) (turn : Turn) (b : ℕ) → Takes (fed.Ends a) job waiting r told live2 job3 turn b) → LoadEnds front (going_course turns job going by s) told2 programs before live2 stack2 stack asker2 budget2 a
         ends a job3 takes =
             let k = taken (fed.Ends a) job3 takes in
             record {
@@ -318,12 +310,12 @@ module _ (caller : Option ObjId) (at : Option Place) (job : LoadJob) (going : Go
       load_lies h = (inner h.front h.real h.programs h.before h.by h.state h.turns h.loading told2 live2 stack2 asker2 budget2 r loads).left
 
       -- It goes on with the answer, ..
-      pub load_goes : (next : Going) (job3 : LoadJob) → ((ls : List Loading) (told : Option Bytes) (turn : Turn) (b : ℕ) → Takes (fed.Goes next) job waiting r ls told live2 told job3 live2 turn b) → job3.name ≡ job.name → job3.nested ≡ job.nested
+      pub load_goes : (next : Going) (job3 : LoadJob) → ((told : Option Bytes) (turn : Turn) (b : ℕ) → Takes (fed.Goes next) job waiting r told live2 job3 turn b) → IsSameLoad job job3
           → LoadContinues caller at job going told0 live0 asker budget job3 next told2 live2 asker2 budget2
-      load_goes next job3 takes same nested front real programs before by s turns w = goes_on front real programs before by s turns w told2 live2 stack2 asker2 budget2 r loads next job3 takes same nested
+      load_goes next job3 takes same front real programs before by s turns w = goes_on front real programs before by s turns w told2 live2 stack2 asker2 budget2 r loads next job3 takes same
 
       -- .. with less of the budget, ..
-      pub load_paid : (job3 : LoadJob) → CanLoadOn caller at job told0 live0 asker budget → ((ls : List Loading) (told : Option Bytes) (turn : Turn) (b : ℕ) → Takes (fed.Goes goings.Read) job waiting r ls told live2 told job3 live2 turn b) → budget2 + 1000 ≤ budget
+      pub load_paid : (job3 : LoadJob) → CanLoadOn caller at job told0 live0 asker budget → ((told : Option Bytes) (turn : Turn) (b : ℕ) → Takes (fed.Goes goings.Read) job waiting r told live2 job3 turn b) → budget2 + 1000 ≤ budget
       load_paid job3 h takes =
           let x = inner h.front h.real h.programs h.before h.by h.state h.turns h.loading told2 live2 stack2 asker2 budget2 r loads in
           let e = end h.front h.real h.programs h.before h.by h.state h.turns h.loading told2 live2 stack2 asker2 budget2 r loads in
@@ -332,7 +324,7 @@ module _ (caller : Option ObjId) (at : Option Place) (job : LoadJob) (going : Go
           (is_end h.front h.real h.programs h.before h.by h.state h.turns h.loading told2 live2 stack2 asker2 budget2 r loads).answer loads.paid k.1.enough k.1.course
 
       -- .. or ends.
-      pub load_ends : (a : Answer) (job3 : LoadJob) → ((ls : List Loading) (told : Option Bytes) (turn : Turn) (b : ℕ) → Takes (fed.Ends a) job waiting r ls told live2 told job3 live2 turn b) → KeepsVariables live0.objects live1.objects → IsAnswerThere live2.cells a
+      pub load_ends : (a : Answer) (job3 : LoadJob) → ((told : Option Bytes) (turn : Turn) (b : ℕ) → Takes (fed.Ends a) job waiting r told live2 job3 turn b) → KeepsVariables live0.objects live1.objects → IsAnswerThere live2.cells a
           → LoadsOn caller at job going told0 live0 stack asker budget told2 live2 stack2 asker2 budget2 a
       load_ends a job3 takes keeps there = record {
         loaded = λ front real programs before by s turns w. ends front real programs before by s turns w told2 live2 stack2 asker2 budget2 r loads a job3 takes;

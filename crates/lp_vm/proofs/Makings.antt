@@ -11,7 +11,7 @@ use Rattle.lp_cells.specs.Cells.{IsThere, Store}
 use Rattle.lp_code.specs.declared.program.RawProgram.{RawProgram}
 use Rattle.lp_events.specs.declared.out.Out.{Out}
 use Rattle.lp_swapfile.specs.Device.{Bytes}
-use Rattle.lp_language.specs.World.{Keeps, World}
+use Rattle.lp_language.specs.World.{Keeps}
 use Rattle.lp_language.specs.Course as course
 use Rattle.lp_language.specs.Course.{Answer, Ask, Asked, Asks, CanAnswer, Course, End, Gives, Initialise, Outcome, Over, Plain, Reply, Returned, State, Stops, after, end_of_answer, end_of_outcome, outcome_of, zero_value}
 use Rattle.lp_language.proofs.Kept.{keeps_same, keeps_trans}
@@ -20,7 +20,7 @@ use Rattle.lp_meaning.specs.Askers.{question}
 use Rattle.lp_meaning.specs.Closing.{Ends}
 use Rattle.lp_meaning.specs.FrontEnd.{FrontEnd}
 use Rattle.lp_meaning.specs.FileLoads.{begun_end, logged_cause}
-use Rattle.lp_meaning.specs.FunctionCalls.{callers_behind, place_of_asker}
+use Rattle.lp_meaning.specs.FunctionCalls.{callers_behind}
 use Rattle.lp_meaning.proofs.Kept.{outcomes_can_be}
 use Rattle.lp_front_end.specs.FrontEnds.{IsFrontEnd}
 use Rattle.lp_world.specs.declared.live.Live.{Live}
@@ -47,17 +47,17 @@ use Rattle.lp_beginning.specs.declared.job.Question.{Question}
 use Rattle.lp_beginning.specs.declared.job.Question.TheVariants as questions
 use Rattle.lp_beginning.specs.Beginning.{Fits, IsInitialised}
 use Rattle.lp_beginning.specs.Ends.{IsReplyEnd, IsValueEnd, state_at}
-use Rattle.lp_beginning.specs.Feeding.{AsksNext, EndsWith, Feeds, GoesOn, IsAskerAt, IsLater}
+use Rattle.lp_beginning.specs.Feeding.{AsksNext, EndsWith, Feeds, GoesOn, IsLater}
 use Rattle.lp_beginning.specs.Jobs.{asked_of, course_of, kind_of, made_from, next_of, parts_left, rest_from, rest_of}
 use Rattle.lp_vm.specs.declared.request.Request.TheVariants as requests
 use Rattle.lp_vm.specs.Answering.{Answered, CanServe, IsAsked, IsSameAsker, Serves}
 use Rattle.lp_vm.specs.Cycle.{Answers}
 use Rattle.lp_vm.specs.Going.{IsOutcome}
 use Rattle.lp_vm.specs.Growing.{Grows}
-use Rattle.lp_vm.specs.Making.{CanAskNext, CanMake, CanReachFor, IsAskedFor, IsMaking, MakeAsks, MakeContinues, Makes, MakesOn, StandsForOne, object_for}
+use Rattle.lp_vm.specs.Making.{AsksAt, CanAskNext, CanMake, CanReachFor, IsAskedFor, IsMaking, MakeAsks, MakeContinues, Makes, MakesOn, StandsForOne, object_for}
 use Rattle.lp_vm.proofs.Answered.{setting}
 use Rattle.lp_vm.proofs.Carried.{some_at}
-use Rattle.lp_vm.proofs.LoadsGrown.{grows_none, grows_twice, outcome_before, place_if_stays}
+use Rattle.lp_vm.proofs.LoadsGrown.{asker_there, asks_still, grows_none, grows_twice, outcome_before}
 use Rattle.lp_vm.proofs.Startings.{same_later}
 use Rattle.lp_vm.proofs.Turning.{world_reached}
 
@@ -309,8 +309,8 @@ module _ (caller : Option ObjId) (at : Option Place) (job : Making) (told0 told1
       kept = subst (λ (x : State). Keeps s.world x.world) (sym state_is) can_be.keeps
 
       -- who asks is at its place still
-      place_then : (u : World) → Keeps s.world u → IsAskerAt grew u at by
-      place_then u k = place_if_stays programs grew u at (place_of_asker u by) sv.is.grown (w.behind.place u k)
+      place_then : AsksAt grew at by.scene
+      place_then = asks_still programs grew at by.scene sv.is.grown w.behind.place
 
       -- what follows the outcome, the whole course ends with
       back_by : (c : Course Reply) (x : End Reply) → rest_of job by end ≡ c → Ends front c x → Ends front (course_of job by s) x
@@ -333,7 +333,7 @@ module _ (caller : Option ObjId) (at : Option Place) (job : Making) (told0 told1
                 loads = w.behind.loads ∙ ap (λ l. map loading_of (reverse l)) (sym answers.same.loads);
                 callers = w.behind.callers ∙ ap (λ l. reverse (l ++ option_to_list caller)) (sym answers.same.callers);
                 depth = w.behind.depth ∙ ap (λ n. n + 1) (sym answers.same.depth);
-                place = λ u k. place_then u (keeps_trans s.world (state_at end).world u kept k);
+                place = place_then;
               };
               parts = λ u k.
                   subst (λ o. All (IsInitialised u o) (parts_left job3)) (sym later.object)
@@ -345,12 +345,12 @@ module _ (caller : Option ObjId) (at : Option Place) (job : Making) (told0 told1
       -- or it ends
       ended : (d : Ending) (live3 : Live) → EndsWith job e at d told2 live2 live3 → Answered front (course_of job by s) told2 programs before live3 stack2 stack asker2 budget2 d
       ended d live3 ends =
-          let x = ends (setting told2 grew before) by asker2.turn budget2 end refl fits_end ends_so (place_then (state_at end).world kept) in
+          let x = ends (setting told2 grew before) by asker2.turn budget2 end refl fits_end ends_so (asker_there grew (state_at end).world at by place_then) in
           record { end = x.end; ends = back_by (Over x.end) x.end x.over (over_ends front x.end); is = fit_outcome told2 programs grew before live3 asker2 budget2 d x.end sv.is.grown x.fits x.is; left = sv.left }
 
       ended_there : (d : Ending) (live3 : Live) → EndsWith job e at d told2 live2 live3 → IsEndingThere live2.cells d
       ended_there d live3 ends =
-          let x = ends (setting told2 grew before) by asker2.turn budget2 end refl fits_end ends_so (place_then (state_at end).world kept) in
+          let x = ends (setting told2 grew before) by asker2.turn budget2 end refl fits_end ends_so (asker_there grew (state_at end).world at by place_then) in
           rest_ends grew live2.cells job.kind job.object (parts_left job) by end x.end d e x.over x.is ends_so answers.there
 
   -- The answer can be given, ..

@@ -16,8 +16,6 @@ use Rattle.lp_front_end.specs.FrontEnds.{IsFrontEnd}
 use Rattle.lp_world.specs.declared.live.Live.{Live}
 use Rattle.lp_step.specs.Steps.{IsFit, KeepsVariables}
 use Rattle.lp_asking.specs.declared.asker.Asker.{Asker}
-use Rattle.lp_asking.specs.declared.ending.Ending.{Ending}
-use Rattle.lp_asking.specs.declared.ending.Ending.TheVariants as endings
 use Rattle.lp_asking.specs.declared.ending.Place.{Place}
 use Rattle.lp_loading.specs.declared.job.Answer.{Answer}
 use Rattle.lp_loading.specs.declared.job.Answer.TheVariants as answers
@@ -162,13 +160,3 @@ pub record LoadsOn (caller : Option ObjId) (at : Option Place) (job : LoadJob) (
   pub home : KeepsVariables live0.objects live1.objects
   pub fit : IsFit live1 stack1
   pub there : IsAnswerThere live1.cells r
-
--- how often it goes on before its file is read
-abbrev pub goings_left : Going → ℕ
-goings_left goings.Simul = 1
-goings_left goings.Read = 0
-
--- how the job of its object ends is its answer
-abbrev pub answer_of : Ending → Answer
-answer_of (endings.Value v) = answers.Value v
-answer_of (endings.Stopped stop) = answers.Stopped stop

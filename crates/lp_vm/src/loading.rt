@@ -6,14 +6,15 @@ ghost use Rattle.lp_cells.specs.Cells.{Store};
 ghost use Rattle.lp_asking.specs.Endings.{IsEndingThere};
 ghost use Rattle.lp_efuns.specs.declared.caller.Turn.{Turn};
 ghost use Rattle.lp_loading.specs.declared.job.Answer.TheVariants as answers;
-ghost use Rattle.lp_loading.specs.Going.{IsAnswerThere, IsFedThere, IsReadNext, IsStepHome, IsStepThere, Takes};
+ghost use Rattle.lp_loading.specs.Going.{IsAnswerThere, Takes};
+ghost use Rattle.lp_loading.specs.Steps.{EndsThere, GoesReading, IsSameLoad, MakesHome, answer_of};
 ghost use Rattle.lp_loading.specs.Present.{HasWorld};
 ghost use Rattle.lp_step.specs.Steps.{KeepsVariables};
 ghost use Rattle.lp_swapfile.specs.Device.{Bytes};
 ghost use Rattle.lp_world.specs.Closed.{IsClosed};
 ghost use Rattle.lp_vm.specs.Causes.{IsReadless, Tells, read_of};
 ghost use Rattle.lp_vm.specs.LoadFaults.{load_fault};
-ghost use Rattle.lp_vm.specs.Loading.{LeadsOn, LoadBegins, answer_of};
+ghost use Rattle.lp_vm.specs.Loading.{LeadsOn, LoadBegins};
 
 use crate::fault::VmFault;
 use lp_asking::asker::{Asker, Loading};
@@ -129,8 +130,7 @@ pub fn step_load<W: Truthful>(
     requires world { HasWorld (W.content swap.old) live.old }
     requires ascii { IsAscii job.now.name }
     ensures leads { IfOk result (λ r. LeadsOn r job.now going asker.now.loads.items (W.content swap.old) live.old (W.content swap.new) live.new) }
-    ensures made { IfOk result (λ r. IsStepHome live.new.objects r) }
-    ensures there { IfOk result (λ r. IsStepThere live.new.cells r) }
+    ensures made { IfOk result (MakesHome live.new.objects) }
     ensures closed { IsClosed live.new }
     ensures cells { live.new.cells ≡ live.old.cells }
     ensures home { KeepsVariables live.old.objects live.new.objects }
@@ -151,11 +151,10 @@ pub fn feed_load(
     answer: Answer,
 ) -> Result<Fed, VmFault>
     requires ascii { IsAscii job.old.name }
-    ensures takes { IfOk result (λ r. (loads : List L) (told : Option Bytes) (turn : Turn) (budget : ℕ) → Takes r job.old waiting answer loads told live.now told job.new live.now turn budget) }
-    ensures read { IfOk result IsReadNext }
-    ensures there { IfOk result (λ r. (cells : Store) → IsAnswerThere cells answer → IsFedThere cells r) }
-    ensures name { job.new.name ≡ job.old.name }
-    ensures nested { job.new.nested ≡ job.old.nested }
+    ensures takes { IfOk result (λ r. (told : Option Bytes) (turn : Turn) (budget : ℕ) → Takes r job.old waiting answer told live.now job.new turn budget) }
+    ensures same { IsSameLoad job.old job.new }
+    ensures reads { IfOk result GoesReading }
+    ensures there { IfOk result (λ r. (cells : Store) → IsAnswerThere cells answer → EndsThere cells r) }
     ensures fault { IfErr result IsReadless }
 {
     Ok(feed(job, live, waiting, answer)?)
