@@ -1,5 +1,6 @@
 pub mod Causing
 pub mod Carried
+pub mod Grown
 pub mod Doing
 pub mod Beginnings
 pub mod Enterings

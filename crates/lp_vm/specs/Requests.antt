@@ -7,6 +7,7 @@ use Rattle.lp_language.specs.World.{Keeps, World}
 use Rattle.lp_language.specs.Course.{Ask, OfEfun, Scene}
 use Rattle.lp_meaning.specs.Askers.{asker_of}
 use Rattle.lp_meaning.specs.FunctionCalls.{place_of_asker}
+use Rattle.lp_world.specs.declared.frame.Frame.{Frame}
 use Rattle.lp_world.specs.declared.live.Live.{Live}
 use Rattle.lp_targets.specs.Callees.{IsWorldOf}
 use Rattle.lp_asking.specs.declared.asker.Asker.{Asker}
@@ -15,6 +16,10 @@ use Rattle.lp_asking.specs.Endings.{IsPlaceIf}
 use Rattle.lp_reaching.specs.Reaching.{IsInMemory, ReachesIf}
 use Rattle.lp_vm.specs.declared.request.Request.{Request}
 use Rattle.lp_vm.specs.declared.request.Request.TheVariants as requests
+
+-- where the function of a frame stands
+abbrev pub place_in : Frame → Place
+place_in f = record { this = f.this; program = f.program; fun = f.fun }
 
 -- The function at a place calls an efun. What was handed down to the function is what who asks has; and it is at that place in
 -- each world to which this leads.

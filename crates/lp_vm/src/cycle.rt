@@ -29,7 +29,6 @@ use lp_calling::job::Job;
 use lp_instr::efun::Efun;
 use lp_loading::job::{Answer, Begun, Fed, Going, LoadJob, Purpose, Step};
 use lp_reaching::reached::Reached;
-use lp_values::id::ObjId;
 use lp_values::value::Value;
 use lp_world::frame::Frame;
 use lp_world::live::Live;
@@ -66,7 +65,7 @@ pub fn answer<W: Truthful>(
     }
 }
 
-/// A job of an efun that a function of this object called goes on to its end.
+/// A job of an efun that the function at a place called goes on to its end.
 #[cycle(calls)]
 fn work<W: Truthful>(
     alloc: Global,
@@ -74,20 +73,20 @@ fn work<W: Truthful>(
     swap: &mut W,
     stack: &mut Vec<Value>,
     asker: &mut Asker,
-    this: ObjId,
+    at: Place,
     mut job: Job,
     budget: &mut u64,
 ) -> Result<Ending, VmFault>
     requires on { IsJobOn job stack.old.items }
     requires ready { IsReady live.old.objects job }
     requires fit { IsFit live.old stack.old.items }
-    requires can { CanWork this job (W.content swap.old) live.old stack.old.items asker.old budget.old }
-    ensures works { IfOk result (λ e. Works this job (W.content swap.old) live.old stack.old.items asker.old budget.old (W.content swap.new) live.new stack.new.items asker.new budget.new e) }
+    requires can { CanWork at job (W.content swap.old) live.old stack.old.items asker.old budget.old }
+    ensures works { IfOk result (λ e. Works at job (W.content swap.old) live.old stack.old.items asker.old budget.old (W.content swap.new) live.new stack.new.items asker.new budget.new e) }
     ensures tells { Tells (W.content swap.new) (W.last swap.new) (W.read_faults swap.old) (W.read_faults swap.new) (W.write_faults swap.old) (W.write_faults swap.new)
         (W.is_truthful swap.old) (W.is_truthful swap.new) (W.is_honest swap.old) (W.is_honest swap.new) live.new (read_of result) }
 {
     'questions: loop {
-        match step_job(live, swap, stack, asker, this, &mut job, budget)? {
+        match step_job(live, swap, stack, asker, at, &mut job, budget)? {
             Stepped::Ended(ending) => return Ok(ending),
             Stepped::Asks(reached, args) => {
                 let ending = answer(alloc, live, swap, stack, asker, reached, args, budget)?;
@@ -99,7 +98,7 @@ fn work<W: Truthful>(
     }
 }
 
-/// An efun that a function of this object calls is carried out, with so many arguments on top of the stack, which are taken.
+/// An efun that the function at a place calls is carried out, with so many arguments on top of the stack, which are taken.
 #[cycle(calls)]
 fn call_efun<W: Truthful>(
     alloc: Global,
@@ -107,20 +106,20 @@ fn call_efun<W: Truthful>(
     swap: &mut W,
     stack: &mut Vec<Value>,
     asker: &mut Asker,
-    this: ObjId,
+    at: Place,
     efun: Efun,
     args: u32,
     budget: &mut u64,
 ) -> Result<Ending, VmFault>
     requires fit { IsFit live.old stack.old.items }
-    requires can { CanServe (W.content swap.old) live.old stack.old.items asker.old budget.old (requests.Efun this efun) args }
-    ensures answers { IfOk result (λ e. Answers (requests.Efun this efun) args (W.content swap.old) live.old stack.old.items asker.old budget.old (W.content swap.new) live.new stack.new.items asker.new budget.new e) }
+    requires can { CanServe (W.content swap.old) live.old stack.old.items asker.old budget.old (requests.Efun at efun) args }
+    ensures answers { IfOk result (λ e. Answers (requests.Efun at efun) args (W.content swap.old) live.old stack.old.items asker.old budget.old (W.content swap.new) live.new stack.new.items asker.new budget.new e) }
     ensures tells { Tells (W.content swap.new) (W.last swap.new) (W.read_faults swap.old) (W.read_faults swap.new) (W.write_faults swap.old) (W.write_faults swap.new)
         (W.is_truthful swap.old) (W.is_truthful swap.new) (W.is_honest swap.old) (W.is_honest swap.new) live.new (read_of result) }
 {
-    match begin_efun(live, stack, asker, this, efun, args, budget)? {
+    match begin_efun(live, stack, asker, at, efun, args, budget)? {
         EfunBegun::Answered(ending) => Ok(ending),
-        EfunBegun::Works(job) => work(alloc, live, swap, stack, asker, this, job, budget),
+        EfunBegun::Works(job) => work(alloc, live, swap, stack, asker, at, job, budget),
     }
 }
 
@@ -146,8 +145,8 @@ fn serve<W: Truthful>(
         Request::Function(reached) => answer(
             alloc, live, swap, stack, asker, reached, args, budget,
         ),
-        Request::Efun(this, efun) => call_efun(
-            alloc, live, swap, stack, asker, this, efun, args, budget,
+        Request::Efun(at, efun) => call_efun(
+            alloc, live, swap, stack, asker, at, efun, args, budget,
         ),
     }
 }

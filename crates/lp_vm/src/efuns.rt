@@ -15,7 +15,7 @@ ghost use Rattle.lp_vm.specs.Efuns.{IsNotYet, StartsEfun, ending_of, is_ending};
 
 use crate::fault::VmFault;
 use lp_asking::asker::Asker;
-use lp_asking::ending::{Cause, Ending, Stop};
+use lp_asking::ending::{Cause, Ending, Place, Stop};
 use lp_asking::resume::drop_top;
 use lp_calling::begin::{begin, is_calling};
 use lp_calling::job::{Begun, Job};
@@ -24,7 +24,6 @@ use lp_efuns::answer::Answer;
 use lp_efuns::caller::Caller;
 use lp_efuns::plain::{call_plain, is_plain};
 use lp_instr::efun::Efun;
-use lp_values::id::ObjId;
 use lp_values::value::Value;
 use lp_world::live::Live;
 
@@ -71,19 +70,19 @@ fn plain(
     live: &mut Live,
     stack: &mut Vec<Value>,
     asker: &mut Asker,
-    this: ObjId,
+    at: Place,
     efun: Efun,
     args: u32,
     budget: &mut u64,
 ) -> Result<EfunBegun, VmFault>
     requires plain { is_plain efun ≡ true }
     requires fit { IsFit live.old stack.old.items }
-    requires can { CanStart live.old stack.old.items asker.old budget.old (requests.Efun this efun) args }
-    ensures starts { IfOk result (λ r. StartsEfun r this efun args live.old stack.old.items asker.old budget.old live.new stack.new.items asker.new budget.new) }
+    requires can { CanStart live.old stack.old.items asker.old budget.old (requests.Efun at efun) args }
+    ensures starts { IfOk result (λ r. StartsEfun r at efun args live.old stack.old.items asker.old budget.old live.new stack.new.items asker.new budget.new) }
     ensures fault { IfErr result (λ f. f ≡ NoMemory) }
 {
     let caller = Caller {
-        this,
+        this: at.this,
         interactive: asker.interactive,
         callers: asker.callers.as_slice(),
     };
@@ -104,20 +103,20 @@ fn calling(
     live: &Live,
     stack: &mut Vec<Value>,
     asker: &Asker,
-    this: ObjId,
+    at: Place,
     efun: Efun,
     args: u32,
     budget: &mut u64,
 ) -> Result<EfunBegun, VmFault>
     requires calling { is_calling efun ≡ true }
     requires fit { IsFit live.now stack.old.items }
-    requires can { CanStart live.now stack.old.items asker.now budget.old (requests.Efun this efun) args }
-    ensures starts { IfOk result (λ r. StartsEfun r this efun args live.now stack.old.items asker.now budget.old live.now stack.new.items asker.now budget.new) }
+    requires can { CanStart live.now stack.old.items asker.now budget.old (requests.Efun at efun) args }
+    ensures starts { IfOk result (λ r. StartsEfun r at efun args live.now stack.old.items asker.now budget.old live.now stack.new.items asker.now budget.new) }
     ensures fault { IfErr result IsReadless }
     ensures yet { IfErr result (λ f. f ≡ NotYet → NeedsLoad live.now efun (drop (length stack.old.items - args) stack.old.items)) }
 {
     let caller = Caller {
-        this,
+        this: at.this,
         interactive: asker.interactive,
         callers: asker.callers.as_slice(),
     };
@@ -132,17 +131,17 @@ fn destructing(
     live: &mut Live,
     stack: &mut Vec<Value>,
     asker: &Asker,
-    this: ObjId,
+    at: Place,
     args: u32,
     budget: &mut u64,
 ) -> Result<EfunBegun, VmFault>
     requires fit { IsFit live.old stack.old.items }
-    requires can { CanStart live.old stack.old.items asker.now budget.old (requests.Efun this Efun.Destruct) args }
-    ensures starts { IfOk result (λ r. StartsEfun r this Efun.Destruct args live.old stack.old.items asker.now budget.old live.new stack.new.items asker.now budget.new) }
+    requires can { CanStart live.old stack.old.items asker.now budget.old (requests.Efun at Efun.Destruct) args }
+    ensures starts { IfOk result (λ r. StartsEfun r at Efun.Destruct args live.old stack.old.items asker.now budget.old live.new stack.new.items asker.now budget.new) }
     ensures fault { IfErr result (λ f. f ≡ NoMemory) }
 {
     let caller = Caller {
-        this,
+        this: at.this,
         interactive: asker.interactive,
         callers: asker.callers.as_slice(),
     };
@@ -159,24 +158,24 @@ fn ending(
     live: &mut Live,
     stack: &mut Vec<Value>,
     asker: &Asker,
-    this: ObjId,
+    at: Place,
     efun: Efun,
     args: u32,
     budget: &mut u64,
 ) -> Result<EfunBegun, VmFault>
     requires fit { IsFit live.old stack.old.items }
-    requires can { CanStart live.old stack.old.items asker.now budget.old (requests.Efun this efun) args }
-    ensures starts { IfOk result (λ r. StartsEfun r this efun args live.old stack.old.items asker.now budget.old live.new stack.new.items asker.now budget.new) }
+    requires can { CanStart live.old stack.old.items asker.now budget.old (requests.Efun at efun) args }
+    ensures starts { IfOk result (λ r. StartsEfun r at efun args live.old stack.old.items asker.now budget.old live.new stack.new.items asker.now budget.new) }
     ensures fault { IfErr result IsReadless }
     ensures yet { IfErr result (λ f. f ≡ NotYet → is_ending efun ≡ false) }
 {
     match efun {
-        Efun::Destruct => destructing(live, stack, asker, this, args, budget),
+        Efun::Destruct => destructing(live, stack, asker, at, args, budget),
         _ => Err(VmFault::NotYet),
     }
 }
 
-/// An efun begins that a function of this object calls, with so many arguments on top of the stack, which are taken: it is
+/// An efun begins that the function at a place calls, with so many arguments on top of the stack, which are taken: it is
 /// answered, or goes on as a job.
 ///
 /// # Errors
@@ -185,22 +184,22 @@ pub fn begin_efun(
     live: &mut Live,
     stack: &mut Vec<Value>,
     asker: &mut Asker,
-    this: ObjId,
+    at: Place,
     efun: Efun,
     args: u32,
     budget: &mut u64,
 ) -> Result<EfunBegun, VmFault>
     requires fit { IsFit live.old stack.old.items }
-    requires can { CanStart live.old stack.old.items asker.old budget.old (requests.Efun this efun) args }
-    ensures starts { IfOk result (λ r. StartsEfun r this efun args live.old stack.old.items asker.old budget.old live.new stack.new.items asker.new budget.new) }
+    requires can { CanStart live.old stack.old.items asker.old budget.old (requests.Efun at efun) args }
+    ensures starts { IfOk result (λ r. StartsEfun r at efun args live.old stack.old.items asker.old budget.old live.new stack.new.items asker.new budget.new) }
     ensures fault { IfErr result IsReadless }
     ensures yet { IfErr result (λ f. f ≡ NotYet → IsNotYet live.old efun (drop (length stack.old.items - args) stack.old.items)) }
 {
     if is_plain(efun) {
-        return plain(live, stack, asker, this, efun, args, budget);
+        return plain(live, stack, asker, at, efun, args, budget);
     }
     if is_calling(efun) {
-        return calling(live, stack, asker, this, efun, args, budget);
+        return calling(live, stack, asker, at, efun, args, budget);
     }
-    ending(live, stack, asker, this, efun, args, budget)
+    ending(live, stack, asker, at, efun, args, budget)
 }

@@ -12,13 +12,12 @@ use crate::asking::reach;
 use crate::efuns::ending_of;
 use crate::fault::VmFault;
 use lp_asking::asker::Asker;
-use lp_asking::ending::Ending;
+use lp_asking::ending::{Ending, Place};
 use lp_asking::truth::Truthful;
 use lp_calling::feed::feed;
 use lp_calling::job::{Job, Step};
 use lp_calling::next::{next, stop};
 use lp_reaching::reached::Reached;
-use lp_values::id::ObjId;
 use lp_values::value::Value;
 use lp_world::live::Live;
 
@@ -45,7 +44,7 @@ fn count_of(n: usize) -> Result<u32, VmFault>
     }
 }
 
-/// A job goes on until it asks or ends. A function of this object called its efun.
+/// A job goes on until it asks or ends. The function at this place called its efun.
 ///
 /// # Errors
 /// `NoMemory`, `Swap` and `NotYet` as those of what it asks.
@@ -54,15 +53,15 @@ pub fn step_job<W: Truthful>(
     swap: &mut W,
     stack: &mut Vec<Value>,
     asker: &Asker,
-    this: ObjId,
+    at: Place,
     job: &mut Job,
     budget: &mut u64,
 ) -> Result<Stepped, VmFault>
     requires on { IsJobOn job.old stack.old.items }
     requires ready { IsReady live.old.objects job.old }
     requires fit { IsFit live.old stack.old.items }
-    requires can { CanWork this job.old (W.content swap.old) live.old stack.old.items asker.now budget.old }
-    ensures steps { IfOk result (λ r. StepsTo r this job.old (W.content swap.old) live.old stack.old.items asker.now budget.old job.new (W.content swap.new) live.new stack.new.items budget.new) }
+    requires can { CanWork at job.old (W.content swap.old) live.old stack.old.items asker.now budget.old }
+    ensures steps { IfOk result (λ r. StepsTo r at job.old (W.content swap.old) live.old stack.old.items asker.now budget.old job.new (W.content swap.new) live.new stack.new.items budget.new) }
     ensures tells { Tells (W.content swap.new) (W.last swap.new) (W.read_faults swap.old) (W.read_faults swap.new) (W.write_faults swap.old) (W.write_faults swap.new)
         (W.is_truthful swap.old) (W.is_truthful swap.new) (W.is_honest swap.old) (W.is_honest swap.new) live.new (read_of result) }
 {
@@ -70,7 +69,7 @@ pub fn step_job<W: Truthful>(
         Step::Ends(answer) => Ok(Stepped::Ended(ending_of(answer))),
         Step::Asks(question, n) => {
             let args = count_of(n)?;
-            let reached = reach(live, swap, this, &question)?;
+            let reached = reach(live, swap, at.this, &question)?;
             Ok(Stepped::Asks(reached, args))
         }
     }

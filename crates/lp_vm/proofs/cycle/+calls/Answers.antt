@@ -109,19 +109,19 @@ call_efun-begin_efun-requires-clause-can g t c = (g.W.SwapFile.content c.args.sw
 
 pub call_efun-returns-in-Answered-clause-answers : goal.call_efun-returns-in-Answered-clause-answers
 call_efun-returns-in-Answered-clause-answers g t c =
-    subst (λ r. StartsEfun r c.args.this c.args.efun c.args.args c.args.live.now c.args.stack.now.items c.args.asker.now c.args.budget.now c.begin_efun.new.live c.begin_efun.new.stack.items c.begin_efun.new.asker c.begin_efun.new.budget) c.in-Answered.is c.in_ok-ending.ensures.starts (g.W.SwapFile.content c.args.swap.now)
+    subst (λ r. StartsEfun r c.args.at c.args.efun c.args.args c.args.live.now c.args.stack.now.items c.args.asker.now c.args.budget.now c.begin_efun.new.live c.begin_efun.new.stack.items c.begin_efun.new.asker c.begin_efun.new.budget) c.in-Answered.is c.in_ok-ending.ensures.starts (g.W.SwapFile.content c.args.swap.now)
 
 pub call_efun-work-requires : goal.call_efun-work-requires
 call_efun-work-requires g t c =
-    let h : HasBegunEfun c.args.this c.args.efun c.args.args c.args.live.now c.args.stack.now.items c.args.asker.now c.args.budget.now c.in-Works.job c.begin_efun.new.live c.begin_efun.new.stack.items c.begin_efun.new.asker c.begin_efun.new.budget =
-    subst (λ r. StartsEfun r c.args.this c.args.efun c.args.args c.args.live.now c.args.stack.now.items c.args.asker.now c.args.budget.now c.begin_efun.new.live c.begin_efun.new.stack.items c.begin_efun.new.asker c.begin_efun.new.budget) c.in-Works.is c.in_ok-ending.ensures.starts in
+    let h : HasBegunEfun c.args.at c.args.efun c.args.args c.args.live.now c.args.stack.now.items c.args.asker.now c.args.budget.now c.in-Works.job c.begin_efun.new.live c.begin_efun.new.stack.items c.begin_efun.new.asker c.begin_efun.new.budget =
+    subst (λ r. StartsEfun r c.args.at c.args.efun c.args.args c.args.live.now c.args.stack.now.items c.args.asker.now c.args.budget.now c.begin_efun.new.live c.begin_efun.new.stack.items c.begin_efun.new.asker c.begin_efun.new.budget) c.in-Works.is c.in_ok-ending.ensures.starts in
     let less = h.spends in
     λ κs within. (omega (arith, less), (within, (h.on, (h.ready, (h.fit, h.can (g.W.SwapFile.content c.args.swap.now) c.requires.can)))))
 
 pub call_efun-returns-in-Works-clause-answers : goal.call_efun-returns-in-Works-clause-answers
 call_efun-returns-in-Works-clause-answers g t c =
-    let h : HasBegunEfun c.args.this c.args.efun c.args.args c.args.live.now c.args.stack.now.items c.args.asker.now c.args.budget.now c.in-Works.job c.begin_efun.new.live c.begin_efun.new.stack.items c.begin_efun.new.asker c.begin_efun.new.budget =
-    subst (λ r. StartsEfun r c.args.this c.args.efun c.args.args c.args.live.now c.args.stack.now.items c.args.asker.now c.args.budget.now c.begin_efun.new.live c.begin_efun.new.stack.items c.begin_efun.new.asker c.begin_efun.new.budget) c.in-Works.is c.in_ok-ending.ensures.starts in
+    let h : HasBegunEfun c.args.at c.args.efun c.args.args c.args.live.now c.args.stack.now.items c.args.asker.now c.args.budget.now c.in-Works.job c.begin_efun.new.live c.begin_efun.new.stack.items c.begin_efun.new.asker c.begin_efun.new.budget =
+    subst (λ r. StartsEfun r c.args.at c.args.efun c.args.args c.args.live.now c.args.stack.now.items c.args.asker.now c.args.budget.now c.begin_efun.new.live c.begin_efun.new.stack.items c.begin_efun.new.asker c.begin_efun.new.budget) c.in-Works.is c.in_ok-ending.ensures.starts in
     if_ok c.work.result (λ e works. h.answers (g.W.SwapFile.content c.args.swap.now) (g.W.SwapFile.content c.work.new.swap) c.work.new.live c.work.new.stack.items c.work.new.asker c.work.new.budget e works) c.work.ensures.works
 
 -- Jobs
@@ -136,50 +136,50 @@ work-questions-init g t c = record {
   spends = le_refl c.args.budget.now;
   home = home_same c.args.live.now.objects;
   tells = tells_nothing (g.W.SwapFile.content c.args.swap.now) (g.W.SwapFile.last c.args.swap.now) (g.W.SwapFile.read_faults c.args.swap.now) (g.W.SwapFile.write_faults c.args.swap.now) (g.W.SwapFile.is_truthful c.args.swap.now) (g.W.SwapFile.is_honest c.args.swap.now) c.args.live.now;
-  goes = works_same c.args.this c.args.job (g.W.SwapFile.content c.args.swap.now) c.args.live.now c.args.stack.now.items c.args.asker.now c.args.budget.now;
+  goes = works_same c.args.at c.args.job (g.W.SwapFile.content c.args.swap.now) c.args.live.now c.args.stack.now.items c.args.asker.now c.args.budget.now;
 }
 
 pub work-returns-in-Ended-clause-works : goal.work-returns-in-Ended-clause-works
 work-returns-in-Ended-clause-works g t c =
-    works_later c.args.this c.args.job c.questions.job (g.W.SwapFile.content c.args.swap.now) (g.W.SwapFile.content c.questions.swap) (g.W.SwapFile.content c.step_job.new.swap) c.args.live.now c.questions.live c.step_job.new.live c.args.stack.now.items c.questions.stack.items c.step_job.new.stack.items
+    works_later c.args.at c.args.job c.questions.job (g.W.SwapFile.content c.args.swap.now) (g.W.SwapFile.content c.questions.swap) (g.W.SwapFile.content c.step_job.new.swap) c.args.live.now c.questions.live c.step_job.new.live c.args.stack.now.items c.questions.stack.items c.step_job.new.stack.items
     c.args.asker.now c.questions.asker c.questions.asker c.args.budget.now c.questions.budget c.step_job.new.budget c.in-Ended.ending c.questions.invariant.goes c.questions.invariant.same c.questions.invariant.spends c.questions.invariant.home
-    (subst (λ x. StepsTo x c.args.this c.questions.job (g.W.SwapFile.content c.questions.swap) c.questions.live c.questions.stack.items c.questions.asker c.questions.budget c.step_job.new.job (g.W.SwapFile.content c.step_job.new.swap) c.step_job.new.live c.step_job.new.stack.items c.step_job.new.budget) c.in-Ended.is c.in_ok-ending.ensures.steps)
+    (subst (λ x. StepsTo x c.args.at c.questions.job (g.W.SwapFile.content c.questions.swap) c.questions.live c.questions.stack.items c.questions.asker c.questions.budget c.step_job.new.job (g.W.SwapFile.content c.step_job.new.swap) c.step_job.new.live c.step_job.new.stack.items c.step_job.new.budget) c.in-Ended.is c.in_ok-ending.ensures.steps)
 
 pub work-answer-requires : goal.work-answer-requires
 work-answer-requires g t c =
-    let k : WorkAsks c.in-Asks.reached c.in-Asks.args c.args.this c.questions.job (g.W.SwapFile.content c.questions.swap) c.questions.live c.questions.stack.items c.questions.asker c.questions.budget c.step_job.new.job (g.W.SwapFile.content c.step_job.new.swap) c.step_job.new.live c.step_job.new.stack.items c.step_job.new.budget =
-    subst (λ x. StepsTo x c.args.this c.questions.job (g.W.SwapFile.content c.questions.swap) c.questions.live c.questions.stack.items c.questions.asker c.questions.budget c.step_job.new.job (g.W.SwapFile.content c.step_job.new.swap) c.step_job.new.live c.step_job.new.stack.items c.step_job.new.budget) c.in-Asks.is c.in_ok-ending.ensures.steps in
+    let k : WorkAsks c.in-Asks.reached c.in-Asks.args c.args.at c.questions.job (g.W.SwapFile.content c.questions.swap) c.questions.live c.questions.stack.items c.questions.asker c.questions.budget c.step_job.new.job (g.W.SwapFile.content c.step_job.new.swap) c.step_job.new.live c.step_job.new.stack.items c.step_job.new.budget =
+    subst (λ x. StepsTo x c.args.at c.questions.job (g.W.SwapFile.content c.questions.swap) c.questions.live c.questions.stack.items c.questions.asker c.questions.budget c.step_job.new.job (g.W.SwapFile.content c.step_job.new.swap) c.step_job.new.live c.step_job.new.stack.items c.step_job.new.budget) c.in-Asks.is c.in_ok-ending.ensures.steps in
     let less = k.spends in
     let more = c.questions.invariant.spends in
     λ κs within. (omega (arith, less, more), (within, (k.fit, k.can c.questions.invariant.can)))
 
 pub work-feed_back-requires-clause-on : goal.work-feed_back-requires-clause-on
 work-feed_back-requires-clause-on g t c =
-    let k : WorkAsks c.in-Asks.reached c.in-Asks.args c.args.this c.questions.job (g.W.SwapFile.content c.questions.swap) c.questions.live c.questions.stack.items c.questions.asker c.questions.budget c.step_job.new.job (g.W.SwapFile.content c.step_job.new.swap) c.step_job.new.live c.step_job.new.stack.items c.step_job.new.budget =
-    subst (λ x. StepsTo x c.args.this c.questions.job (g.W.SwapFile.content c.questions.swap) c.questions.live c.questions.stack.items c.questions.asker c.questions.budget c.step_job.new.job (g.W.SwapFile.content c.step_job.new.swap) c.step_job.new.live c.step_job.new.stack.items c.step_job.new.budget) c.in-Asks.is c.in_ok-ending.ensures.steps in
+    let k : WorkAsks c.in-Asks.reached c.in-Asks.args c.args.at c.questions.job (g.W.SwapFile.content c.questions.swap) c.questions.live c.questions.stack.items c.questions.asker c.questions.budget c.step_job.new.job (g.W.SwapFile.content c.step_job.new.swap) c.step_job.new.live c.step_job.new.stack.items c.step_job.new.budget =
+    subst (λ x. StepsTo x c.args.at c.questions.job (g.W.SwapFile.content c.questions.swap) c.questions.live c.questions.stack.items c.questions.asker c.questions.budget c.step_job.new.job (g.W.SwapFile.content c.step_job.new.swap) c.step_job.new.live c.step_job.new.stack.items c.step_job.new.budget) c.in-Asks.is c.in_ok-ending.ensures.steps in
     k.on (g.W.SwapFile.content c.answer.new.swap) c.answer.new.live c.answer.new.stack.items c.answer.new.asker c.answer.new.budget c.in_ok-ending-in-Asks.ending c.questions.invariant.can c.in_ok-ending-in-Asks.ensures.answers
 
 pub work-feed_back-requires-clause-asking : goal.work-feed_back-requires-clause-asking
 work-feed_back-requires-clause-asking g t c =
-    let k : WorkAsks c.in-Asks.reached c.in-Asks.args c.args.this c.questions.job (g.W.SwapFile.content c.questions.swap) c.questions.live c.questions.stack.items c.questions.asker c.questions.budget c.step_job.new.job (g.W.SwapFile.content c.step_job.new.swap) c.step_job.new.live c.step_job.new.stack.items c.step_job.new.budget =
-    subst (λ x. StepsTo x c.args.this c.questions.job (g.W.SwapFile.content c.questions.swap) c.questions.live c.questions.stack.items c.questions.asker c.questions.budget c.step_job.new.job (g.W.SwapFile.content c.step_job.new.swap) c.step_job.new.live c.step_job.new.stack.items c.step_job.new.budget) c.in-Asks.is c.in_ok-ending.ensures.steps in
+    let k : WorkAsks c.in-Asks.reached c.in-Asks.args c.args.at c.questions.job (g.W.SwapFile.content c.questions.swap) c.questions.live c.questions.stack.items c.questions.asker c.questions.budget c.step_job.new.job (g.W.SwapFile.content c.step_job.new.swap) c.step_job.new.live c.step_job.new.stack.items c.step_job.new.budget =
+    subst (λ x. StepsTo x c.args.at c.questions.job (g.W.SwapFile.content c.questions.swap) c.questions.live c.questions.stack.items c.questions.asker c.questions.budget c.step_job.new.job (g.W.SwapFile.content c.step_job.new.swap) c.step_job.new.live c.step_job.new.stack.items c.step_job.new.budget) c.in-Asks.is c.in_ok-ending.ensures.steps in
     k.asking
 
 pub work-returns-in-Some-clause-works : goal.work-returns-in-Some-clause-works
 work-returns-in-Some-clause-works g t c =
-    let k : WorkAsks c.in-Asks.reached c.in-Asks.args c.args.this c.questions.job (g.W.SwapFile.content c.questions.swap) c.questions.live c.questions.stack.items c.questions.asker c.questions.budget c.step_job.new.job (g.W.SwapFile.content c.step_job.new.swap) c.step_job.new.live c.step_job.new.stack.items c.step_job.new.budget =
-    subst (λ x. StepsTo x c.args.this c.questions.job (g.W.SwapFile.content c.questions.swap) c.questions.live c.questions.stack.items c.questions.asker c.questions.budget c.step_job.new.job (g.W.SwapFile.content c.step_job.new.swap) c.step_job.new.live c.step_job.new.stack.items c.step_job.new.budget) c.in-Asks.is c.in_ok-ending.ensures.steps in
-    works_later c.args.this c.args.job c.questions.job (g.W.SwapFile.content c.args.swap.now) (g.W.SwapFile.content c.questions.swap) (g.W.SwapFile.content c.answer.new.swap) c.args.live.now c.questions.live c.answer.new.live c.args.stack.now.items c.questions.stack.items c.feed_back.new.stack.items
+    let k : WorkAsks c.in-Asks.reached c.in-Asks.args c.args.at c.questions.job (g.W.SwapFile.content c.questions.swap) c.questions.live c.questions.stack.items c.questions.asker c.questions.budget c.step_job.new.job (g.W.SwapFile.content c.step_job.new.swap) c.step_job.new.live c.step_job.new.stack.items c.step_job.new.budget =
+    subst (λ x. StepsTo x c.args.at c.questions.job (g.W.SwapFile.content c.questions.swap) c.questions.live c.questions.stack.items c.questions.asker c.questions.budget c.step_job.new.job (g.W.SwapFile.content c.step_job.new.swap) c.step_job.new.live c.step_job.new.stack.items c.step_job.new.budget) c.in-Asks.is c.in_ok-ending.ensures.steps in
+    works_later c.args.at c.args.job c.questions.job (g.W.SwapFile.content c.args.swap.now) (g.W.SwapFile.content c.questions.swap) (g.W.SwapFile.content c.answer.new.swap) c.args.live.now c.questions.live c.answer.new.live c.args.stack.now.items c.questions.stack.items c.feed_back.new.stack.items
     c.args.asker.now c.questions.asker c.answer.new.asker c.args.budget.now c.questions.budget c.answer.new.budget c.in-Some.ending c.questions.invariant.goes c.questions.invariant.same c.questions.invariant.spends c.questions.invariant.home
-    (asked_ends c.args.this c.questions.job c.step_job.new.job c.feed_back.new.job c.in-Asks.reached c.in-Asks.args (g.W.SwapFile.content c.questions.swap) (g.W.SwapFile.content c.step_job.new.swap) (g.W.SwapFile.content c.answer.new.swap) c.questions.live c.step_job.new.live c.answer.new.live
+    (asked_ends c.args.at c.questions.job c.step_job.new.job c.feed_back.new.job c.in-Asks.reached c.in-Asks.args (g.W.SwapFile.content c.questions.swap) (g.W.SwapFile.content c.step_job.new.swap) (g.W.SwapFile.content c.answer.new.swap) c.questions.live c.step_job.new.live c.answer.new.live
     c.questions.stack.items c.step_job.new.stack.items c.answer.new.stack.items c.feed_back.new.stack.items c.questions.asker c.answer.new.asker c.questions.budget c.step_job.new.budget c.answer.new.budget c.in_ok-ending-in-Asks.ending c.in-Some.ending k c.in_ok-ending-in-Asks.ensures.answers
     (subst (λ r. Feeds r c.in_ok-ending-in-Asks.ending c.step_job.new.job c.answer.new.live c.answer.new.stack.items c.feed_back.new.job c.feed_back.new.stack.items) c.in-Some.is c.in_ok-ending-in-Asks-2.ensures.feeds)
     (subst (λ r. IfSome r (λ e. e ≡ c.in_ok-ending-in-Asks.ending)) c.in-Some.is c.in_ok-ending-in-Asks-2.ensures.same) c.in_ok-ending-in-Asks-2.ensures.fit)
 
 pub work-questions-smaller : goal.work-questions-smaller
 work-questions-smaller g t c =
-    let k : WorkAsks c.in-Asks.reached c.in-Asks.args c.args.this c.questions.job (g.W.SwapFile.content c.questions.swap) c.questions.live c.questions.stack.items c.questions.asker c.questions.budget c.step_job.new.job (g.W.SwapFile.content c.step_job.new.swap) c.step_job.new.live c.step_job.new.stack.items c.step_job.new.budget =
-    subst (λ x. StepsTo x c.args.this c.questions.job (g.W.SwapFile.content c.questions.swap) c.questions.live c.questions.stack.items c.questions.asker c.questions.budget c.step_job.new.job (g.W.SwapFile.content c.step_job.new.swap) c.step_job.new.live c.step_job.new.stack.items c.step_job.new.budget) c.in-Asks.is c.in_ok-ending.ensures.steps in
+    let k : WorkAsks c.in-Asks.reached c.in-Asks.args c.args.at c.questions.job (g.W.SwapFile.content c.questions.swap) c.questions.live c.questions.stack.items c.questions.asker c.questions.budget c.step_job.new.job (g.W.SwapFile.content c.step_job.new.swap) c.step_job.new.live c.step_job.new.stack.items c.step_job.new.budget =
+    subst (λ x. StepsTo x c.args.at c.questions.job (g.W.SwapFile.content c.questions.swap) c.questions.live c.questions.stack.items c.questions.asker c.questions.budget c.step_job.new.job (g.W.SwapFile.content c.step_job.new.swap) c.step_job.new.live c.step_job.new.stack.items c.step_job.new.budget) c.in-Asks.is c.in_ok-ending.ensures.steps in
     let on : FedOn None c.step_job.new.job c.feed_back.new.job c.feed_back.new.stack.items = subst (λ r. FedOn r c.step_job.new.job c.feed_back.new.job c.feed_back.new.stack.items) c.in_default.is c.in_ok-ending-in-Asks-2.ensures.on in
     let less = on.2 in
     let left = k.left in
@@ -187,14 +187,14 @@ work-questions-smaller g t c =
 
 pub work-questions-preserved : goal.work-questions-preserved
 work-questions-preserved g t c =
-    let k : WorkAsks c.in-Asks.reached c.in-Asks.args c.args.this c.questions.job (g.W.SwapFile.content c.questions.swap) c.questions.live c.questions.stack.items c.questions.asker c.questions.budget c.step_job.new.job (g.W.SwapFile.content c.step_job.new.swap) c.step_job.new.live c.step_job.new.stack.items c.step_job.new.budget =
-    subst (λ x. StepsTo x c.args.this c.questions.job (g.W.SwapFile.content c.questions.swap) c.questions.live c.questions.stack.items c.questions.asker c.questions.budget c.step_job.new.job (g.W.SwapFile.content c.step_job.new.swap) c.step_job.new.live c.step_job.new.stack.items c.step_job.new.budget) c.in-Asks.is c.in_ok-ending.ensures.steps in
+    let k : WorkAsks c.in-Asks.reached c.in-Asks.args c.args.at c.questions.job (g.W.SwapFile.content c.questions.swap) c.questions.live c.questions.stack.items c.questions.asker c.questions.budget c.step_job.new.job (g.W.SwapFile.content c.step_job.new.swap) c.step_job.new.live c.step_job.new.stack.items c.step_job.new.budget =
+    subst (λ x. StepsTo x c.args.at c.questions.job (g.W.SwapFile.content c.questions.swap) c.questions.live c.questions.stack.items c.questions.asker c.questions.budget c.step_job.new.job (g.W.SwapFile.content c.step_job.new.swap) c.step_job.new.live c.step_job.new.stack.items c.step_job.new.budget) c.in-Asks.is c.in_ok-ending.ensures.steps in
     let on : FedOn None c.step_job.new.job c.feed_back.new.job c.feed_back.new.stack.items = subst (λ r. FedOn r c.step_job.new.job c.feed_back.new.job c.feed_back.new.stack.items) c.in_default.is c.in_ok-ending-in-Asks-2.ensures.on in
-    let more : WorkContinues c.args.this c.questions.job (g.W.SwapFile.content c.questions.swap) c.questions.live c.questions.stack.items c.questions.asker c.questions.budget c.feed_back.new.job (g.W.SwapFile.content c.answer.new.swap) c.answer.new.live c.feed_back.new.stack.items c.answer.new.asker c.answer.new.budget =
+    let more : WorkContinues c.args.at c.questions.job (g.W.SwapFile.content c.questions.swap) c.questions.live c.questions.stack.items c.questions.asker c.questions.budget c.feed_back.new.job (g.W.SwapFile.content c.answer.new.swap) c.answer.new.live c.feed_back.new.stack.items c.answer.new.asker c.answer.new.budget =
     k.turns c.feed_back.new.job (g.W.SwapFile.content c.answer.new.swap) c.answer.new.live c.answer.new.stack.items c.feed_back.new.stack.items c.answer.new.asker c.answer.new.budget c.in_ok-ending-in-Asks.ending None c.in_ok-ending-in-Asks.ensures.answers
     (subst (λ r. Feeds r c.in_ok-ending-in-Asks.ending c.step_job.new.job c.answer.new.live c.answer.new.stack.items c.feed_back.new.job c.feed_back.new.stack.items) c.in_default.is c.in_ok-ending-in-Asks-2.ensures.feeds) in
     record {
-      can = can_work_on c.args.this c.questions.job c.feed_back.new.job (g.W.SwapFile.content c.questions.swap) (g.W.SwapFile.content c.answer.new.swap) c.questions.live c.answer.new.live c.questions.stack.items c.feed_back.new.stack.items c.questions.asker c.answer.new.asker c.questions.budget c.answer.new.budget c.questions.invariant.can more;
+      can = can_work_on c.args.at c.questions.job c.feed_back.new.job (g.W.SwapFile.content c.questions.swap) (g.W.SwapFile.content c.answer.new.swap) c.questions.live c.answer.new.live c.questions.stack.items c.feed_back.new.stack.items c.questions.asker c.answer.new.asker c.questions.budget c.answer.new.budget c.questions.invariant.can more;
       on = on.0;
       ready = on.1 c.answer.new.live.objects;
       fit = c.in_ok-ending-in-Asks-2.ensures.fit;
@@ -202,6 +202,6 @@ work-questions-preserved g t c =
       spends = le_trans (le_trans c.in_ok-ending-in-Asks.ensures.answers.spends k.spends) c.questions.invariant.spends;
       home = home_later c.args.live.now.objects c.questions.live.objects c.answer.new.live.objects c.questions.invariant.home (home_later c.questions.live.objects c.step_job.new.live.objects c.answer.new.live.objects k.home c.in_ok-ending-in-Asks.ensures.answers.home);
       tells = tells_more c.questions.invariant.tells (tells_more c.in_ok-ending.ensures.tells c.in_ok-ending-in-Asks.ensures.tells);
-      goes = works_more c.args.this c.args.job c.questions.job c.feed_back.new.job (g.W.SwapFile.content c.args.swap.now) (g.W.SwapFile.content c.questions.swap) (g.W.SwapFile.content c.answer.new.swap) c.args.live.now c.questions.live c.answer.new.live c.args.stack.now.items c.questions.stack.items c.feed_back.new.stack.items
+      goes = works_more c.args.at c.args.job c.questions.job c.feed_back.new.job (g.W.SwapFile.content c.args.swap.now) (g.W.SwapFile.content c.questions.swap) (g.W.SwapFile.content c.answer.new.swap) c.args.live.now c.questions.live c.answer.new.live c.args.stack.now.items c.questions.stack.items c.feed_back.new.stack.items
           c.args.asker.now c.questions.asker c.answer.new.asker c.args.budget.now c.questions.budget c.answer.new.budget c.questions.invariant.goes more;
     }

@@ -58,7 +58,7 @@ decreases-go-turns g l = left_of l.frame l.budget
 -- and likewise of the rest of the work
 abbrev pub invariant-work-questions : goal.invariant-work-questions
 invariant-work-questions g l = record {
-  can : CanWork l.fn.this l.job (g.W.SwapFile.content l.swap) l.live l.stack.items l.asker l.budget;
+  can : CanWork l.fn.at l.job (g.W.SwapFile.content l.swap) l.live l.stack.items l.asker l.budget;
   on : IsJobOn l.job l.stack.items;
   ready : IsReady l.live.objects l.job;
   fit : IsFit l.live l.stack.items;
@@ -66,7 +66,7 @@ invariant-work-questions g l = record {
   spends : l.budget ≤ l.fn.budget;
   home : KeepsVariables l.fn.live.objects l.live.objects;
   tells : Tells (g.W.SwapFile.content l.swap) (g.W.SwapFile.last l.swap) (g.W.SwapFile.read_faults l.fn.swap) (g.W.SwapFile.read_faults l.swap) (g.W.SwapFile.write_faults l.fn.swap) (g.W.SwapFile.write_faults l.swap) (g.W.SwapFile.is_truthful l.fn.swap) (g.W.SwapFile.is_truthful l.swap) (g.W.SwapFile.is_honest l.fn.swap) (g.W.SwapFile.is_honest l.swap) l.live (Ok tt);
-  goes : WorkContinues l.fn.this l.fn.job (g.W.SwapFile.content l.fn.swap) l.fn.live l.fn.stack.items l.fn.asker l.fn.budget l.job (g.W.SwapFile.content l.swap) l.live l.stack.items l.asker l.budget;
+  goes : WorkContinues l.fn.at l.fn.job (g.W.SwapFile.content l.fn.swap) l.fn.live l.fn.stack.items l.fn.asker l.fn.budget l.job (g.W.SwapFile.content l.swap) l.live l.stack.items l.asker l.budget;
 }
 
 abbrev pub decreases-work-questions : goal.decreases-work-questions
