@@ -57,7 +57,8 @@ use Rattle.lp_vm.specs.Going.{IsOutcome}
 use Rattle.lp_vm.specs.Growing.{Grows}
 use Rattle.lp_vm.specs.Loading.{BeginsLoad, CanLoad, CanLoadOn, CannotPay, HasLoad, IsLoading, IsPaidFor, LeadsOn, LoadContinues, LoadEnds, LoadGoesOn, Loads, LoadsOn, load_course}
 use Rattle.lp_vm.specs.Making.{CanMake, IsBehind, IsMaking, Makes}
-use Rattle.lp_vm.proofs.LoadsGrown.{asks_still, grows_none, grows_twice}
+use Rattle.lp_vm.proofs.Grown.{grows_same, grows_trans}
+use Rattle.lp_vm.proofs.Places.{asks_still}
 use Rattle.lp_vm.proofs.Startings.{asker_too, same_asker, same_later}
 
 -- Ends, as they are in the state of who asked
@@ -214,7 +215,7 @@ module _ (caller : Option ObjId) (at : Option Place) (job : LoadJob) (going : Go
             end = y.end;
             ends = h.ends y.end y.ends;
             programs = y.is.programs;
-            grown = grows_twice programs h.programs y.is.programs h.grown y.is.grown;
+            grown = grows_trans programs h.programs y.is.programs h.grown y.is.grown;
             at = is_at told2 h.programs before live2 asker2 budget2 e y.end y.is;
             answer = is_answer y.is.programs e y.end y.is.answer;
             left = y.left;
@@ -268,7 +269,7 @@ module _ (caller : Option ObjId) (at : Option Place) (job : LoadJob) (going : Go
         taken f job3 takes = takes told2 asker2.turn budget2 front inner.programs before by turns_then end is_end (turns_enough r asked.turns budget budget2 asked.enough loads.paid)
 
         grew : Grows programs inner.programs
-        grew = grows_twice programs asked.programs inner.programs asked.grown inner.grown
+        grew = grows_trans programs asked.programs inner.programs asked.grown inner.grown
 
         goes_on : (next : Going) (job3 : LoadJob) → ((told : Option Bytes) (turn : Turn) (b : ℕ) → Takes (fed.Goes next) job waiting r told live2 job3 turn b) → IsSameLoad job job3
             → LoadGoesOn front caller at (going_course turns job going by s) job3 next told2 programs before live2 asker2 budget2 by
@@ -294,7 +295,7 @@ module _ (caller : Option ObjId) (at : Option Place) (job : LoadJob) (going : Go
               end = k.end;
               ends = back_by (waiting_course turns_then job waiting by end) k.end refl k.ends;
               programs = k.programs;
-              grown = grows_twice programs inner.programs k.programs grew k.grown;
+              grown = grows_trans programs inner.programs k.programs grew k.grown;
               at = k.is.at;
               answer = k.is.answer;
               left = inner.left;
@@ -339,7 +340,7 @@ module _ (caller : Option ObjId) (at : Option Place) (job : LoadJob) (going : Go
 
 -- none so far
 pub loads_same : (caller : Option ObjId) (at : Option Place) (job : LoadJob) (going : Going) (told : Option Bytes) (live : Live) (asker : Asker) (budget : ℕ) → LoadContinues caller at job going told live asker budget job going told live asker budget
-loads_same caller at job going told live asker budget front real programs before by s turns w = record { programs = programs; grown = grows_none programs; state = s; turns = turns; loading = w; back = λ e h. h }
+loads_same caller at job going told live asker budget front real programs before by s turns w = record { programs = programs; grown = grows_same programs; state = s; turns = turns; loading = w; back = λ e h. h }
 
 -- one more
 pub loads_more : (caller : Option ObjId) (at : Option Place) (job0 job1 job2 : LoadJob) (going0 going1 going2 : Going) (told0 told1 told2 : Option Bytes) (live0 live1 live2 : Live) (asker0 asker1 asker2 : Asker) (budget0 budget1 budget2 : ℕ)
@@ -348,7 +349,7 @@ pub loads_more : (caller : Option ObjId) (at : Option Place) (job0 job1 job2 : L
 loads_more caller at job0 job1 job2 going0 going1 going2 told0 told1 told2 live0 live1 live2 asker0 asker1 asker2 budget0 budget1 budget2 h n front real programs before by s turns w =
     let x = h front real programs before by s turns w in
     let y = n front real x.programs before by x.state x.turns x.loading in
-    record { programs = y.programs; grown = grows_twice programs x.programs y.programs x.grown y.grown; state = y.state; turns = y.turns; loading = y.loading; back = λ e l. x.back e (y.back e l) }
+    record { programs = y.programs; grown = grows_trans programs x.programs y.programs x.grown y.grown; state = y.state; turns = y.turns; loading = y.loading; back = λ e l. x.back e (y.back e l) }
 
 -- it can go on
 pub can_load_on : (caller : Option ObjId) (at : Option Place) (job0 job1 : LoadJob) (going0 going1 : Going) (told0 told1 : Option Bytes) (live0 live1 : Live) (asker0 asker1 : Asker) (budget0 budget1 : ℕ) → CanLoadOn caller at job0 told0 live0 asker0 budget0
@@ -365,7 +366,7 @@ loads_later caller at job0 job1 going0 going1 told0 told1 told2 live0 live1 live
   loaded = λ front real programs before by s turns w.
       let x = goes front real programs before by s turns w in
       let y = h.loaded front real x.programs before by x.state x.turns x.loading in
-      record { end = y.end; ends = x.back y.end y.ends; programs = y.programs; grown = grows_twice programs x.programs y.programs x.grown y.grown; at = y.at; answer = y.answer; left = y.left ∙ lies };
+      record { end = y.end; ends = x.back y.end y.ends; programs = y.programs; grown = grows_trans programs x.programs y.programs x.grown y.grown; at = y.at; answer = y.answer; left = y.left ∙ lies };
   same = same_later asker0 asker1 asker2 same h.same;
   spends = le_trans h.spends spends;
   home = home_later live0.objects live1.objects live2.objects home h.home;
@@ -392,7 +393,7 @@ module _ (caller : Option ObjId) (at : Option Place) (name : List ℕ) (purpose 
           end = end;
           ends = subst (λ c. Ends front c end) (sym x.0) (over_ends front end);
           programs = programs;
-          grown = grows_none programs;
+          grown = grows_same programs;
           at = record {
             at = record {
               stands = w.fits.at.stands;

@@ -57,7 +57,8 @@ use Rattle.lp_vm.specs.Growing.{Grows}
 use Rattle.lp_vm.specs.Making.{AsksAt, CanAskNext, CanMake, CanReachFor, IsAskedFor, IsMaking, MakeAsks, MakeContinues, Makes, MakesOn, StandsForOne, object_for}
 use Rattle.lp_vm.proofs.Answered.{setting}
 use Rattle.lp_vm.proofs.Carried.{some_at}
-use Rattle.lp_vm.proofs.LoadsGrown.{asker_there, asks_still, grows_none, grows_twice, outcome_before}
+use Rattle.lp_vm.proofs.Grown.{grows_same, grows_trans, outcome_grown}
+use Rattle.lp_vm.proofs.Places.{asker_there, asks_still}
 use Rattle.lp_vm.proofs.Startings.{same_later}
 use Rattle.lp_vm.proofs.Turning.{world_reached}
 
@@ -402,7 +403,7 @@ module _ (caller : Option ObjId) (at : Option Place) (job : Making) (told0 told1
 
 -- none so far
 pub makes_same : (caller : Option ObjId) (at : Option Place) (job : Making) (told : Option Bytes) (live : Live) (asker : Asker) (budget : ℕ) → MakeContinues caller at job told live asker budget job told live asker budget
-makes_same caller at job told live asker budget front real programs before by s w = record { programs = programs; grown = grows_none programs; state = s; making = w; back = λ e h. h }
+makes_same caller at job told live asker budget front real programs before by s w = record { programs = programs; grown = grows_same programs; state = s; making = w; back = λ e h. h }
 
 -- one more
 pub makes_more : (caller : Option ObjId) (at : Option Place) (job0 job1 job2 : Making) (told0 told1 told2 : Option Bytes) (live0 live1 live2 : Live) (asker0 asker1 asker2 : Asker) (budget0 budget1 budget2 : ℕ)
@@ -411,7 +412,7 @@ pub makes_more : (caller : Option ObjId) (at : Option Place) (job0 job1 job2 : M
 makes_more caller at job0 job1 job2 told0 told1 told2 live0 live1 live2 asker0 asker1 asker2 budget0 budget1 budget2 h n front real programs before by s w =
     let x = h front real programs before by s w in
     let y = n front real x.programs before by x.state x.making in
-    record { programs = y.programs; grown = grows_twice programs x.programs y.programs x.grown y.grown; state = y.state; making = y.making; back = λ e l. x.back e (y.back e l) }
+    record { programs = y.programs; grown = grows_trans programs x.programs y.programs x.grown y.grown; state = y.state; making = y.making; back = λ e l. x.back e (y.back e l) }
 
 -- it can go on
 pub can_make_on : (caller : Option ObjId) (at : Option Place) (job0 job1 : Making) (told0 told1 : Option Bytes) (live0 live1 : Live) (asker0 asker1 : Asker) (budget0 budget1 : ℕ) → CanMake caller at job0 told0 live0 asker0 budget0
@@ -428,7 +429,7 @@ makes_later caller at job0 job1 told0 told1 told2 live0 live1 live2 stack0 stack
   made = λ front real programs before by s w.
       let x = goes front real programs before by s w in
       let y = h.made front real x.programs before by x.state x.making in
-      record { end = y.end; ends = x.back y.end y.ends; is = outcome_before told2 programs x.programs before live2 asker2 budget2 e (outcome_of y.end) x.grown y.is; left = y.left ∙ lies };
+      record { end = y.end; ends = x.back y.end y.ends; is = outcome_grown told2 programs x.programs before live2 asker2 budget2 e (outcome_of y.end) x.grown y.is; left = y.left ∙ lies };
   same = same_later asker0 asker1 asker2 same h.same;
   spends = le_trans h.spends spends;
   home = home_later live0.objects live1.objects live2.objects home h.home;

@@ -16,3 +16,4 @@ pub mod Initialising
 pub mod Making
 pub mod Loading
 pub mod LoadFaults
+pub mod ObjectLoading

@@ -16,5 +16,6 @@ mod laying;
 mod loading;
 mod making;
 mod naming;
+pub mod object_loading;
 pub mod request;
 mod working;
