@@ -1,5 +1,5 @@
 -- An object that was made begins: its job goes on for a course of the meaning.
-use Rattle.std.specs.Prelude.{◌≡◌, ◌+◌, ◌≤◌, ◌++◌, ⊤, ⊥, ℕ, List, Option, Some, None, All, codes, map, reverse, slice_get}
+use Rattle.std.specs.Prelude.{◌≡◌, ◌+◌, ◌≤◌, ◌++◌, ⊤, ℕ, List, Option, Some, None, All, codes, map, reverse, slice_get}
 use Rattle.std.specs.Option.{option_map, option_to_list}
 use Rattle.lp_values.specs.declared.id.ObjId.{ObjId}
 use Rattle.lp_values.specs.declared.value.Value.{Value}

@@ -1,5 +1,5 @@
 -- An object is loaded by its name for the driver.
-use Rattle.std.specs.Prelude.{◌≡◌, ◌++◌, ⊥, ℕ, List, [], Option, None}
+use Rattle.std.specs.Prelude.{◌≡◌, ◌++◌, ℕ, List, [], Option, None}
 use Rattle.lp_values.specs.declared.value.Value.{Value}
 use Rattle.lp_code.specs.declared.program.RawProgram.{RawProgram}
 use Rattle.lp_events.specs.declared.out.Out.{Out}

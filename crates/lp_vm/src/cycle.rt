@@ -29,6 +29,7 @@ use lp_calling::job::Job;
 use lp_instr::efun::Efun;
 use lp_loading::job::{Answer, Begun, Fed, Going, LoadJob, Purpose, Step};
 use lp_reaching::reached::Reached;
+use lp_values::id::ObjId;
 use lp_values::value::Value;
 use lp_world::frame::Frame;
 use lp_world::live::Live;
@@ -182,7 +183,6 @@ fn go<W: Truthful>(
 
 /// An object that was made begins: its job goes on to its end. The caller is the object for which an efun makes it, if one does,
 /// and for the log the place of who asks is given.
-#[cycle(calls)]
 fn make<W: Truthful>(
     alloc: Global,
     live: &mut Live,
@@ -213,7 +213,7 @@ fn make<W: Truthful>(
 
 /// A load that was paid for goes on to its end. The caller is the object for which an efun asks for it, if one does, and for the
 /// log the place of who asks is given.
-#[cycle(calls)]
+#[cycle(loads)]
 fn load_on<W: Truthful>(
     alloc: Global,
     live: &mut Live,
@@ -270,7 +270,7 @@ fn load_on<W: Truthful>(
 /// `NoMemory`, also where the swap file gave other bytes of the same digest; `Swap` where it failed or gave bytes of another
 /// digest; `NotYet` where the name, or that of an `inherit`, has letters beyond ASCII, a number of the program has no room, a live
 /// object has the name already, or a function asks what is not carried out yet. Nothing is said of the state then.
-#[cycle(calls)]
+#[cycle(loads)]
 pub fn load<W: Truthful>(
     alloc: Global,
     live: &mut Live,

@@ -67,7 +67,8 @@ fn push_load(alloc: Global, asker: &mut Asker, name: &[char], nested: u32) -> Re
     ensures items { OnOk result (asker.new.loads.items ≡ asker.old.loads.items ++ record { name = name.now; nested = nested } ∷ []) }
 {
     let name = Text::from_slice(alloc, name)?;
-    asker.loads.push(Loading { name, nested })
+    asker.loads.push(Loading { name, nested })?;
+    Ok(())
 }
 
 /// A load begins on behalf of who asks: its price is paid, and it is the innermost under way; or the budget is spent.
