@@ -37,7 +37,7 @@ use Rattle.lp_cloning.specs.declared.job.Begun.{Begun}
 use Rattle.lp_cloning.specs.declared.job.Begun.TheVariants as begun
 use Rattle.lp_cloning.specs.declared.fault.CloningFault.{CloningFault}
 use Rattle.lp_cloning.specs.declared.fault.CloningFault.TheVariants as faults
-use Rattle.lp_cloning.specs.Faults.{IsTakenFor}
+use Rattle.lp_cloning.specs.Faults.{IsNoMemory, IsTakenFor}
 use Rattle.lp_cloning.specs.Arguments.{ActsAs, IsBlueprintName, IsRefused, IsSpent, IsTakenIf, NamesBlueprint, RefusesOn}
 use Rattle.lp_beginning.specs.Reports.{IsObjectName}
 use Rattle.lp_cloning.specs.Beginning.{Begins, IsAtBeginning, StartsAs}
@@ -160,8 +160,12 @@ module _ (live : Live) (stack0 : List Value) (n args old : ℕ) (there : All (Is
   refused_on told (Err f) h = refuses_on told f h
 
 -- memory ran out
-pub want_refused : (told : Option Bytes) (live : Live) (stack : List Value) (args : ℕ) (f : CloningFault) → f ≡ faults.NoMemory → RefusesOn told live stack args f
-want_refused told live stack args f e low vs q k = subst (IsTakenIf told live vs) (sym e) tt
+want_on : (told : Option Bytes) (live : Live) (stack : List Value) (args : ℕ) (f : CloningFault) → IsNoMemory f → RefusesOn told live stack args f
+want_on told live stack args f e low vs q k = subst (IsTakenIf told live vs) (sym e) tt
+
+pub want_refused : {B : Type 0} (told : Option Bytes) (live : Live) (stack : List Value) (args : ℕ) (r : Result B CloningFault) → IfErr r IsNoMemory → IfErr r (RefusesOn told live stack args)
+want_refused told live stack args (Ok x) h = tt
+want_refused told live stack args (Err f) h = want_on told live stack args f h
 
 -- the blueprint that the arguments name has such a clone
 pub taken_if : {B : Type 0} (told : Option Bytes) (live : Live) (vs : List Value) (name : List ℕ) (r : Result B CloningFault) → IsBlueprintName live vs name → IfErr r (IsTakenFor told live (λ w. clone_name w name)) → IfErr r (IsTakenIf told live vs)

@@ -1,21 +1,18 @@
 -- What follows the load of a blueprint, and the end of a clone.
 use Rattle.std.proofs.Common.{◌≡◌, ◌∙◌, ◌++◌, ◌∷◌, [], ℕ, List, Option, refl, ap, sym, subst}
 use Rattle.lp_values.specs.declared.value.Value.{Value}
-use Rattle.lp_code.specs.declared.program.RawProgram.{RawProgram}
 use Rattle.lp_swapfile.specs.Device.{Bytes}
-use Rattle.lp_language.specs.Course.{Ask, Asks, AreCalled, Course, End, Entry, Fits, Gives, IsFaulty, IsSound, Outcome, Over, Plain, Reply, State, Stops, WasRead, and_then}
+use Rattle.lp_language.specs.Course.{Asks, AreCalled, Course, End, Entry, Fits, Gives, IsFaulty, IsSound, Over, Plain, State, Stops, WasRead, and_then}
 use Rattle.lp_meaning.specs.Askers.{Asker}
 use Rattle.lp_meaning.specs.Closing.{Ends}
 use Rattle.lp_meaning.specs.FileLoads.{load_value, object_reply}
-use Rattle.lp_meaning.specs.FrontEnd.{FrontEnd}
+use Rattle.lp_meaning.specs.FrontEnd.{FrontEnd, IsTold}
+use Rattle.lp_meaning.specs.Questions.{means}
 use Rattle.lp_world.specs.declared.live.Live.{Live}
-use Rattle.lp_efuns.specs.declared.caller.Turn.{Turn}
-use Rattle.lp_efuns.specs.Turns.{Setting}
 use Rattle.lp_asking.specs.declared.ending.Ending.{Ending}
 use Rattle.lp_asking.specs.declared.ending.Ending.TheVariants as endings
 use Rattle.lp_asking.specs.declared.ending.Stop.{Stop}
 use Rattle.lp_asking.proofs.Courses.{over_ends}
-use Rattle.lp_beginning.specs.Ends.{IsReplyEnd, IsValueEnd, state_at}
 use Rattle.lp_cloning.specs.declared.job.Begun.{Begun}
 use Rattle.lp_cloning.specs.declared.job.Begun.TheVariants as begun
 use Rattle.lp_cloning.specs.Beginning.{IsAtBeginning, IsOverAt, StartsAs}
@@ -40,12 +37,12 @@ fits_through (Over x) first second (c ∷ cs) ys e f h j = absurd h
 fits_through (Asks a k) first second [] ys e f h j = absurd h
 fits_through (Asks a k) first second (c ∷ cs) ys e f h j = (h.0, h.1, fits_through (k c.outcome) first second cs ys e f h.2 j)
 
-both_called : {meaning : Ask → Option (Course Reply)} {stated : Ask → Outcome → Type 0} (xs ys : List Entry) → AreCalled meaning stated xs → AreCalled meaning stated ys → AreCalled meaning stated (xs ++ ys)
-both_called [] ys h k = k
-both_called (x ∷ xs) ys h k = (h.0, both_called xs ys h.1 k)
+both_called : (front : FrontEnd) (xs ys : List Entry) → AreCalled means (IsTold front) xs → AreCalled means (IsTold front) ys → AreCalled means (IsTold front) (xs ++ ys)
+both_called front [] ys h k = k
+both_called front (x ∷ xs) ys h k = (h.0, both_called front xs ys h.1 k)
 
 through_ends : {A B C : Type 0} (front : FrontEnd) (c : Course A) (first : A → State → Course B) (second : B → State → Course C) (e : End A) (f : End C) → Ends front c e → Ends front (through first second e) f → Ends front (and_then (and_then c first) second) f
-through_ends front c first second e f h k = (h.0 ++ k.0, fits_through c first second h.0 k.0 e f h.1 k.1, both_called h.0 k.0 h.2 k.2)
+through_ends front c first second e f h k = (h.0 ++ k.0, fits_through c first second h.0 k.0 e f h.1 k.1, both_called front h.0 k.0 h.2 k.2)
 
 -- The load of a blueprint
 

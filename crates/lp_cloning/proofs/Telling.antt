@@ -1,5 +1,6 @@
 -- What the device did while a clone was made, and why one was refused.
 use Rattle.std.proofs.Common.{◌≡◌, ◌∙◌, ℕ, List, Option, Result, Ok, Err, IfErr, IsSome, refl, sym, subst}
+use Rattle.std.specs.Prelude.{IsErrAnd}
 use Rattle.lp_code.specs.declared.program.RawProgram.{RawProgram}
 use Rattle.lp_swapfile.specs.Counts.{Counts}
 use Rattle.lp_swapfile.specs.Device.{Bytes, Last}
@@ -38,6 +39,11 @@ pub tells_either : {B : Type 0} {live1 : Live} (told : Option Bytes) (last : Las
     → Tells told told last reads reads writes writes truth truth honest honest live live1 (brought_by r)
 tells_either told last reads writes truth honest live (Ok x) i = tells_none told last reads writes truth honest live
 tells_either told last reads writes truth honest live (Err f) i = tells_want told last reads writes truth honest live f i
+
+-- a fault that is handed on
+pub err_want : {B : Type 0} (r : Result B CloningFault) → IsErrAnd r IsNoMemory → IfErr r IsNoMemory
+err_want (Ok x) h = absurd h
+err_want (Err f) h = h
 
 pub taken_want : {B : Type 0} (told : Option Bytes) (live : Live) (name : World → List ℕ) (r : Result B CloningFault) → IfErr r IsNoMemory → IfErr r (IsTakenFor told live name)
 taken_want told live name (Ok x) i = tt

@@ -1,7 +1,5 @@
-use Rattle.std.proofs.Common.{sym, subst}
-use Rattle.lp_cloning.specs.Arguments.{RefusesOn}
 use Rattle.lp_cloning.proofs.Arguing.{refused_on, want_refused}
-use Rattle.lp_cloning.proofs.Telling.{tells_none, tells_want}
+use Rattle.lp_cloning.proofs.Telling.{err_want, tells_either, tells_none}
 use Rattle.std.proofs.Common.{◌≡◌, ◌-◌, length, nat_lt, rules}
 use Rattle.lp_efuns.proofs.Called.{paid_is, unpaid_is}
 use Rattle.lp_targets.proofs.Lookups.{if_ok}
@@ -43,10 +41,10 @@ pub returns-in_ok-refused-in-Some-clause-tells : goal.returns-in_ok-refused-in-S
 returns-in_ok-refused-in-Some-clause-tells g c = tells_none (g.W.SwapFile.content c.args.swap.now) (g.W.SwapFile.last c.args.swap.now) (g.W.SwapFile.read_faults c.args.swap.now) (g.W.SwapFile.write_faults c.args.swap.now) (g.W.SwapFile.is_truthful c.args.swap.now) (g.W.SwapFile.is_honest c.args.swap.now) c.args.live.now
 
 pub returns-in_err-refused-in-Some-clause-tells : goal.returns-in_err-refused-in-Some-clause-tells
-returns-in_err-refused-in-Some-clause-tells g c = tells_want (g.W.SwapFile.content c.args.swap.now) (g.W.SwapFile.last c.args.swap.now) (g.W.SwapFile.read_faults c.args.swap.now) (g.W.SwapFile.write_faults c.args.swap.now) (g.W.SwapFile.is_truthful c.args.swap.now) (g.W.SwapFile.is_honest c.args.swap.now) c.args.live.now c.from.result c.from.ensures
+returns-in_err-refused-in-Some-clause-tells g c = tells_either (g.W.SwapFile.content c.args.swap.now) (g.W.SwapFile.last c.args.swap.now) (g.W.SwapFile.read_faults c.args.swap.now) (g.W.SwapFile.write_faults c.args.swap.now) (g.W.SwapFile.is_truthful c.args.swap.now) (g.W.SwapFile.is_honest c.args.swap.now) c.args.live.now c.from_residual.result (err_want c.from_residual.result c.from_residual.ensures.1)
 
 pub returns-in_err-refused-in-Some-clause-refused : goal.returns-in_err-refused-in-Some-clause-refused
-returns-in_err-refused-in-Some-clause-refused g c = want_refused (g.W.SwapFile.content c.args.swap.now) c.args.live.now c.args.stack.now.items c.args.args c.from.result c.from.ensures
+returns-in_err-refused-in-Some-clause-refused g c = want_refused (g.W.SwapFile.content c.args.swap.now) c.args.live.now c.args.stack.now.items c.args.args c.from_residual.result (err_want c.from_residual.result c.from_residual.ensures.1)
 
 pub returns-in-None-clause-refused : goal.returns-in-None-clause-refused
 returns-in-None-clause-refused g c =

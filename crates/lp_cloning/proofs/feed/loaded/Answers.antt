@@ -25,12 +25,12 @@ pub returns-in-Value-clause-refused : goal.returns-in-Value-clause-refused
 returns-in-Value-clause-refused g c =
     subst (λ t. IfErr c.clone_value.result (IsTakenFor (g.W.SwapFile.content c.args.swap.now) c.args.live.now (λ w. clone_name w (chars t)))) c.as_str.ensures.value c.clone_value.ensures.refused
 
-pub returns-in-Stopped-clause-loaded : goal.returns-in-Stopped-clause-loaded
-returns-in-Stopped-clause-loaded g c =
+pub returns-clause-loaded : goal.returns-clause-loaded
+returns-clause-loaded g c =
     let told = g.W.SwapFile.content c.args.swap.now in
     let live = c.args.live.now in
     let name = chars (string_bytes c.args.name) in
     subst (λ e. LoadedAs (begun.Ends (endings.Stopped c.in-Stopped.stop)) name e told live live) (sym c.in-Stopped.is) (stop_loaded c.in-Stopped.stop name told live)
 
-pub returns-in-Stopped-clause-tells : goal.returns-in-Stopped-clause-tells
-returns-in-Stopped-clause-tells g c = tells_none (g.W.SwapFile.content c.args.swap.now) (g.W.SwapFile.last c.args.swap.now) (g.W.SwapFile.read_faults c.args.swap.now) (g.W.SwapFile.write_faults c.args.swap.now) (g.W.SwapFile.is_truthful c.args.swap.now) (g.W.SwapFile.is_honest c.args.swap.now) c.args.live.now
+pub returns-clause-tells : goal.returns-clause-tells
+returns-clause-tells g c = tells_none (g.W.SwapFile.content c.args.swap.now) (g.W.SwapFile.last c.args.swap.now) (g.W.SwapFile.read_faults c.args.swap.now) (g.W.SwapFile.write_faults c.args.swap.now) (g.W.SwapFile.is_truthful c.args.swap.now) (g.W.SwapFile.is_honest c.args.swap.now) c.args.live.now
