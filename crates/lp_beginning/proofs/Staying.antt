@@ -1,26 +1,20 @@
 -- The parts of a new object that have initialisers are there in each later world, and have them.
 use Rattle.std.proofs.Common.{◌≡◌, ◌∙◌, ◌+◌, ◌<◌, ℕ, zero, suc, arith, refl, sym, ap, subst, Bool, true, false, List, [], ◌∷◌, All, Option, Some, None, IsSome, drop, length, slice_get, unwrap_or, if◌then◌else◌}
 use Rattle.std.proofs.lemmas.List.Elements.{All-cons, All-nil, All-weaker}
-use Rattle.std.specs.Option.{option_map}
 use Rattle.lp_values.specs.declared.id.ObjId.{ObjId}
 use Rattle.lp_values.specs.declared.id.ProgId.{ProgId}
-use Rattle.lp_code.specs.declared.program.RawProgram.{RawProgram}
-use Rattle.lp_swapfile.specs.Device.{Bytes}
 use Rattle.lp_language.specs.World.{Keeps, Object, Version, World, no_object, no_version, object_at}
 use Rattle.lp_language.specs.Resolve.{Heir, Heritage, NoParent, Part, each_heritage, has_initialiser, heritage, heritage_of, heritage_within, own_variables, part_at, parts, version_of}
 use Rattle.lp_meaning.specs.FileLoads.{initialised_from, initialised_parts}
-use Rattle.lp_world.specs.declared.live.Live.{Live}
 use Rattle.lp_world.specs.declared.objects.Object as rows
 use Rattle.lp_world.specs.Rows.{row_at, variables_at}
 use Rattle.lp_residence.proofs.RowChanges.{object_behind, row_there}
 use Rattle.lp_part_laws.specs.Versions.{AreRising}
 use Rattle.lp_part_laws.proofs.Lists.{is_below}
 use Rattle.lp_making.specs.Trees.{timeless_part, timeless_tree}
-use Rattle.lp_targets.specs.Callees.{IsWorldOf}
 use Rattle.lp_initialisers.specs.Rows.{has_initialisers}
 use Rattle.lp_reaching.proofs.Later.{part_kept}
-use Rattle.lp_beginning.specs.declared.job.Making.{Making}
-use Rattle.lp_beginning.specs.Beginning.{HasItsParts, IsInitialised, PartsStay}
+use Rattle.lp_beginning.specs.Beginning.{IsInitialised, PartsStay}
 use Rattle.lp_beginning.specs.Jobs.{parts_left}
 
 -- Each part that is listed is there

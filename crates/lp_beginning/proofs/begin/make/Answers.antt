@@ -20,8 +20,7 @@ returns-in-Ok-clause-made c = λ g by turn budget s f e.
     let name = chars c.args.name.now in
     let x = fits_with g c.args.live.now c.new_object.new.live turn budget s name c.args.version (zeros (variables_in (row_at c.args.live.now.versions c.args.version.0))) e0.after e0.stands f in
     let t : State = record s { world = steps.with_new_object s.world name c.args.version } in
-    let job : Making = record { kind = c.args.kind; object = c.in-Ok.object; parts = c.args.parts; done = 0 } in
-    (
+    let job : Making = record { kind = c.args.kind; object = c.in-Ok.object; parts = c.args.parts; done = 0 } in (
       t,
       x.0,
       made_course g.told g.programs c.args.live.now c.args.kind c.in-Ok.object c.args.parts.items by s name c.args.version f.world.stands e0.serial e x.1,
