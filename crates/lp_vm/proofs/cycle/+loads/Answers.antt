@@ -1,0 +1,1 @@
+use Rattle.lp_vm.proofs.cycle.+loads.Goals as goal
