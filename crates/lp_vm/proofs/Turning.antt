@@ -142,6 +142,7 @@ module _ (p : RawProgram) (k : ℕ) (row : FunRow) (f : IsFunction p k row) (a :
     scene = a.scene;
     scene_is = refl;
     this_is = sym c.matches.sits.belongs.this;
+    runs = record { this = sym c.matches.sits.belongs.this; version = sym c.matches.sits.belongs.version; raw = frame1.code; is = c.matches.sits.belongs.program; function = c.matches.sits.belongs.function };
     place = λ w keeps. record {
       raw = frame1.code;
       is = c.matches.sits.belongs.program;

@@ -14,6 +14,7 @@ use Rattle.lp_asking.specs.declared.asker.Asker.{Asker}
 use Rattle.lp_asking.specs.declared.ending.Place.{Place}
 use Rattle.lp_asking.specs.Endings.{IsPlaceIf}
 use Rattle.lp_reaching.specs.Reaching.{IsInMemory, ReachesIf}
+use Rattle.lp_vm.specs.Places.{RunsAt}
 use Rattle.lp_vm.specs.declared.request.Request.{Request}
 use Rattle.lp_vm.specs.declared.request.Request.TheVariants as requests
 
@@ -21,12 +22,13 @@ use Rattle.lp_vm.specs.declared.request.Request.TheVariants as requests
 abbrev pub place_in : Frame → Place
 place_in f = record { this = f.this; program = f.program; fun = f.fun }
 
--- The function at a place calls an efun. What was handed down to the function is what who asks has; and it is at that place in
--- each world to which this leads.
+-- The function that runs at a place calls an efun. What was handed down to the function is what who asks has; and it is at that
+-- place by names too in each world to which this leads.
 pub record AsksEfun (programs : List RawProgram) (asker : Asker) (at : Place) (e : Efun) (a : Ask) : Type 0 where
   pub scene : Scene
   pub scene_is : a.scene ≡ Some scene
   pub this_is : scene.this ≡ at.this
+  pub runs : RunsAt programs at scene
   pub place : (w : World) → Keeps a.world w → IsPlaceIf programs w (Some at) (place_of_asker w (asker_of a))
   pub interactive : scene.interactive ≡ asker.interactive
   pub callers : scene.callers ≡ reverse asker.callers.items
