@@ -17,6 +17,7 @@ pub mod Applied
 pub mod Initialised
 pub mod Places
 pub mod Makings
+pub mod MakingBegins
 pub mod Loads
 pub mod LoadCauses
 pub mod ObjectLoads
