@@ -10,8 +10,9 @@ pub mod Laying
 pub mod Efuns
 pub mod Beginning
 pub mod Turns
+pub mod Making
+pub mod Loading
+pub mod Loaded
 pub mod Jobs
 pub mod Applying
 pub mod Initialising
-pub mod Making
-pub mod Loading

@@ -1,12 +1,12 @@
 -- A job of an efun works for a course of the meaning.
-use Rattle.std.specs.Prelude.{◌≡◌, ◌++◌, ℕ, List, Option, Some, None, IsAscii, codes, length, map, reverse}
+use Rattle.std.specs.Prelude.{◌≡◌, ◌++◌, ⊤, ℕ, List, Option, Some, None, IsAscii, codes, length, map, reverse}
 use Rattle.lp_values.specs.declared.id.ObjId.{ObjId}
 use Rattle.lp_values.specs.declared.value.Value.{Value}
 use Rattle.lp_code.specs.declared.program.RawProgram.{RawProgram}
 use Rattle.lp_events.specs.declared.out.Out.{Out}
 use Rattle.lp_swapfile.specs.Device.{Bytes}
 use Rattle.lp_language.specs.World.{Keeps, World}
-use Rattle.lp_language.specs.Course.{Ask, Course, End, Scene, State, outcome_of}
+use Rattle.lp_language.specs.Course.{Ask, Course, End, Load, Scene, State, Wanted, outcome_of}
 use Rattle.lp_meaning.specs.Askers as meaning
 use Rattle.lp_meaning.specs.Closing.{Ends}
 use Rattle.lp_meaning.specs.FrontEnd.{FrontEnd}
@@ -33,10 +33,17 @@ use Rattle.lp_vm.specs.Going.{IsOutcome}
 -- What a job asks
 
 -- On behalf of a function of this object that called its efun, a job asks so: for a function of another object as that
--- function would, and for `catch_tell` as the driver applies it, with the object as the latest caller.
+-- function would, for `catch_tell` as the driver applies it, with the object as the latest caller, and for a load.
 abbrev pub IsAskedSo : Question → Asker → ObjId → Ask → Type 0
 IsAskedSo (questions.Other ob name) asker this a = AsksOutside asker this ob name a
 IsAskedSo (questions.CatchTell ob) asker this a = Applies asker (Some this) ob (codes "catch_tell") a
+IsAskedSo (questions.Load name) asker this a = a.what ≡ Load name Wanted
+
+-- it asks for a function
+abbrev pub IsCall : Question → Type 0
+IsCall (questions.Other ob name) = ⊤
+IsCall (questions.CatchTell ob) = ⊤
+IsCall (questions.Load name) = ⊥
 
 -- in some world it asks so
 pub record CanReach (this : ObjId) (question : Question) (told : Option Bytes) (live : Live) : Type 0 where
@@ -55,6 +62,7 @@ FindsAsked this question told0 live0 told1 live1 r =
 abbrev pub IsUnspelled : Question → Type 0
 IsUnspelled (questions.Other ob name) = IsAscii name → ⊥
 IsUnspelled (questions.CatchTell ob) = ⊥
+IsUnspelled (questions.Load name) = ⊥
 
 -- How it works
 
