@@ -43,7 +43,7 @@ FedOn (Some e) job0 job1 live stack1 = ⊤
 abbrev pub AsksFor : Stepped → ObjId → Question → ℕ → Option Bytes → Live → Option Bytes → Live → Type 0
 AsksFor (steps.Ended e) this q args told0 live0 told1 live1 = ⊥
 AsksFor (steps.Asks found n) this q args told0 live0 told1 live1 = IsCall q × FindsAsked this q told0 live0 told1 live1 found × (n ≡ args)
-AsksFor (steps.Loads name) this q args told0 live0 told1 live1 = q ≡ questions.Load name
+AsksFor (steps.Loads name) this q args told0 live0 told1 live1 = (q ≡ questions.Load name) × (told1 ≡ told0) × (live1 ≡ live0)
 
 -- what is called is in memory
 abbrev pub IsStepThere : Live → Stepped → Type 0
