@@ -16,4 +16,8 @@ pub mod Workings
 pub mod Cycling
 pub mod Applied
 pub mod Initialised
+pub mod Places
 pub mod Makings
+pub mod Loads
+pub mod LoadCauses
+pub mod ObjectLoads

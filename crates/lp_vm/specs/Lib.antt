@@ -16,3 +16,5 @@ pub mod Loaded
 pub mod Jobs
 pub mod Applying
 pub mod Initialising
+pub mod LoadFaults
+pub mod ObjectLoading

@@ -1,28 +1,36 @@
-use Rattle.std.proofs.Common.{◌≤◌, ◌+◌, ◌*◌, Ok}
+use Rattle.std.proofs.Common.{◌≡◌, ◌≤◌, ◌+◌, ◌*◌, Ok}
+use Rattle.std.specs.Prelude.{IsSome}
+use Rattle.std.specs.Str.{IsAscii}
 use Rattle.lp_step.specs.Steps.{IsFit, KeepsVariables}
 use Rattle.lp_run.specs.Runs.{left_of}
+use Rattle.lp_beginning.specs.Jobs as making
 use Rattle.lp_calling.specs.Jobs.{IsJobOn, IsReady, questions_left}
+use Rattle.lp_loading.specs.declared.job.Going.TheVariants as goings
+use Rattle.lp_loading.specs.Loads.{turns_left}
+use Rattle.lp_world.specs.Rows.{variables_at}
 use Rattle.lp_vm.specs.Answering.{IsSameAsker}
 use Rattle.lp_vm.specs.Causes.{Tells}
 use Rattle.lp_vm.specs.Going.{CanGo, Continues}
+use Rattle.lp_vm.specs.Loading.{CanLoadOn, LoadContinues}
+use Rattle.lp_vm.specs.Making.{CanMake, MakeContinues}
 use Rattle.lp_vm.specs.Working.{CanWork, WorkContinues}
 use Rattle.lp_vm.proofs.cycle.+calls.Given as goal
 
--- 1 is paid before a function runs; else each calls those that stand before it
+-- 1 is paid before a function runs, and 1000 before a load; else each calls those that stand before it
 abbrev pub decreases-answer : goal.decreases-answer
-decreases-answer g l = 5 * l.budget.now
+decreases-answer g l = 6 * l.budget.now
 
 abbrev pub decreases-work : goal.decreases-work
-decreases-work g l = 5 * l.budget.now + 1
+decreases-work g l = 6 * l.budget.now + 1
 
 abbrev pub decreases-call_efun : goal.decreases-call_efun
-decreases-call_efun g l = 5 * l.budget.now + 2
+decreases-call_efun g l = 6 * l.budget.now + 3
 
 abbrev pub decreases-serve : goal.decreases-serve
-decreases-serve g l = 5 * l.budget.now + 3
+decreases-serve g l = 6 * l.budget.now + 4
 
 abbrev pub decreases-go : goal.decreases-go
-decreases-go g l = 5 * l.budget.now + 4
+decreases-go g l = 6 * l.budget.now + 5
 
 -- what the rest of the run ends with is what all of it ends with
 abbrev pub invariant-go-turns : goal.invariant-go-turns

@@ -1,16 +1,20 @@
-use Rattle.std.proofs.Common.{◌≡◌, ◌≤◌, Ok}
+use Rattle.std.proofs.Common.{◌≡◌, ◌≤◌, ◌+◌, ◌*◌, Ok}
 use Rattle.std.specs.Prelude.{IsSome}
+use Rattle.std.specs.Str.{IsAscii}
 use Rattle.lp_step.specs.Steps.{IsFit, KeepsVariables}
+use Rattle.lp_beginning.specs.Jobs as making
+use Rattle.lp_loading.specs.declared.job.Going.TheVariants as goings
+use Rattle.lp_loading.specs.Loads.{turns_left}
 use Rattle.lp_world.specs.Rows.{variables_at}
-use Rattle.lp_beginning.specs.Jobs.{questions_left}
 use Rattle.lp_vm.specs.Answering.{IsSameAsker}
 use Rattle.lp_vm.specs.Causes.{Tells}
+use Rattle.lp_vm.specs.Loading.{CanLoadOn, LoadContinues}
 use Rattle.lp_vm.specs.Making.{CanMake, MakeContinues}
-use Rattle.lp_vm.proofs.making.make.Given as goal
+use Rattle.lp_vm.proofs.cycle.make.Given as goal
 
--- what the rest of the job ends with is what all of it ends with
-abbrev pub invariant-questions : goal.invariant-questions
-invariant-questions g l = record {
+-- of the rest of an object's parts
+abbrev pub invariant-parts : goal.invariant-parts
+invariant-parts g l = record {
   can : CanMake l.fn.caller l.fn.at l.making (g.W.SwapFile.content l.swap) l.live l.asker l.budget;
   there : IsSome (variables_at l.live.objects l.making.object);
   fit : IsFit l.live l.stack.items;
@@ -22,5 +26,6 @@ invariant-questions g l = record {
   goes : MakeContinues l.fn.caller l.fn.at l.fn.making (g.W.SwapFile.content l.fn.swap) l.fn.live l.fn.asker l.fn.budget l.making (g.W.SwapFile.content l.swap) l.live l.asker l.budget;
 }
 
-abbrev pub decreases-questions : goal.decreases-questions
-decreases-questions g l = questions_left l.making
+abbrev pub decreases-parts : goal.decreases-parts
+decreases-parts g l = making.questions_left l.making
+
