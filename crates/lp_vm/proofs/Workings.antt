@@ -1,5 +1,5 @@
 -- Jobs go on: to a question, what is answered, and on; or to their end.
-use Rattle.std.proofs.Common.{◌≡◌, ◌∙◌, ◌+◌, ◌++◌, ◌∷◌, [], ◌≤◌, ℕ, suc, List, Option, Some, None, refl, ap, sym, subst, length, map, take, append-nil, append_assoc, arith}
+use Rattle.std.proofs.Common.{◌≡◌, ◌∙◌, ◌+◌, ◌++◌, ◌∷◌, [], ◌≤◌, ℕ, suc, List, Option, Some, None, IfOk, Result, Ok, Err, refl, ap, sym, subst, length, map, take, append-nil, append_assoc, arith}
 use Rattle.std.specs.Prelude.{IfSome, reverse}
 use Rattle.std.specs.Option.{option_to_list}
 use Rattle.std.proofs.Math.Nat.{le_trans}
@@ -65,6 +65,11 @@ use Rattle.lp_vm.proofs.Carried.{world_settled}
 use Rattle.lp_vm.proofs.Grown.{grows_same, grows_trans, outcome_grown, place_if_grown}
 use Rattle.lp_vm.proofs.Startings.{same_asker, same_later}
 use Rattle.lp_vm.proofs.Turning.{end_for, outcome_end, world_reached}
+
+-- what follows of each answer
+pub if_ok_both : {A E : Type 0} {P Q R : A → Type 0} (r : Result A E) → ((x : A) → P x → Q x → R x) → IfOk r P → IfOk r Q → IfOk r R
+if_ok_both (Ok x) f p q = f x p q
+if_ok_both (Err e) f p q = tt
 
 -- The question
 
