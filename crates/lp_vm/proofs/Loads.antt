@@ -2,6 +2,7 @@
 use Rattle.std.proofs.Common.{◌≡◌, ◌∙◌, ◌++◌, ◌∷◌, [], ◌+◌, ◌*◌, ◌<◌, ◌≤◌, ℕ, zero, suc, List, Option, Some, None, Bool, true, false, refl, ap, sym, subst, map, append-nil, append_assoc, arith}
 use Rattle.std.specs.Prelude.{IsSome, reverse}
 use Rattle.std.specs.Option.{option_to_list}
+use Rattle.std.specs.Str.{IsAscii}
 use Rattle.std.proofs.Math.Nat.{le_refl, le_trans}
 use Rattle.std.proofs.lemmas.List.{map-append, reverse-append}
 use Rattle.lp_values.specs.declared.id.ObjId.{ObjId}
@@ -46,7 +47,7 @@ use Rattle.lp_loading.specs.declared.job.Purpose.{Purpose}
 use Rattle.lp_loading.specs.declared.job.Purpose.TheVariants as purposes
 use Rattle.lp_loading.specs.declared.job.Step.TheVariants as steps
 use Rattle.lp_loading.specs.declared.job.Waiting.{Waiting}
-use Rattle.lp_loading.specs.Going.{FedTo, HasAsked, HasMade, IsAnswerOf, IsAnswerThere, IsAt, IsEndAt, Takes, setting, state_in}
+use Rattle.lp_loading.specs.Going.{FedTo, HasAsked, HasBegun, HasMade, HasSpent, IsAnswerOf, IsAnswerThere, IsAt, IsEndAt, Takes, setting, state_in}
 use Rattle.lp_loading.specs.Loads.{IsUnderWay, going_course, kind_of, loads_of, waiting_course}
 use Rattle.lp_loading.specs.Present.{HasWorld}
 use Rattle.lp_loading.specs.Steps.{IsSameLoad, answer_of}
@@ -380,6 +381,25 @@ loads_later caller at job0 job1 going0 going1 told0 told1 told2 live0 live1 live
 loads_with : (ls : List Loading) (l : Loading) → loads_of (ls ++ l ∷ []) ≡ loading_of l ∷ loads_of ls
 loads_with ls l = ap (map loading_of) (reverse-append ls (l ∷ []))
 
+-- it begins, once the load is the innermost under way, ..
+pub load_began : (job : LoadJob) (name : List ℕ) (purpose : Purpose) (asker0 asker1 : Asker) (budget0 budget1 : ℕ) → ((a : Ask) → a.budget ≡ budget0 → a.loads ≡ loads_of asker0.loads.items → HasBegun job name purpose asker0.loads.items a budget1) → budget0 ≡ budget1 + 1000
+    → asker1 ≡ record asker0 { loads = asker1.loads } → asker1.loads.items ≡ asker0.loads.items ++ record { name = name; nested = job.nested } ∷ [] → BeginsLoad job name purpose asker0 budget0 asker1 budget1
+load_began job name purpose asker0 asker1 budget0 budget1 begins paid others items = record {
+  load = record {
+    turn = ap (λ (z : Asker). z.turn) others;
+    interactive = ap (λ (z : Asker). z.interactive) others;
+    callers = ap (λ (z : Asker). z.callers.items) others;
+    depth = ap (λ (z : Asker). z.depth) others;
+    loads = items;
+  };
+  paid = paid;
+  begun = begins;
+}
+
+-- .. or its price cannot be paid
+pub load_did_not : (name : List ℕ) (purpose : Purpose) (asker : Asker) (budget0 budget1 : ℕ) → ((a : Ask) → a.budget ≡ budget0 → a.loads ≡ loads_of asker.loads.items → HasSpent name purpose a budget1) → budget1 ≡ 0 → CannotPay name purpose asker budget0 asker budget1
+load_did_not name purpose asker budget0 budget1 spent none = record { asker = refl; spent = spent; none = none }
+
 module _ (caller : Option ObjId) (at : Option Place) (name : List ℕ) (purpose : Purpose) (told : Option Bytes) (live : Live) (stack : List Value) (asker0 asker1 : Asker) (budget0 budget1 : ℕ) where
   -- its price cannot be paid
   pub load_unpaid : CannotPay name purpose asker0 budget0 asker1 budget1 → IsFit live stack
@@ -427,8 +447,15 @@ module _ (caller : Option ObjId) (at : Option Place) (name : List ℕ) (purpose 
       abbrev paid_state : State
       paid_state = record (state_of load_ask) { budget = budget1 }
 
+      begun : HasBegun job name purpose asker0.loads.items load_ask budget1
+      begun = begins.begun load_ask w.fits.at.left w.loads
+
       loader_loads : loader.loads ≡ loads_of asker1.loads.items
-      loader_loads = ap (λ l. loading_of (record { name = job.name; nested = job.nested }) ∷ l) w.loads ∙ sym (loads_with asker0.loads.items (record { name = job.name; nested = job.nested })) ∙ sym (ap loads_of begins.load.loads)
+      loader_loads =
+          ap (λ n. record { name = n; nested = job.nested } ∷ by.loads) begun.name_is
+          ∙ ap (λ l. loading_of (record { name = name; nested = job.nested }) ∷ l) w.loads
+          ∙ sym (loads_with asker0.loads.items (record { name = name; nested = job.nested }))
+          ∙ sym (ap loads_of begins.load.loads)
 
       is_loading : IsLoading caller at job told programs live.outputs live asker1 budget1 loader paid_state (suc budget1)
       is_loading = record {
@@ -454,7 +481,10 @@ module _ (caller : Option ObjId) (at : Option Place) (name : List ℕ) (purpose 
       }
 
       course_is : load_course name purpose by s ≡ going_course (suc budget1) job goings.Simul loader paid_state
-      course_is = (begins.begun load_ask w.fits.at.left w.loads).course
+      course_is = begun.course
+
+    pub load_ascii : CanLoad caller at told live asker0 budget0 → IsAscii job.name
+    load_ascii h = (begun h.programs h.before h.by h.state h.behind).ascii
 
     pub load_can_go : CanLoad caller at told live asker0 budget0 → CanLoadOn caller at job told live asker1 budget1
     load_can_go h = record {
@@ -492,7 +522,7 @@ module _ (caller : Option ObjId) (at : Option Place) (name : List ℕ) (purpose 
       paid = paid_for r budget2 h.spends;
       same = record {
         interactive = interactive ∙ h.same.interactive ∙ begins.load.interactive;
-        loads = loads asker0.loads.items (record { name = job.name; nested = job.nested }) (h.same.loads ∙ begins.load.loads);
+        loads = loads asker0.loads.items (record { name = name; nested = job.nested }) (h.same.loads ∙ begins.load.loads);
         callers = ap (λ ls. ls.items) callers ∙ h.same.callers ∙ begins.load.callers;
         depth = depth ∙ h.same.depth ∙ begins.load.depth;
       };

@@ -1,6 +1,5 @@
 -- A file is loaded on behalf of who asks.
 use Rattle.std.specs.Prelude.{◌≡◌, ◌+◌, ◌<◌, ◌≤◌, ◌++◌, ◌∷◌, ⊤, ℕ, List, [], Option}
-use Rattle.std.specs.Str.{IsAscii}
 use Rattle.lp_values.specs.declared.id.ObjId.{ObjId}
 use Rattle.lp_values.specs.declared.value.Value.{Value}
 use Rattle.lp_code.specs.declared.program.RawProgram.{RawProgram}
@@ -85,18 +84,17 @@ pub record CanLoad (caller : Option ObjId) (at : Option Place) (told : Option By
 -- How it begins
 
 -- the load is the innermost under way, and nothing else changed of who asks
-pub record HasLoad (job : LoadJob) (old new : Asker) : Type 0 where
+pub record HasLoad (name : List ℕ) (job : LoadJob) (old new : Asker) : Type 0 where
   pub turn : new.turn ≡ old.turn
   pub interactive : new.interactive ≡ old.interactive
   pub callers : new.callers.items ≡ old.callers.items
   pub depth : new.depth ≡ old.depth
-  pub loads : new.loads.items ≡ old.loads.items ++ record { name = job.name; nested = job.nested } ∷ []
+  pub loads : new.loads.items ≡ old.loads.items ++ record { name = name; nested = job.nested } ∷ []
 
 -- It begins: its price is paid. Each such question of the meaning is its course then.
 pub record BeginsLoad (job : LoadJob) (name : List ℕ) (purpose : Purpose) (asker0 : Asker) (budget0 : ℕ) (asker1 : Asker) (budget1 : ℕ) : Type 0 where
-  pub load : HasLoad job asker0 asker1
+  pub load : HasLoad name job asker0 asker1
   pub paid : budget0 ≡ budget1 + 1000
-  pub ascii : IsAscii job.name
   pub begun : (a : Ask) → a.budget ≡ budget0 → a.loads ≡ loads_of asker0.loads.items → HasBegun job name purpose asker0.loads.items a budget1
 
 -- or its price cannot be paid, and nothing changed of who asks
