@@ -10,7 +10,6 @@ use Rattle.lp_meaning.specs.Askers.{question}
 use Rattle.lp_meaning.specs.Closing.{Ends, Has}
 use Rattle.lp_meaning.specs.FileLoads.{could_not_load, loaded_value}
 use Rattle.lp_meaning.specs.FrontEnd.{FrontEnd}
-use Rattle.lp_meaning.specs.NothingLost.{AskedBelow, StaysBelow}
 use Rattle.lp_world.specs.declared.live.Live.{Live}
 use Rattle.lp_beginning.specs.Beginning.{Fits}
 use Rattle.lp_calling.specs.declared.job.Question.{Question}
@@ -70,19 +69,6 @@ behind_ends front (questions.Load name) xs by t go o end given has can h =
     asks_ends front (question (Load name Wanted) [] by t) (λ o. and_then (and_then (Over (end_of_reply o.answer (after t o))) (λ r s. loaded_value name r s)) go) o end
     (subst (λ l. Has front (question (Load name Wanted) l by t) o) given has) (subst (λ l. CanAnswer (question (Load name Wanted) l by t) o) given can)
     (subst (λ c. Ends front c end) (sym (loaded_then name (end_of_reply o.answer (after t o)) go)) h)
-
--- nothing is lost by what is asked, nor by what is left behind an outcome
-pub record StaysBehind (n : ℕ) (r : State) (q : Question) (xs : List Value) (by : meaning.Asker) (t : State) (go : Value → State → Course Value) : Type 0 where
-  pub asked : AskedBelow n r (question (asked_of q) xs by t)
-  pub rest : (o : Outcome) → CanAnswer (question (asked_of q) xs by t) o → StaysBelow n r (and_then (Over (value_behind q t o)) go)
-
-pub behind_stays : (n : ℕ) (r : State) (q : Question) (xs : List Value) (by : meaning.Asker) (t : State) (go : Value → State → Course Value) → IsAskedWith q xs → StaysBelow n r (and_then (question_course q xs by t) go) → StaysBehind n r q xs by t go
-behind_stays n r (questions.Other ob name) xs by t go given h = record { asked = h.0; rest = h.1 }
-behind_stays n r (questions.CatchTell ob) xs by t go given h = record { asked = h.0; rest = h.1 }
-behind_stays n r (questions.Load name) xs by t go given h = record {
-  asked = subst (λ l. AskedBelow n r (question (Load name Wanted) l by t)) (sym given) h.0;
-  rest = λ o can. subst (λ (c : Course Value). StaysBelow n r c) (loaded_then name (end_of_reply o.answer (after t o)) go) (h.1 o (subst (λ l. CanAnswer (question (Load name Wanted) l by t) o) given can));
-}
 
 -- A load
 

@@ -11,14 +11,12 @@ use Rattle.lp_code.specs.declared.program.RawProgram.{RawProgram}
 use Rattle.lp_events.specs.declared.out.Out.{Out}
 use Rattle.lp_swapfile.specs.Device.{Bytes}
 use Rattle.lp_language.specs.Course.{Ask, CanAnswer, Course, Over, End, Gives, Outcome, Scene, State, Stops, after, and_then, outcome_of}
-use Rattle.lp_language.proofs.Kept.{keeps_trans}
 use Rattle.lp_meaning.specs.Askers as meaning
 use Rattle.lp_meaning.specs.Askers.{question}
 use Rattle.lp_meaning.specs.Closing.{Ends, Has}
 use Rattle.lp_meaning.specs.FrontEnd.{FrontEnd}
 use Rattle.lp_front_end.specs.FrontEnds.{IsFrontEnd}
-use Rattle.lp_meaning.specs.FunctionCalls.{callers_behind, depth_behind, place_of_asker}
-use Rattle.lp_meaning.specs.NothingLost.{StaysBelow}
+use Rattle.lp_meaning.specs.FunctionCalls.{callers_behind, depth_behind}
 use Rattle.lp_meaning.proofs.Kept.{outcomes_can_be}
 use Rattle.lp_world.specs.declared.live.Live.{Live}
 use Rattle.lp_step.specs.Steps.{IsFit, KeepsVariables}
@@ -57,12 +55,13 @@ use Rattle.lp_vm.specs.Growing.{Grows}
 use Rattle.lp_vm.specs.Jobs.{AsksFor, Feeds, IsStepThere, StepsTo, WorkAsks, WorkLoads}
 use Rattle.lp_vm.specs.Loaded.{loaded_ending}
 use Rattle.lp_vm.specs.Loading.{CanLoad, LoadEnds, Loads, load_course}
-use Rattle.lp_vm.specs.Making.{IsBehind}
+use Rattle.lp_vm.specs.Making.{AsksAt, IsBehind}
 use Rattle.lp_vm.specs.Working.{CanReach, CanWork, FindsAsked, IsAskedSo, IsCall, IsWorking, WorkContinues, WorkTurned, Worked, WorkedTo, WorksOn}
 use Rattle.lp_vm.proofs.Answered.{answer_outcome, setting}
-use Rattle.lp_vm.proofs.Behind.{StaysBehind, behind_ends, behind_stays, call_behind, load_end_for, load_fits, load_has, load_outcome, value_behind}
+use Rattle.lp_vm.proofs.Behind.{behind_ends, call_behind, load_end_for, load_fits, load_has, load_outcome, value_behind}
 use Rattle.lp_vm.proofs.Carried.{world_settled}
-use Rattle.lp_vm.proofs.Grown.{grows_same, grows_trans, outcome_grown, place_if_grown}
+use Rattle.lp_vm.proofs.Grown.{grows_same, grows_trans, outcome_grown}
+use Rattle.lp_vm.proofs.Places.{runs_still}
 use Rattle.lp_vm.proofs.Startings.{same_asker, same_later}
 use Rattle.lp_vm.proofs.Turning.{end_for, outcome_end, world_reached}
 
@@ -91,14 +90,14 @@ module _ (at : Place) (job0 job1 : Job) (told0 : Option Bytes) (live0 live1 : Li
     abbrev pub has : HasAsked q n job0 own live0 asker0.turn budget0 job1 low stack1 live1 budget1
     has = goes low own w.lies w.height
 
-    abbrev came : (t : State) × Settled s.world (setting told0 programs before) live1 asker0.turn budget1 t × (course_of job0 own by s ≡ and_then (question_course q has.arguments by t) (rest_of job1 has.own by))
+    abbrev pub came : (t : State) × Settled s.world (setting told0 programs before) live1 asker0.turn budget1 t × (course_of job0 own by s ≡ and_then (question_course q has.arguments by t) (rest_of job1 has.own by))
     came = has.course (setting told0 programs before) by s w.fits.at
 
     abbrev pub the_ask : Ask
     the_ask = question (asked_of q) has.arguments by came.0
 
     asks_so : IsAskedSo q asker0 at.this the_ask
-    asks_so = question_asked q asker0 at.this by c has.arguments came.0 w.scene w.this_is w.callers
+    asks_so = question_asked q asker0 at.this by c has.arguments came.0 w.scene w.runs.this w.callers
 
     world_then : IsWorldOf told0 programs live1 the_ask.world
     world_then = world_settled told0 programs live0 live1 s.world came.0.world w.fits.world came.1.at.stands came.1.settles
@@ -109,22 +108,18 @@ module _ (at : Place) (job0 job1 : Job) (told0 : Option Bytes) (live0 live1 : Li
     deep : depth_behind by.scene ≡ asker0.depth + 1
     deep = let d : depth_behind by.scene ≡ suc c.depth = ap depth_behind w.scene in omega (arith, d, w.depth)
 
-    -- from where the efun began nothing is lost
-    stays_on : StaysBehind w.level w.start q has.arguments by came.0 (rest_of job1 has.own by)
-    stays_on = behind_stays w.level w.start q has.arguments by came.0 (rest_of job1 has.own by) has.with_these (subst (λ (x : Course Value). StaysBelow w.level w.start x) came.2 w.stays)
-
     low_is : length low ≡ job1.low
     low_is = w.height ∙ sym has.height
 
     -- The question had this outcome, in a state for which the live state stands; what it gives is how it ended on the state.
-    record IsAnswered (front : FrontEnd) (told3 : Option Bytes) (live3 : Live) (asker3 : Asker) (budget3 : ℕ) (e : Ending) : Type 0 where
-      outcome : Outcome
-      has_it : Has front the_ask outcome
-      programs3 : List RawProgram
-      grown : Grows programs programs3
-      fits : Fits (setting told3 programs3 before) live3 asker3.turn budget3 (after came.0 outcome)
-      gives : IsEndFor e (value_behind q came.0 outcome) (after came.0 outcome)
-      ended : IsOutcome told3 programs before live3 asker3 budget3 e (outcome_of (plain_end (value_behind q came.0 outcome)))
+    pub record IsAnswered (front : FrontEnd) (told3 : Option Bytes) (live3 : Live) (asker3 : Asker) (budget3 : ℕ) (e : Ending) : Type 0 where
+      pub outcome : Outcome
+      pub has_it : Has front the_ask outcome
+      pub programs3 : List RawProgram
+      pub grown : Grows programs programs3
+      pub fits : Fits (setting told3 programs3 before) live3 asker3.turn budget3 (after came.0 outcome)
+      pub gives : IsEndFor e (value_behind q came.0 outcome) (after came.0 outcome)
+      pub ended : IsOutcome told3 programs before live3 asker3 budget3 e (outcome_of (plain_end (value_behind q came.0 outcome)))
 
     -- What an answer leads to
     module _ (front : FrontEnd) (told3 : Option Bytes) (live3 : Live) (stack3 stack4 : List Value) (asker3 : Asker) (budget3 : ℕ) (job3 : Job) (e : Ending) (x : IsAnswered front told3 live3 asker3 budget3 e) (same : IsSameAsker asker0 asker3) (left : stack3 ≡ low ++ has.own) where
@@ -157,15 +152,11 @@ module _ (at : Place) (job0 job1 : Job) (told0 : Option Bytes) (live0 live1 : Li
               scene = w.scene;
               interactive = w.interactive ∙ sym same.interactive;
               loads = w.loads ∙ ap (λ l. map loading_of (reverse l)) (sym same.loads);
-              this_is = w.this_is;
+              runs = runs_still programs x.programs3 at c x.grown w.runs;
               callers = w.callers ∙ ap reverse (sym same.callers);
               depth = w.depth ∙ sym same.depth;
               lies = k.stack;
               height = low_is ∙ sym k.height;
-              level = w.level;
-              start = w.start;
-              stays = subst (λ (y : Course Value). StaysBelow w.level w.start y) goes_on (subst (λ (z : End Value). StaysBelow w.level w.start (and_then (Over z) (rest_of job1 has.own by))) gives (stays_on.rest x.outcome can_be));
-              place = λ u keeps. place_if_grown programs x.programs3 u (Some at) (place_of_asker u by) x.grown (w.place u keeps);
             };
             back = λ end h. back_by (Gives v t) end gives (subst (λ y. Ends front y end) (sym goes_on) h);
           }
@@ -210,7 +201,7 @@ module _ (at : Place) (job0 job1 : Job) (told0 : Option Bytes) (live0 live1 : Li
 
       module _ (front : FrontEnd) (real : IsFrontEnd front) (outs : live2.outputs ≡ live1.outputs) (told3 : Option Bytes) (live3 : Live) (stack3 : List Value) (asker3 : Asker) (budget3 : ℕ) (e : Ending)
           (answers : Answers (requests.Function found) args told1 live2 stack1 asker0 budget1 told3 live3 stack3 asker3 budget3 e) where
-        abbrev pub sv : Serves front told3 programs live2.outputs live3 stack3 (low ++ has.own) asker3 budget3 e the_ask
+        sv : Serves front told3 programs live2.outputs live3 stack3 (low ++ has.own) asker3 budget3 e the_ask
         sv = answers.served front real programs the_ask (low ++ has.own) asked reaches
 
         before_is : live2.outputs ≡ before ++ came.0.outputs
@@ -253,9 +244,9 @@ module _ (at : Place) (job0 job1 : Job) (told0 : Option Bytes) (live0 live1 : Li
         fits = record { at = came.1.at; world = world_then };
         interactive = w.interactive;
         loads = w.loads;
-        callers = callers_so asker0 at.this by c w.scene w.this_is w.callers;
+        callers = callers_so asker0 at.this by c w.scene w.runs.this w.callers;
         depth = deep;
-        place = λ u keeps. w.place u (keeps_trans w.start.world came.0.world u stays_on.asked.keeps keeps);
+        place = subst (AsksAt programs (Some at)) (sym w.scene) w.runs;
       }
 
       module _ (front : FrontEnd) (real : IsFrontEnd front) (told3 : Option Bytes) (live3 : Live) (stack3 : List Value) (asker3 : Asker) (budget3 : ℕ) (r : Answer) (loads : Loads (Some at.this) (Some at) name purposes.Wanted told0 live1 stack1 asker0 budget1 told3 live3 stack3 asker3 budget3 r) where

@@ -1,6 +1,6 @@
 -- An object that was made begins: its job goes on for a course of the meaning.
-use Rattle.std.specs.Prelude.{◌≡◌, ◌+◌, ◌≤◌, ◌++◌, ⊤, ℕ, List, Option, Some, None, All, codes, map, reverse, slice_get}
-use Rattle.std.specs.Option.{option_map, option_to_list}
+use Rattle.std.specs.Prelude.{◌≡◌, ◌+◌, ◌≤◌, ◌++◌, ⊤, ℕ, List, Option, Some, None, All, codes, map, reverse}
+use Rattle.std.specs.Option.{option_to_list}
 use Rattle.lp_values.specs.declared.id.ObjId.{ObjId}
 use Rattle.lp_values.specs.declared.value.Value.{Value}
 use Rattle.lp_code.specs.declared.program.RawProgram.{RawProgram}
@@ -31,6 +31,7 @@ use Rattle.lp_beginning.specs.Beginning.{Fits, IsInitialised}
 use Rattle.lp_beginning.specs.Feeding.{AsksNext}
 use Rattle.lp_beginning.specs.Jobs.{course_of, parts_left}
 use Rattle.lp_vm.specs.Growing.{Grows}
+use Rattle.lp_vm.specs.Requests.{RunsAt}
 use Rattle.lp_vm.specs.Answering.{Answered, IsSameAsker}
 
 -- What the job asks
@@ -66,14 +67,6 @@ pub record MakeAsks (found : Option Reached) (caller : Option ObjId) (job : Maki
   pub finds : FindsFor caller question told0 live0 told1 live1 found
 
 -- How it begins
-
--- A function runs at a place: in its object, in the text of that version, whose program has its name in that row.
-pub record RunsAt (programs : List RawProgram) (at : Place) (c : Scene) : Type 0 where
-  pub this : c.this ≡ at.this
-  pub version : c.version ≡ at.program
-  pub raw : RawProgram
-  pub is : slice_get programs at.program.0 ≡ Some raw
-  pub function : option_map (λ f. f.name) (slice_get raw.funs at.fun) ≡ Some c.function
 
 -- who asks is the function that runs there, or the driver
 abbrev pub AsksAt : List RawProgram → Option Place → Option Scene → Type 0
