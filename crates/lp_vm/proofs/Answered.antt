@@ -9,15 +9,14 @@ use Rattle.lp_instr.specs.declared.efun.Efun.{Efun}
 use Rattle.lp_events.specs.declared.out.Out.{Out}
 use Rattle.lp_swapfile.specs.Device.{Bytes}
 use Rattle.lp_language.specs.World.{World}
-use Rattle.lp_language.specs.Course.{Ask, Asks, Course, Over, End, Gives, OfEfun, Scene, State, Stops, outcome_of}
+use Rattle.lp_language.specs.Course.{Ask, Over, End, Gives, OfEfun, Scene, State, Stops, outcome_of}
 use Rattle.lp_meaning.specs.Askers as meaning
 use Rattle.lp_meaning.specs.Askers.{asker_of, plainly, state_of}
 use Rattle.lp_meaning.specs.Closing.{Ends, Has}
 use Rattle.lp_meaning.specs.FrontEnd.{FrontEnd}
 use Rattle.lp_meaning.specs.FunctionCalls.{depth_behind, nothing_called}
-use Rattle.lp_meaning.specs.NothingLost.{StaysBelow, level}
 use Rattle.lp_meaning.specs.Questions.{efun_in, meaning_of, means}
-use Rattle.lp_meaning.proofs.Kept.{nothing_is_lost, outcomes_can_be}
+use Rattle.lp_meaning.proofs.Kept.{outcomes_can_be}
 use Rattle.lp_world.specs.declared.live.Live.{Live}
 use Rattle.lp_step.specs.Steps.{IsFit, KeepsVariables}
 use Rattle.lp_efuns.specs.declared.answer.Answer.{Answer}
@@ -65,19 +64,9 @@ efun_has : (front : FrontEnd) (a : Ask) (e : Efun) (c : Scene) (end : End Value)
 efun_has front a e c end scene what h =
     has_of front a (plainly (efun_in e (asker_of a) c a.arguments (state_of a))) (plain_end end) (means_efun a e c scene what) (plainly_ends front (efun_in e (asker_of a) c a.arguments (state_of a)) end h)
 
--- its course loses nothing
-unplain : (n : ℕ) (r : State) (t : Course Value) → StaysBelow n r (plainly t) → StaysBelow n r t
-unplain n r (Over (Gives v s)) h = h
-unplain n r (Over (Stops x s)) h = h
-unplain n r (Asks a k) h = (h.0, λ o can. unplain n r (k o) (h.1 o can))
-
-efun_stays : (a : Ask) (e : Efun) (c : Scene) → a.scene ≡ Some c → a.what ≡ OfEfun e → StaysBelow (level a) (state_of a) (efun_in e (asker_of a) c a.arguments (state_of a))
-efun_stays a e c scene what =
-    unplain (level a) (state_of a) (efun_in e (asker_of a) c a.arguments (state_of a)) (nothing_is_lost a (plainly (efun_in e (asker_of a) c a.arguments (state_of a))) (means_efun a e c scene what))
-
 -- who calls it
 scene_so : (caller : Caller) (programs : List RawProgram) (asker : Asker) (at : Place) (e : Efun) (a : Ask) (h : AsksEfun programs asker at e a) → caller.this ≡ at.this → caller.interactive ≡ asker.interactive → caller.callers.now ≡ asker.callers.items → IsScene caller h.scene
-scene_so caller programs asker at e a h t i c = record { this = h.this_is ∙ sym t; interactive = h.interactive ∙ sym i; callers = h.callers ∙ ap reverse (sym c) }
+scene_so caller programs asker at e a h t i c = record { this = h.runs.this ∙ sym t; interactive = h.interactive ∙ sym i; callers = h.callers ∙ ap reverse (sym c) }
 
 -- the state in which it is called
 abbrev pub setting : Option Bytes → List RawProgram → List Out → Setting
@@ -228,15 +217,11 @@ module _ (at : Place) (efun : Efun) (live : Live) (stack0 stack1 : List Value) (
           scene = q.scene_is;
           interactive = h.by.interactive;
           loads = h.by.loads;
-          this_is = q.this_is;
+          runs = q.runs;
           callers = q.callers;
           depth = omega (arith, deep);
           lies = b.stack;
           height = b.height;
-          level = level a;
-          start = state_of a;
-          stays = subst (λ (t : Course Value). StaysBelow (level a) (state_of a) t) r.2 (efun_stays a efun q.scene q.scene_is q.what);
-          place = q.place;
         };
         course = r.2;
       }

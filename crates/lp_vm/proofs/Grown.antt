@@ -1,5 +1,5 @@
 -- What was so with some programs is so with more behind them.
-use Rattle.std.proofs.Common.{◌≡◌, ◌∙◌, ◌++◌, ◌<◌, ℕ, List, [], ◌∷◌, Option, Some, None, All, refl, ap, sym, subst, length, map, slice_get, append-nil, append_assoc, arith}
+use Rattle.std.proofs.Common.{◌≡◌, ◌∙◌, ◌++◌, ◌<◌, ℕ, List, [], ◌∷◌, Option, Some, All, refl, ap, sym, subst, length, map, slice_get, append-nil, append_assoc, arith}
 use Rattle.std.proofs.lemmas.List.Elements.{All-head, All-tail, All-weaker}
 use Rattle.lp_values.specs.declared.id.ObjId.{ObjId}
 use Rattle.lp_values.specs.declared.id.ProgId.{ProgId}
@@ -21,7 +21,7 @@ use Rattle.lp_asking.specs.declared.asker.Asker.{Asker}
 use Rattle.lp_asking.specs.declared.ending.Ending.{Ending}
 use Rattle.lp_asking.specs.declared.ending.Place.{Place}
 use Rattle.lp_asking.specs.Asking.{code_in, names_in, rows_in}
-use Rattle.lp_asking.specs.Endings.{IsPlace, IsPlaceIf}
+use Rattle.lp_asking.specs.Endings.{IsPlace}
 use Rattle.lp_reaching.specs.Compiled.{IsCaller}
 use Rattle.lp_vm.specs.Going.{IsOutcome}
 use Rattle.lp_vm.specs.Growing.{Grows}
@@ -70,12 +70,6 @@ caller_grown ps qs w this part code g h = λ u keeps. let c = h u keeps in recor
 
 pub place_grown : (ps qs : List RawProgram) (w : World) (at : Place) (x : course.Place) → Grows ps qs → IsPlace ps w at x → IsPlace qs w at x
 place_grown ps qs w at x g h = record { raw = h.raw; is = still_at ps qs at.program.0 h.raw g h.is; function = h.function; program = h.program; object = h.object }
-
-pub place_if_grown : (ps qs : List RawProgram) (w : World) (at : Option Place) (x : Option course.Place) → Grows ps qs → IsPlaceIf ps w at x → IsPlaceIf qs w at x
-place_if_grown ps qs w None None g h = tt
-place_if_grown ps qs w None (Some x) g h = absurd h
-place_if_grown ps qs w (Some at) None g h = absurd h
-place_if_grown ps qs w (Some at) (Some x) g h = place_grown ps qs w at x g h
 
 -- Outcomes
 

@@ -10,7 +10,8 @@ use Rattle.lp_asking.specs.declared.ending.Place.{Place}
 use Rattle.lp_asking.specs.Endings.{IsPlace, IsPlaceIf}
 use Rattle.lp_beginning.specs.Feeding.{IsAskerAt}
 use Rattle.lp_vm.specs.Growing.{Grows}
-use Rattle.lp_vm.specs.Places.{AsksAt, RunsAt}
+use Rattle.lp_vm.specs.Making.{AsksAt}
+use Rattle.lp_vm.specs.Requests.{RunsAt}
 use Rattle.lp_vm.proofs.Grown.{still_at}
 
 -- a function runs at its place, ..

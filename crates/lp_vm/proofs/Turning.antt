@@ -9,10 +9,9 @@ use Rattle.lp_instr.specs.declared.efun.Efun.{Efun}
 use Rattle.lp_instr.specs.Code.{Catching}
 use Rattle.lp_events.specs.declared.out.Out.{Out}
 use Rattle.lp_swapfile.specs.Device.{Bytes}
-use Rattle.lp_language.specs.World.{World, is_live, object_at, version_at}
+use Rattle.lp_language.specs.World.{World, is_live}
 use Rattle.lp_language.specs.Course as course
 use Rattle.lp_language.specs.Course.{Answer, Ask, CanAnswer, Course, Over, Asks, End, Gives, OfEfun, Outcome, Plain, Reply, Returned, Scene, State, Stopped, Stops, after, asking, caught, end_of_answer, end_of_outcome, outcome_of, value_in}
-use Rattle.lp_language.specs.Resolve.{without_c}
 use Rattle.lp_isa.specs.Machine.{Moment, Next, Goes, Ended, Awaits, Wrong, awaits, push_end}
 use Rattle.lp_isa.specs.SoundCode.{NextMatches}
 use Rattle.lp_isa.specs.Work.{NextLess, work_of}
@@ -141,15 +140,7 @@ module _ (p : RawProgram) (k : ℕ) (row : FunRow) (f : IsFunction p k row) (a :
   asks_efun e what = record {
     scene = a.scene;
     scene_is = refl;
-    this_is = sym c.matches.sits.belongs.this;
     runs = record { this = sym c.matches.sits.belongs.this; version = sym c.matches.sits.belongs.version; raw = frame1.code; is = c.matches.sits.belongs.program; function = c.matches.sits.belongs.function };
-    place = λ w keeps. record {
-      raw = frame1.code;
-      is = c.matches.sits.belongs.program;
-      function = c.matches.sits.belongs.function;
-      program = ap (λ v. without_c (version_at w v).path) (sym c.matches.sits.belongs.version);
-      object = ap (λ o. (object_at w o).name) (sym c.matches.sits.belongs.this);
-    };
     interactive = g.by.interactive;
     callers = g.by.callers;
     what = what;

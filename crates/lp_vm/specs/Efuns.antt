@@ -1,5 +1,5 @@
 -- Efuns that a running function calls begin.
-use Rattle.std.specs.Prelude.{◌≡◌, ◌≤◌, ◌⊎◌, ℕ, List, Option, None, Bool, true, false}
+use Rattle.std.specs.Prelude.{◌≡◌, ◌≤◌, ℕ, List, Option, None, Bool, true, false}
 use Rattle.lp_values.specs.declared.value.Value.{Value}
 use Rattle.lp_instr.specs.declared.efun.Efun.{Efun}
 use Rattle.lp_instr.specs.declared.efun.Efun.TheVariants as efuns
@@ -11,7 +11,6 @@ use Rattle.lp_efuns.specs.declared.answer.Answer.TheVariants as answers
 use Rattle.lp_efuns.specs.Plain.{is_plain}
 use Rattle.lp_calling.specs.declared.job.Job.{Job}
 use Rattle.lp_calling.specs.Beginning.{is_calling}
-use Rattle.lp_calling.specs.Targets.{NeedsLoad}
 use Rattle.lp_calling.specs.Jobs.{IsJobOn, IsReady}
 use Rattle.lp_asking.specs.declared.asker.Asker.{Asker}
 use Rattle.lp_asking.specs.declared.ending.Cause.{Cause}
@@ -42,10 +41,9 @@ abbrev pub is_ending : Efun → Bool
 is_ending efuns.Destruct = true
 is_ending _ = false
 
--- An efun is not carried out yet: it is neither one that is answered at once nor one that goes on as a job, or an object would
--- have to be loaded for it.
-abbrev pub IsNotYet : Live → Efun → List Value → Type 0
-IsNotYet live e vs = ((is_plain e ≡ false) × (is_calling e ≡ false) × (is_ending e ≡ false)) ⊎ NeedsLoad live e vs
+-- An efun is not carried out yet: it is neither one that is answered at once nor one that goes on as a job.
+abbrev pub IsNotYet : Efun → Type 0
+IsNotYet e = (is_plain e ≡ false) × (is_calling e ≡ false) × (is_ending e ≡ false)
 
 -- An efun goes on as a job. That can work, and however it ends, the efun is answered by that.
 pub record HasBegunEfun (at : Place) (efun : Efun) (args : ℕ) (live0 : Live) (stack0 : List Value) (asker0 : Asker) (budget0 : ℕ) (job : Job) (live1 : Live) (stack1 : List Value) (asker1 : Asker) (budget1 : ℕ) : Type 0 where

@@ -1,5 +1,5 @@
 -- An object that was made begins: its job goes on for a course of the meaning.
-use Rattle.std.specs.Prelude.{◌≡◌, ◌+◌, ◌≤◌, ◌++◌, ℕ, List, Option, All, codes, map, reverse}
+use Rattle.std.specs.Prelude.{◌≡◌, ◌+◌, ◌≤◌, ◌++◌, ⊤, ℕ, List, Option, Some, None, All, codes, map, reverse}
 use Rattle.std.specs.Option.{option_to_list}
 use Rattle.lp_values.specs.declared.id.ObjId.{ObjId}
 use Rattle.lp_values.specs.declared.value.Value.{Value}
@@ -7,7 +7,7 @@ use Rattle.lp_code.specs.declared.program.RawProgram.{RawProgram}
 use Rattle.lp_events.specs.declared.out.Out.{Out}
 use Rattle.lp_swapfile.specs.Device.{Bytes}
 use Rattle.lp_language.specs.World.{Keeps, World}
-use Rattle.lp_language.specs.Course.{Ask, Course, End, Reply, State}
+use Rattle.lp_language.specs.Course.{Ask, Course, End, Reply, Scene, State}
 use Rattle.lp_meaning.specs.Askers as meaning
 use Rattle.lp_meaning.specs.Closing.{Ends}
 use Rattle.lp_meaning.specs.FrontEnd.{FrontEnd}
@@ -31,7 +31,7 @@ use Rattle.lp_beginning.specs.Beginning.{Fits, IsInitialised}
 use Rattle.lp_beginning.specs.Feeding.{AsksNext}
 use Rattle.lp_beginning.specs.Jobs.{course_of, parts_left}
 use Rattle.lp_vm.specs.Growing.{Grows}
-use Rattle.lp_vm.specs.Places.{AsksAt}
+use Rattle.lp_vm.specs.Requests.{RunsAt}
 use Rattle.lp_vm.specs.Answering.{Answered, IsSameAsker}
 
 -- What the job asks
@@ -67,6 +67,13 @@ pub record MakeAsks (found : Option Reached) (caller : Option ObjId) (job : Maki
   pub finds : FindsFor caller question told0 live0 told1 live1 found
 
 -- How it begins
+
+-- who asks is the function that runs there, or the driver
+abbrev pub AsksAt : List RawProgram → Option Place → Option Scene → Type 0
+AsksAt programs None None = ⊤
+AsksAt programs None (Some c) = ⊥
+AsksAt programs (Some at) None = ⊥
+AsksAt programs (Some at) (Some c) = RunsAt programs at c
 
 -- The state stands for a state of the meaning, in which who asks has what was handed down, and the caller as its latest; and this
 -- is the place of who asks.

@@ -1,20 +1,16 @@
 -- What a running function asks, as a question of the meaning.
-use Rattle.std.specs.Prelude.{◌≡◌, ⊤, List, Option, Some, IfSome, reverse}
+use Rattle.std.specs.Prelude.{◌≡◌, ⊤, List, Option, Some, IfSome, reverse, slice_get}
+use Rattle.std.specs.Option.{option_map}
 use Rattle.lp_code.specs.declared.program.RawProgram.{RawProgram}
 use Rattle.lp_instr.specs.declared.efun.Efun.{Efun}
 use Rattle.lp_swapfile.specs.Device.{Bytes}
-use Rattle.lp_language.specs.World.{Keeps, World}
 use Rattle.lp_language.specs.Course.{Ask, OfEfun, Scene}
-use Rattle.lp_meaning.specs.Askers.{asker_of}
-use Rattle.lp_meaning.specs.FunctionCalls.{place_of_asker}
 use Rattle.lp_world.specs.declared.frame.Frame.{Frame}
 use Rattle.lp_world.specs.declared.live.Live.{Live}
 use Rattle.lp_targets.specs.Callees.{IsWorldOf}
 use Rattle.lp_asking.specs.declared.asker.Asker.{Asker}
 use Rattle.lp_asking.specs.declared.ending.Place.{Place}
-use Rattle.lp_asking.specs.Endings.{IsPlaceIf}
 use Rattle.lp_reaching.specs.Reaching.{IsInMemory, ReachesIf}
-use Rattle.lp_vm.specs.Places.{RunsAt}
 use Rattle.lp_vm.specs.declared.request.Request.{Request}
 use Rattle.lp_vm.specs.declared.request.Request.TheVariants as requests
 
@@ -22,14 +18,19 @@ use Rattle.lp_vm.specs.declared.request.Request.TheVariants as requests
 abbrev pub place_in : Frame → Place
 place_in f = record { this = f.this; program = f.program; fun = f.fun }
 
--- The function that runs at a place calls an efun. What was handed down to the function is what who asks has; and it is at that
--- place by names too in each world to which this leads.
+-- A function runs at a place: in its object, in the text of that version, whose program has its name in that row.
+pub record RunsAt (programs : List RawProgram) (at : Place) (c : Scene) : Type 0 where
+  pub this : c.this ≡ at.this
+  pub version : c.version ≡ at.program
+  pub raw : RawProgram
+  pub is : slice_get programs at.program.0 ≡ Some raw
+  pub function : option_map (λ f. f.name) (slice_get raw.funs at.fun) ≡ Some c.function
+
+-- The function at a place calls an efun. What was handed down to the function is what who asks has.
 pub record AsksEfun (programs : List RawProgram) (asker : Asker) (at : Place) (e : Efun) (a : Ask) : Type 0 where
   pub scene : Scene
   pub scene_is : a.scene ≡ Some scene
-  pub this_is : scene.this ≡ at.this
   pub runs : RunsAt programs at scene
-  pub place : (w : World) → Keeps a.world w → IsPlaceIf programs w (Some at) (place_of_asker w (asker_of a))
   pub interactive : scene.interactive ≡ asker.interactive
   pub callers : scene.callers ≡ reverse asker.callers.items
   pub what : a.what ≡ OfEfun e

@@ -1,17 +1,14 @@
 -- A job of an efun works for a course of the meaning.
-use Rattle.std.specs.Prelude.{◌≡◌, ◌++◌, ℕ, List, Option, Some, None, IsAscii, codes, length, map, reverse}
+use Rattle.std.specs.Prelude.{◌≡◌, ◌++◌, ⊤, ℕ, List, Option, Some, None, IsAscii, codes, length, map, reverse}
 use Rattle.lp_values.specs.declared.id.ObjId.{ObjId}
 use Rattle.lp_values.specs.declared.value.Value.{Value}
 use Rattle.lp_code.specs.declared.program.RawProgram.{RawProgram}
 use Rattle.lp_events.specs.declared.out.Out.{Out}
 use Rattle.lp_swapfile.specs.Device.{Bytes}
-use Rattle.lp_language.specs.World.{Keeps, World}
-use Rattle.lp_language.specs.Course.{Ask, Course, End, Scene, State, outcome_of}
+use Rattle.lp_language.specs.Course.{Ask, Course, End, Load, Scene, State, Wanted, outcome_of}
 use Rattle.lp_meaning.specs.Askers as meaning
 use Rattle.lp_meaning.specs.Closing.{Ends}
 use Rattle.lp_meaning.specs.FrontEnd.{FrontEnd}
-use Rattle.lp_meaning.specs.FunctionCalls.{place_of_asker}
-use Rattle.lp_meaning.specs.NothingLost.{StaysBelow}
 use Rattle.lp_front_end.specs.FrontEnds.{IsFrontEnd}
 use Rattle.lp_world.specs.declared.live.Live.{Live}
 use Rattle.lp_beginning.specs.Beginning.{Fits}
@@ -24,19 +21,27 @@ use Rattle.lp_asking.specs.declared.asker.Asker.{Asker}
 use Rattle.lp_asking.specs.declared.ending.Ending.{Ending}
 use Rattle.lp_asking.specs.declared.ending.Place.{Place}
 use Rattle.lp_asking.specs.Asking.{loading_of}
-use Rattle.lp_asking.specs.Endings.{IsPlaceIf, plain_end}
+use Rattle.lp_asking.specs.Endings.{plain_end}
 use Rattle.lp_reaching.specs.declared.reached.Reached.{Reached}
 use Rattle.lp_reaching.specs.Reaching.{Applies, AsksOutside, ReachesIf}
 use Rattle.lp_vm.specs.Growing.{Grows}
+use Rattle.lp_vm.specs.Requests.{RunsAt}
 use Rattle.lp_vm.specs.Going.{IsOutcome}
 
 -- What a job asks
 
 -- On behalf of a function of this object that called its efun, a job asks so: for a function of another object as that
--- function would, and for `catch_tell` as the driver applies it, with the object as the latest caller.
+-- function would, for `catch_tell` as the driver applies it, with the object as the latest caller, and for a load.
 abbrev pub IsAskedSo : Question → Asker → ObjId → Ask → Type 0
 IsAskedSo (questions.Other ob name) asker this a = AsksOutside asker this ob name a
 IsAskedSo (questions.CatchTell ob) asker this a = Applies asker (Some this) ob (codes "catch_tell") a
+IsAskedSo (questions.Load name) asker this a = a.what ≡ Load name Wanted
+
+-- it asks for a function
+abbrev pub IsCall : Question → Type 0
+IsCall (questions.Other ob name) = ⊤
+IsCall (questions.CatchTell ob) = ⊤
+IsCall (questions.Load name) = ⊥
 
 -- in some world it asks so
 pub record CanReach (this : ObjId) (question : Question) (told : Option Bytes) (live : Live) : Type 0 where
@@ -55,26 +60,22 @@ FindsAsked this question told0 live0 told1 live1 r =
 abbrev pub IsUnspelled : Question → Type 0
 IsUnspelled (questions.Other ob name) = IsAscii name → ⊥
 IsUnspelled (questions.CatchTell ob) = ⊥
+IsUnspelled (questions.Load name) = ⊥
 
 -- How it works
 
 -- The state stands for a state of the meaning, at which the job stands with these values above those below; it asks on behalf
--- of the function at a place, to which was handed down what who asks has. From where the efun began nothing is lost by what is
--- left of its course, and in each world to which that leads who asks is at the place.
+-- of the function at a place, to which was handed down what who asks has.
 pub record IsWorking (at : Place) (job : Job) (told : Option Bytes) (programs : List RawProgram) (before : List Out) (live : Live) (stack : List Value) (asker : Asker) (budget : ℕ) (by : meaning.Asker) (c : Scene) (s : State) (low own : List Value) : Type 0 where
   pub fits : Fits (record { told = told; programs = programs; before = before }) live asker.turn budget s
   pub scene : by.scene ≡ Some c
   pub interactive : by.interactive ≡ asker.interactive
   pub loads : by.loads ≡ map loading_of (reverse asker.loads.items)
-  pub this_is : c.this ≡ at.this
+  pub runs : RunsAt programs at c
   pub callers : c.callers ≡ reverse asker.callers.items
   pub depth : c.depth ≡ asker.depth
   pub lies : stack ≡ low ++ own
   pub height : length low ≡ job.low
-  pub level : ℕ
-  pub start : State
-  pub stays : StaysBelow level start (course_of job own by s)
-  pub place : (w : World) → Keeps start.world w → IsPlaceIf programs w (Some at) (place_of_asker w by)
 
 -- so in some world, with a front end
 pub record CanWork (at : Place) (job : Job) (told : Option Bytes) (live : Live) (stack : List Value) (asker : Asker) (budget : ℕ) : Type 0 where

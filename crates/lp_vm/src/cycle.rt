@@ -89,6 +89,7 @@ fn work<W: Truthful>(
     'questions: loop {
         match step_job(live, swap, stack, asker, at, &mut job, budget)? {
             Stepped::Ended(ending) => return Ok(ending),
+            Stepped::Loads(_) => return Err(VmFault::NotYet),
             Stepped::Asks(reached, args) => {
                 let ending = answer(alloc, live, swap, stack, asker, reached, args, budget)?;
                 if let Some(ending) = feed_back(&mut job, live, stack, ending)? {

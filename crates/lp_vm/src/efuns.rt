@@ -3,7 +3,6 @@ ghost use Rattle.std.specs.Prelude.{◌≡◌, ◌-◌, ◌≤◌, IfErr, IfOk, 
 ghost use Rattle.lp_cells.specs.Cells.{Store};
 ghost use Rattle.lp_efuns.specs.Plain.{IsAnswerThere, is_plain};
 ghost use Rattle.lp_calling.specs.Beginning.{is_calling};
-ghost use Rattle.lp_calling.specs.Targets.{NeedsLoad};
 ghost use Rattle.lp_step.specs.Steps.{IsFit};
 ghost use Rattle.lp_asking.specs.declared.ending.Ending.TheVariants as endings;
 ghost use Rattle.lp_asking.specs.Endings.{IsEndingThere};
@@ -112,8 +111,7 @@ fn calling(
     requires fit { IsFit live.now stack.old.items }
     requires can { CanStart live.now stack.old.items asker.now budget.old (requests.Efun at efun) args }
     ensures starts { IfOk result (λ r. StartsEfun r at efun args live.now stack.old.items asker.now budget.old live.now stack.new.items asker.now budget.new) }
-    ensures fault { IfErr result IsReadless }
-    ensures yet { IfErr result (λ f. f ≡ NotYet → NeedsLoad live.now efun (drop (length stack.old.items - args) stack.old.items)) }
+    ensures fault { IfErr result (λ f. f ≡ NoMemory) }
 {
     let caller = Caller {
         this: at.this,
@@ -179,7 +177,7 @@ fn ending(
 /// answered, or goes on as a job.
 ///
 /// # Errors
-/// `NoMemory`; `NotYet` of an efun that is not carried out yet, and where an object would have to be loaded.
+/// `NoMemory`; `NotYet` of an efun that is not carried out yet.
 pub fn begin_efun(
     live: &mut Live,
     stack: &mut Vec<Value>,
@@ -193,7 +191,7 @@ pub fn begin_efun(
     requires can { CanStart live.old stack.old.items asker.old budget.old (requests.Efun at efun) args }
     ensures starts { IfOk result (λ r. StartsEfun r at efun args live.old stack.old.items asker.old budget.old live.new stack.new.items asker.new budget.new) }
     ensures fault { IfErr result IsReadless }
-    ensures yet { IfErr result (λ f. f ≡ NotYet → IsNotYet live.old efun (drop (length stack.old.items - args) stack.old.items)) }
+    ensures yet { IfErr result (λ f. f ≡ NotYet → IsNotYet efun) }
 {
     if is_plain(efun) {
         return plain(live, stack, asker, at, efun, args, budget);

@@ -13,6 +13,7 @@ pub mod fault;
 mod halting;
 pub mod initialising;
 mod laying;
+mod loaded;
 mod loading;
 mod making;
 mod naming;

@@ -180,7 +180,7 @@ pub work-questions-smaller : goal.work-questions-smaller
 work-questions-smaller g t c =
     let k : WorkAsks c.in-Asks.reached c.in-Asks.args c.args.at c.questions.job (g.W.SwapFile.content c.questions.swap) c.questions.live c.questions.stack.items c.questions.asker c.questions.budget c.step_job.new.job (g.W.SwapFile.content c.step_job.new.swap) c.step_job.new.live c.step_job.new.stack.items c.step_job.new.budget =
     subst (λ x. StepsTo x c.args.at c.questions.job (g.W.SwapFile.content c.questions.swap) c.questions.live c.questions.stack.items c.questions.asker c.questions.budget c.step_job.new.job (g.W.SwapFile.content c.step_job.new.swap) c.step_job.new.live c.step_job.new.stack.items c.step_job.new.budget) c.in-Asks.is c.in_ok-ending.ensures.steps in
-    let on : FedOn None c.step_job.new.job c.feed_back.new.job c.feed_back.new.stack.items = subst (λ r. FedOn r c.step_job.new.job c.feed_back.new.job c.feed_back.new.stack.items) c.in_default.is c.in_ok-ending-in-Asks-2.ensures.on in
+    let on : FedOn None c.step_job.new.job c.feed_back.new.job c.answer.new.live c.feed_back.new.stack.items = subst (λ r. FedOn r c.step_job.new.job c.feed_back.new.job c.answer.new.live c.feed_back.new.stack.items) c.in_default.is c.in_ok-ending-in-Asks-2.ensures.on in
     let less = on.2 in
     let left = k.left in
     omega (arith, less, left)
@@ -189,14 +189,14 @@ pub work-questions-preserved : goal.work-questions-preserved
 work-questions-preserved g t c =
     let k : WorkAsks c.in-Asks.reached c.in-Asks.args c.args.at c.questions.job (g.W.SwapFile.content c.questions.swap) c.questions.live c.questions.stack.items c.questions.asker c.questions.budget c.step_job.new.job (g.W.SwapFile.content c.step_job.new.swap) c.step_job.new.live c.step_job.new.stack.items c.step_job.new.budget =
     subst (λ x. StepsTo x c.args.at c.questions.job (g.W.SwapFile.content c.questions.swap) c.questions.live c.questions.stack.items c.questions.asker c.questions.budget c.step_job.new.job (g.W.SwapFile.content c.step_job.new.swap) c.step_job.new.live c.step_job.new.stack.items c.step_job.new.budget) c.in-Asks.is c.in_ok-ending.ensures.steps in
-    let on : FedOn None c.step_job.new.job c.feed_back.new.job c.feed_back.new.stack.items = subst (λ r. FedOn r c.step_job.new.job c.feed_back.new.job c.feed_back.new.stack.items) c.in_default.is c.in_ok-ending-in-Asks-2.ensures.on in
+    let on : FedOn None c.step_job.new.job c.feed_back.new.job c.answer.new.live c.feed_back.new.stack.items = subst (λ r. FedOn r c.step_job.new.job c.feed_back.new.job c.answer.new.live c.feed_back.new.stack.items) c.in_default.is c.in_ok-ending-in-Asks-2.ensures.on in
     let more : WorkContinues c.args.at c.questions.job (g.W.SwapFile.content c.questions.swap) c.questions.live c.questions.stack.items c.questions.asker c.questions.budget c.feed_back.new.job (g.W.SwapFile.content c.answer.new.swap) c.answer.new.live c.feed_back.new.stack.items c.answer.new.asker c.answer.new.budget =
     k.turns c.feed_back.new.job (g.W.SwapFile.content c.answer.new.swap) c.answer.new.live c.answer.new.stack.items c.feed_back.new.stack.items c.answer.new.asker c.answer.new.budget c.in_ok-ending-in-Asks.ending None c.in_ok-ending-in-Asks.ensures.answers
     (subst (λ r. Feeds r c.in_ok-ending-in-Asks.ending c.step_job.new.job c.answer.new.live c.answer.new.stack.items c.feed_back.new.job c.feed_back.new.stack.items) c.in_default.is c.in_ok-ending-in-Asks-2.ensures.feeds) in
     record {
       can = can_work_on c.args.at c.questions.job c.feed_back.new.job (g.W.SwapFile.content c.questions.swap) (g.W.SwapFile.content c.answer.new.swap) c.questions.live c.answer.new.live c.questions.stack.items c.feed_back.new.stack.items c.questions.asker c.answer.new.asker c.questions.budget c.answer.new.budget c.questions.invariant.can more;
       on = on.0;
-      ready = on.1 c.answer.new.live.objects;
+      ready = on.1;
       fit = c.in_ok-ending-in-Asks-2.ensures.fit;
       same = same_later c.args.asker.now c.questions.asker c.answer.new.asker c.questions.invariant.same c.in_ok-ending-in-Asks.ensures.answers.same;
       spends = le_trans (le_trans c.in_ok-ending-in-Asks.ensures.answers.spends k.spends) c.questions.invariant.spends;
