@@ -60,7 +60,7 @@ means_efun a e c scene what =
     let asked : meaning_of a a.what ≡ Some (elim a.scene [ Some c ↦ plainly (efun_in e (asker_of a) c a.arguments (state_of a)) | None ↦ nothing_called a ]) = ap (meaning_of a) what in
     asked ∙ ap (λ (s : Option Scene). Some (elim s [ Some c ↦ plainly (efun_in e (asker_of a) c a.arguments (state_of a)) | None ↦ nothing_called a ])) scene
 
-efun_has : (front : FrontEnd) (a : Ask) (e : Efun) (c : Scene) (end : End Value) → a.scene ≡ Some c → a.what ≡ OfEfun e → Ends front (efun_in e (asker_of a) c a.arguments (state_of a)) end → Has front a (outcome_of (plain_end end))
+pub efun_has : (front : FrontEnd) (a : Ask) (e : Efun) (c : Scene) (end : End Value) → a.scene ≡ Some c → a.what ≡ OfEfun e → Ends front (efun_in e (asker_of a) c a.arguments (state_of a)) end → Has front a (outcome_of (plain_end end))
 efun_has front a e c end scene what h =
     has_of front a (plainly (efun_in e (asker_of a) c a.arguments (state_of a))) (plain_end end) (means_efun a e c scene what) (plainly_ends front (efun_in e (asker_of a) c a.arguments (state_of a)) end h)
 

@@ -22,3 +22,4 @@ pub mod MakingBegins
 pub mod Loads
 pub mod LoadCauses
 pub mod ObjectLoads
+pub mod Clones
