@@ -1,4 +1,4 @@
-use Rattle.std.proofs.Common.{◌≡◌, None, Some, arith, subst, ◌∙◌, All, ap, refl, sym, List, Option, ℕ}
+use Rattle.std.proofs.Common.{◌≡◌, None, Some, arith, subst, ◌∙◌, All, ap, refl, sym, Option, ℕ}
 use Rattle.std.specs.Prelude.{IfSome, IsSome}
 use Rattle.std.proofs.Math.Nat.{le_refl, le_trans}
 use Rattle.lp_run.proofs.Together.{home_later, home_same}
@@ -30,7 +30,7 @@ use Rattle.lp_loading.specs.Going.{Takes}
 use Rattle.lp_loading.specs.Loads.{turns_left}
 use Rattle.lp_loading.specs.Steps.{EndsThere, GoesReading, MakesHome}
 use Rattle.lp_vm.specs.Loading.{BeginsLoad, CannotPay, LeadsOn, LoadBegins, LoadContinues, Loads, LoadsOn}
-use Rattle.lp_vm.proofs.Loads.{can_load_on, load_ascii, load_can_ask, load_can_go, load_can_make, load_ended, load_ends, load_goes, load_lies, load_made, load_paid, load_unpaid, load_went, load_world, loads_later, loads_more, loads_same}
+use Rattle.lp_vm.proofs.Loads.{can_load_on, load_ascii, load_can_ask, load_can_go, load_can_make, load_ended, load_ends, load_goes, load_lies, load_made, load_paid, load_unpaid, load_went, loads_later, loads_more, loads_same}
 use Rattle.lp_values.specs.declared.id.ObjId.{ObjId}
 use Rattle.lp_vm.specs.Causes.{Tells}
 use Rattle.lp_vm.specs.Making.{MakeContinues}
