@@ -20,7 +20,7 @@ use Rattle.lp_part_laws.proofs.Trees.{bare, rises, version_settled}
 use Rattle.lp_asking.specs.declared.asker.Asker.{Asker}
 use Rattle.lp_asking.specs.declared.ending.Ending.{Ending}
 use Rattle.lp_asking.specs.declared.ending.Place.{Place}
-use Rattle.lp_asking.specs.Asking.{code_in, names_in, rows_in}
+use Rattle.lp_asking.specs.Asking.{code_in, names_in}
 use Rattle.lp_asking.specs.Endings.{IsPlace}
 use Rattle.lp_reaching.specs.Compiled.{IsCaller}
 use Rattle.lp_vm.specs.Going.{IsOutcome}

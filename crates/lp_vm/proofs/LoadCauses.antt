@@ -1,5 +1,5 @@
 -- What the device did while a load went on.
-use Rattle.std.proofs.Common.{◌≡◌, ◌∙◌, ℕ, Option, Result, Ok, Err, refl, ap}
+use Rattle.std.proofs.Common.{◌≡◌, ℕ, Option, Err, refl, ap}
 use Rattle.lp_swapfile.specs.Device.{Bytes, Last}
 use Rattle.lp_world.specs.declared.live.Live.{Live}
 use Rattle.lp_residence.specs.declared.answers.EnterFault.TheVariants as enter_faults

@@ -1,10 +1,10 @@
 -- Loads: how they begin, from one question to the next, and to their end.
-use Rattle.std.proofs.Common.{◌≡◌, ◌∙◌, ◌++◌, ◌∷◌, [], ◌+◌, ◌*◌, ◌<◌, ◌≤◌, ℕ, zero, suc, List, Option, Some, None, Bool, true, false, refl, ap, sym, subst, map, append-nil, append_assoc, arith}
+use Rattle.std.proofs.Common.{◌≡◌, ◌∙◌, ◌++◌, ◌∷◌, [], ◌+◌, ◌<◌, ◌≤◌, ℕ, zero, suc, List, Option, None, Bool, true, false, refl, ap, sym, subst, map, append-nil, append_assoc, arith}
 use Rattle.std.specs.Prelude.{IsSome, reverse}
 use Rattle.std.specs.Option.{option_to_list}
 use Rattle.std.specs.Str.{IsAscii}
 use Rattle.std.proofs.Math.Nat.{le_refl, le_trans}
-use Rattle.std.proofs.lemmas.List.{map-append, reverse-append}
+use Rattle.std.proofs.lemmas.List.{reverse-append}
 use Rattle.lp_values.specs.declared.id.ObjId.{ObjId}
 use Rattle.lp_values.specs.declared.value.Value.{Value}
 use Rattle.lp_cells.specs.Cells.{Store}
@@ -18,7 +18,6 @@ use Rattle.lp_meaning.specs.Askers.{asker_of, question, state_of}
 use Rattle.lp_meaning.specs.Closing.{Ends, Has}
 use Rattle.lp_meaning.specs.FrontEnd.{FrontEnd}
 use Rattle.lp_meaning.specs.FileLoads.{load_call, under_way}
-use Rattle.lp_meaning.specs.FunctionCalls.{callers_behind, depth_behind}
 use Rattle.lp_meaning.proofs.Kept.{outcomes_can_be}
 use Rattle.lp_front_end.specs.FrontEnds.{IsFrontEnd}
 use Rattle.lp_world.specs.declared.live.Live.{Live}
@@ -55,7 +54,7 @@ use Rattle.lp_efuns.specs.Turns.{command_of}
 use Rattle.lp_vm.specs.Answering.{IsSameAsker}
 use Rattle.lp_vm.specs.Going.{IsOutcome}
 use Rattle.lp_vm.specs.Growing.{Grows}
-use Rattle.lp_vm.specs.Loading.{BeginsLoad, CanLoad, CanLoadOn, CannotPay, HasLoad, IsLoading, IsPaidFor, LeadsOn, LoadContinues, LoadEnds, LoadGoesOn, Loads, LoadsOn, load_course}
+use Rattle.lp_vm.specs.Loading.{BeginsLoad, CanLoad, CanLoadOn, CannotPay, IsLoading, IsPaidFor, LeadsOn, LoadContinues, LoadEnds, LoadGoesOn, Loads, LoadsOn, load_course}
 use Rattle.lp_vm.specs.Making.{CanMake, IsBehind, IsMaking, Makes}
 use Rattle.lp_vm.proofs.Grown.{grows_same, grows_trans}
 use Rattle.lp_vm.proofs.MakingBegins.{begins_making}

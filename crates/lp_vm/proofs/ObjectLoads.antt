@@ -4,13 +4,10 @@ use Rattle.std.specs.Prelude.{reverse}
 use Rattle.lp_values.specs.declared.id.ObjId.{ObjId}
 use Rattle.lp_values.specs.declared.value.Value.{Value}
 use Rattle.lp_code.specs.declared.program.RawProgram.{RawProgram}
-use Rattle.lp_events.specs.declared.out.Out.{Out}
 use Rattle.lp_swapfile.specs.Device.{Bytes}
-use Rattle.lp_language.specs.Course as course
 use Rattle.lp_language.specs.Course.{Ask, End, Gives, IsFaulty, IsSound, Load, Plain, Reply, Scene, Stops, WasRead, Wanted, outcome_of}
 use Rattle.lp_meaning.specs.Askers.{asker_of, state_of}
 use Rattle.lp_meaning.specs.Closing.{Has}
-use Rattle.lp_meaning.specs.FrontEnd.{FrontEnd}
 use Rattle.lp_meaning.specs.FileLoads.{load_call}
 use Rattle.lp_meaning.specs.FunctionCalls.{callers_behind}
 use Rattle.lp_meaning.specs.Questions.{meaning_of, means}

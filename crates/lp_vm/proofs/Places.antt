@@ -1,5 +1,5 @@
 -- Where who asks is, while loads put more programs behind those that are there.
-use Rattle.std.proofs.Common.{◌≡◌, List, Option, Some, None, ap}
+use Rattle.std.proofs.Common.{List, Option, Some, None, ap}
 use Rattle.lp_code.specs.declared.program.RawProgram.{RawProgram}
 use Rattle.lp_language.specs.World.{World, object_at, version_at}
 use Rattle.lp_language.specs.Course.{Scene}

@@ -10,7 +10,7 @@ use Rattle.lp_values.specs.declared.value.Value.{Value}
 use Rattle.lp_code.specs.declared.program.RawProgram.{RawProgram}
 use Rattle.lp_events.specs.declared.out.Out.{Out}
 use Rattle.lp_swapfile.specs.Device.{Bytes}
-use Rattle.lp_language.specs.Course.{Ask, CanAnswer, Course, Over, End, Gives, Outcome, Scene, State, Stops, after, and_then, outcome_of}
+use Rattle.lp_language.specs.Course.{Ask, CanAnswer, Over, End, Gives, Outcome, Scene, State, Stops, after, and_then, outcome_of}
 use Rattle.lp_meaning.specs.Askers as meaning
 use Rattle.lp_meaning.specs.Askers.{question}
 use Rattle.lp_meaning.specs.Closing.{Ends, Has}

@@ -21,7 +21,6 @@ use Rattle.lp_loading.specs.declared.job.Answer.TheVariants as answers
 use Rattle.lp_loading.specs.declared.job.Begun.{Begun}
 use Rattle.lp_loading.specs.declared.job.Begun.TheVariants as begun
 use Rattle.lp_loading.specs.declared.job.Going.{Going}
-use Rattle.lp_loading.specs.declared.job.Going.TheVariants as goings
 use Rattle.lp_loading.specs.declared.job.LoadJob.{LoadJob}
 use Rattle.lp_loading.specs.declared.job.Purpose.{Purpose}
 use Rattle.lp_loading.specs.declared.job.Step.{Step}

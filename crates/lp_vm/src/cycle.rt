@@ -17,6 +17,7 @@ use crate::efuns::{EfunBegun, begin_efun};
 use crate::entering::{Started, close, start};
 use crate::fault::VmFault;
 use crate::halting::{Halted, go_back, run_to_halt};
+use crate::loaded::loaded_ending;
 use crate::loading::{answer_of, begin_load, feed_load, letters_of, pop_load, step_load, unpaid};
 use crate::making::{ask_next, feed_on};
 use crate::request::Request;
@@ -89,9 +90,26 @@ fn work<W: Truthful>(
     'questions: loop {
         match step_job(live, swap, stack, asker, at, &mut job, budget)? {
             Stepped::Ended(ending) => return Ok(ending),
-            Stepped::Loads(_) => return Err(VmFault::NotYet),
             Stepped::Asks(reached, args) => {
                 let ending = answer(alloc, live, swap, stack, asker, reached, args, budget)?;
+                if let Some(ending) = feed_back(&mut job, live, stack, ending)? {
+                    return Ok(ending);
+                }
+            }
+            Stepped::Loads(name) => {
+                let answer = load(
+                    alloc,
+                    live,
+                    swap,
+                    stack,
+                    asker,
+                    Some(at.this),
+                    Some(at),
+                    name.as_slice(),
+                    Purpose::Wanted,
+                    budget,
+                )?;
+                let ending = loaded_ending(alloc, &name, answer)?;
                 if let Some(ending) = feed_back(&mut job, live, stack, ending)? {
                     return Ok(ending);
                 }
@@ -184,6 +202,7 @@ fn go<W: Truthful>(
 
 /// An object that was made begins: its job goes on to its end. The caller is the object for which an efun makes it, if one does,
 /// and for the log the place of who asks is given.
+#[cycle(calls)]
 fn make<W: Truthful>(
     alloc: Global,
     live: &mut Live,
@@ -214,7 +233,7 @@ fn make<W: Truthful>(
 
 /// A load that was paid for goes on to its end. The caller is the object for which an efun asks for it, if one does, and for the
 /// log the place of who asks is given.
-#[cycle(loads)]
+#[cycle(calls)]
 fn load_on<W: Truthful>(
     alloc: Global,
     live: &mut Live,
@@ -271,7 +290,7 @@ fn load_on<W: Truthful>(
 /// `NoMemory`, also where the swap file gave other bytes of the same digest; `Swap` where it failed or gave bytes of another
 /// digest; `NotYet` where the name, or that of an `inherit`, has letters beyond ASCII, a number of the program has no room, a live
 /// object has the name already, or a function asks what is not carried out yet. Nothing is said of the state then.
-#[cycle(loads)]
+#[cycle(calls)]
 pub fn load<W: Truthful>(
     alloc: Global,
     live: &mut Live,

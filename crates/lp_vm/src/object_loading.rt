@@ -44,5 +44,16 @@ pub fn load_object<W: Truthful>(
         (W.is_truthful swap.old) (W.is_truthful swap.new) (W.is_honest swap.old) (W.is_honest swap.new) live.new (read_of result) }
 {
     law_there_is_one();
-    load(alloc, live, swap, stack, asker, None, None, name, Purpose::Wanted, budget)
+    load(
+        alloc,
+        live,
+        swap,
+        stack,
+        asker,
+        None,
+        None,
+        name,
+        Purpose::Wanted,
+        budget,
+    )
 }

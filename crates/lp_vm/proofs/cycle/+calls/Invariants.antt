@@ -20,8 +20,17 @@ use Rattle.lp_vm.proofs.cycle.+calls.Given as goal
 abbrev pub decreases-answer : goal.decreases-answer
 decreases-answer g l = 6 * l.budget.now
 
+abbrev pub decreases-load : goal.decreases-load
+decreases-load g l = 6 * l.budget.now
+
+abbrev pub decreases-make : goal.decreases-make
+decreases-make g l = 6 * l.budget.now + 1
+
 abbrev pub decreases-work : goal.decreases-work
 decreases-work g l = 6 * l.budget.now + 1
+
+abbrev pub decreases-load_on : goal.decreases-load_on
+decreases-load_on g l = 6 * l.budget.now + 2
 
 abbrev pub decreases-call_efun : goal.decreases-call_efun
 decreases-call_efun g l = 6 * l.budget.now + 3
@@ -62,3 +71,37 @@ invariant-work-questions g l = record {
 
 abbrev pub decreases-work-questions : goal.decreases-work-questions
 decreases-work-questions g l = questions_left l.job
+
+-- of the rest of an object's parts
+abbrev pub invariant-make-parts : goal.invariant-make-parts
+invariant-make-parts g l = record {
+  can : CanMake l.fn.caller l.fn.at l.making (g.W.SwapFile.content l.swap) l.live l.asker l.budget;
+  there : IsSome (variables_at l.live.objects l.making.object);
+  fit : IsFit l.live l.stack.items;
+  lies : l.stack.items ≡ l.fn.stack.items;
+  same : IsSameAsker l.fn.asker l.asker;
+  spends : l.budget ≤ l.fn.budget;
+  home : KeepsVariables l.fn.live.objects l.live.objects;
+  tells : Tells (g.W.SwapFile.content l.swap) (g.W.SwapFile.last l.swap) (g.W.SwapFile.read_faults l.fn.swap) (g.W.SwapFile.read_faults l.swap) (g.W.SwapFile.write_faults l.fn.swap) (g.W.SwapFile.write_faults l.swap) (g.W.SwapFile.is_truthful l.fn.swap) (g.W.SwapFile.is_truthful l.swap) (g.W.SwapFile.is_honest l.fn.swap) (g.W.SwapFile.is_honest l.swap) l.live (Ok tt);
+  goes : MakeContinues l.fn.caller l.fn.at l.fn.making (g.W.SwapFile.content l.fn.swap) l.fn.live l.fn.asker l.fn.budget l.making (g.W.SwapFile.content l.swap) l.live l.asker l.budget;
+}
+
+abbrev pub decreases-make-parts : goal.decreases-make-parts
+decreases-make-parts g l = making.questions_left l.making
+
+-- and of the rest of a load
+abbrev pub invariant-load_on-loads : goal.invariant-load_on-loads
+invariant-load_on-loads g l = record {
+  can : CanLoadOn l.fn.caller l.fn.at l.job (g.W.SwapFile.content l.swap) l.live l.asker l.budget;
+  ascii : IsAscii l.job.name;
+  fit : IsFit l.live l.stack.items;
+  lies : l.stack.items ≡ l.fn.stack.items;
+  same : IsSameAsker l.fn.asker l.asker;
+  spends : l.budget ≤ l.fn.budget;
+  home : KeepsVariables l.fn.live.objects l.live.objects;
+  tells : Tells (g.W.SwapFile.content l.swap) (g.W.SwapFile.last l.swap) (g.W.SwapFile.read_faults l.fn.swap) (g.W.SwapFile.read_faults l.swap) (g.W.SwapFile.write_faults l.fn.swap) (g.W.SwapFile.write_faults l.swap) (g.W.SwapFile.is_truthful l.fn.swap) (g.W.SwapFile.is_truthful l.swap) (g.W.SwapFile.is_honest l.fn.swap) (g.W.SwapFile.is_honest l.swap) l.live (Ok tt);
+  goes : LoadContinues l.fn.caller l.fn.at l.fn.job goings.Simul (g.W.SwapFile.content l.fn.swap) l.fn.live l.fn.asker l.fn.budget l.job l.going (g.W.SwapFile.content l.swap) l.live l.asker l.budget;
+}
+
+abbrev pub decreases-load_on-loads : goal.decreases-load_on-loads
+decreases-load_on-loads g l = 2 * l.budget + turns_left l.going
