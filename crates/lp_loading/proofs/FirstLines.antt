@@ -44,6 +44,7 @@ use Rattle.lp_loading.specs.Present.{all_made}
 use Rattle.lp_loading.specs.Reads.{HasRead}
 use Rattle.lp_loading.specs.Readings.{MissingGoesOn}
 use Rattle.lp_loading.proofs.FilesRead.{told_over}
+use Rattle.lp_loading.proofs.Growth.{grows_same}
 use Rattle.lp_loading.proofs.Telling.{over_ends}
 
 -- what was found of some parents
@@ -113,14 +114,15 @@ too_far_goes goes names of reads fs kind name file line job loads told0 live0 to
     let way : is_under_way miss.parent.name by.loads ≡ is_under_way far.name (loads_of loads) = ap (λ x. is_under_way x by.loads) (sym same) ∙ ap (is_under_way far.name) under.2 in
     let ended : faulty fs.items s ≡ parent_missing by job.nested job.name made again miss.parent s =
     ap (λ x. faulty x s) (one ∙ ap (λ x. record { file = file_bytes x; line = line; kind = kind } ∷ []) (sym n) ∙ ap (λ x. file_fault job.name x kind ∷ []) its) ∙ by_why by job made again miss.parent s kind (is_under_way far.name (loads_of loads)) (nat_lt max_nested (suc job.nested)) way refl far.why in
-    let it : HasEnded front (answers.Faulty fs) (going_course (suc m) job goings.Read by s) told1 before (record live1 { outputs = live1.outputs ++ os }) turn budget = record {
+    let it : HasEnded front (answers.Faulty fs) (going_course (suc m) job goings.Read by s) programs told1 before (record live1 { outputs = live1.outputs ++ os }) turn budget = record {
       programs = programs;
+      grown = grows_same programs;
       end = Gives (IsFaulty fs.items) (told os s);
       is = record { answer = refl; at = told_over told0 told1 programs before live0 live1 turn budget s os at c.world h.outputs };
       ends = goes front m (kind_of job.purpose) by job.nested job.name made s file _ miss (subst (λ x. Ends front x (Gives (IsFaulty fs.items) (told os s))) ended (over_ends front _));
     } in
-    subst (λ x. LeadsTo front x job (going_course (suc m) job goings.Read by s) told1 before live2 turn budget by) (sym q)
-    (subst (λ (x : Live). HasEnded front (answers.Faulty fs) (going_course (suc m) job goings.Read by s) told1 before x turn budget) (sym e) it)
+    subst (λ x. LeadsTo front x job (going_course (suc m) job goings.Read by s) programs told1 before live2 turn budget by) (sym q)
+    (subst (λ (x : Live). HasEnded front (answers.Faulty fs) (going_course (suc m) job goings.Read by s) programs told1 before x turn budget) (sym e) it, tt)
   where
     by_why : (by : Asker) (job : LoadJob) (made : List Made) (again : List Made → State → Course Reply) (p : Parent) (s : State) (kind : FaultKind) (way deep : Bool) → is_under_way p.name by.loads ≡ way → nat_lt max_nested (suc job.nested) ≡ deep
         → ((kind ≡ faults.Cycle) × (way ≡ true)) ⊎ ((kind ≡ faults.InheritDepth) × (way ≡ false) × (deep ≡ true)) → faulty (file_fault job.name p.line kind ∷ []) s ≡ parent_missing by job.nested job.name made again p s

@@ -22,5 +22,5 @@ returns-clause-read g c =
     let one = c.in_ok-simuls.ensures in
     if_ok_on c.compile_file.result _ _ (KeepsWorlds told1 live1 told2 live2)
     (λ r t k. has_read r c.args.job.now c.args.loads.now _ c.as_slice.result.now c.as_str-2.result.now _ told0 told1 told2 live0 live1 live2 c.requires.world one.worlds k one.sees c.as_slice.ensures.value
-    (c.as_str-2.ensures.value ∙ c.in_ok-path.ensures ∙ ap file_bytes c.as_str.ensures) c.len.ensures one.outputs e.outputs one.objects e.objects t)
+    (c.as_str-2.ensures.value ∙ c.in_ok-path.ensures ∙ ap file_bytes c.as_str.ensures) c.len.ensures one.outputs e.outputs one.cells e.cells t)
     e.compiles e.worlds
