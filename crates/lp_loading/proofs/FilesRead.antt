@@ -139,6 +139,7 @@ leads_over (steps.Makes making) front job c old told0 told1 before live0 live1 t
   grown = h.grown;
   state = h.state;
   at = world_over told0 told1 h.programs before live0 live1 turn budget h.state h.at (k h.programs h.state.world h.at.world) o;
+  parts = h.parts;
   ends = h.ends;
 }
 leads_over (steps.Ends a) front job c old told0 told1 before live0 live1 turn budget by k o z h = (

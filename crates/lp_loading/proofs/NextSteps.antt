@@ -57,6 +57,7 @@ leads_back (steps.Makes object) front job c0 c1 old mid told before live turn bu
   grown = grows_more old mid h.programs g h.grown;
   state = h.state;
   at = h.at;
+  parts = h.parts;
   ends = λ e k. b e (h.ends e k);
 }
 leads_back (steps.Ends a) front job c0 c1 old mid told before live turn budget by g b h = (

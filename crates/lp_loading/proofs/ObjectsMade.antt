@@ -104,6 +104,7 @@ made_leads (begun.Runs object) job name version told0 told1 live0 live1 kept n h
       grown = grows_same programs;
       state = x.0;
       at = subst (λ t. IsAt (setting t programs before) live1 turn budget x.0) (sym kept) x.1;
+      parts = x.3;
       ends = λ e k. subst (λ c. Ends front c e) (sym same) k;
     }
 made_leads (begun.Ends ending) job name version told0 told1 live0 live1 kept n h front programs before by s turn budget at =

@@ -18,7 +18,7 @@ use Rattle.lp_efuns.specs.declared.caller.Turn.{Turn}
 use Rattle.lp_efuns.specs.Turns.{Setting}
 use Rattle.lp_asking.specs.Endings.{IsCauseThere, IsStop}
 use Rattle.lp_asking.specs.declared.asker.Loading.{Loading}
-use Rattle.lp_beginning.specs.Beginning.{Fits}
+use Rattle.lp_beginning.specs.Beginning.{Fits, HasItsParts}
 use Rattle.lp_beginning.specs.Ends.{state_at}
 use Rattle.lp_beginning.specs.Jobs.{course_of}
 use Rattle.lp_beginning.specs.declared.job.Making.{Making}
@@ -81,13 +81,14 @@ pub record HasAsked (front : FrontEnd) (name : List ℕ) (waiting : Waiting) (jo
   pub enough : budget ≤ turns
   pub ends : (e : End Reply) → Ends front (Asks (question (asked_for name) [] by state) (λ o. waiting_course turns job waiting by (end_of_reply o.answer (after state o)))) e → Ends front course0 e
 
--- Its object was made, in a state for which the live state stands; and whatever ends the course of that object's job, ends the
--- course.
+-- Its object was made, in a state for which the live state stands, and whose world has the parts of the object's job; and whatever
+-- ends the course of that job, ends the course.
 pub record HasMade (front : FrontEnd) (making : Making) (course0 : Course Reply) (old : List RawProgram) (told : Option Bytes) (before : List Out) (live : Live) (turn : Turn) (budget : ℕ) (by : Asker) : Type 0 where
   pub programs : List RawProgram
   pub grown : Grows old programs
   pub state : State
   pub at : IsAt (setting told programs before) live turn budget state
+  pub parts : HasItsParts state.world making
   pub ends : (e : End Reply) → Ends front (course_of making by state) e → Ends front course0 e
 
 -- It ends with this answer, which is an end of the course.

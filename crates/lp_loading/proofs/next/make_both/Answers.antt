@@ -1,6 +1,7 @@
 use Rattle.std.proofs.Common.{subst}
 use Rattle.lp_step.specs.Steps.{KeepsVariables}
 use Rattle.lp_loading.specs.Versions.{MakesVersion}
+use Rattle.lp_loading.specs.declared.job.Going.TheVariants as goings
 use Rattle.lp_loading.proofs.NextSteps.{home_same, sound_leads}
 use Rattle.lp_loading.proofs.SeenNames.{if_ok}
 use Rattle.lp_loading.proofs.next.make_both.Goals as goal
@@ -17,7 +18,7 @@ returns-in-Ok-clause-goes g c =
     c.make_object.ensures.makes
 
 pub returns-in-Ok-clause-order : goal.returns-in-Ok-clause-order
-returns-in-Ok-clause-order g c = c.make_object.ensures.order _
+returns-in-Ok-clause-order g c = c.make_object.ensures.order goings.Read
 
 pub returns-in-Ok-clause-variables : goal.returns-in-Ok-clause-variables
 returns-in-Ok-clause-variables g c = subst (λ rows. KeepsVariables rows c.make_object.new.live.objects) c.make_version.ensures.objects c.make_object.ensures.variables
