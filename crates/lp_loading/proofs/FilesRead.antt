@@ -1,5 +1,5 @@
 -- The file of a load was read.
-use Rattle.std.proofs.Common.{◌≡◌, ◌∙◌, ◌++◌, ◌⊎◌, ℕ, zero, suc, List, [], Option, Result, Ok, Err, IfOk, OnOk, Vec, Global, refl, ap, sym, subst, map, length, arith}
+use Rattle.std.proofs.Common.{◌≡◌, ◌∙◌, ◌++◌, ◌⊎◌, ℕ, zero, suc, List, Option, Result, Ok, Err, IfOk, OnOk, Vec, Global, refl, ap, sym, subst, map, length, arith}
 use Rattle.std.specs.Prelude.{false, nat_lt}
 use Rattle.std.specs.Prelude.{codes}
 use Rattle.std.specs.Str.{IsAscii}
@@ -10,7 +10,7 @@ use Rattle.lp_values.specs.declared.id.ProgId.{ProgId}
 use Rattle.lp_code.specs.declared.program.RawProgram.{RawProgram}
 use Rattle.lp_events.specs.declared.out.Out.{Out}
 use Rattle.lp_swapfile.specs.Device.{Bytes}
-use Rattle.lp_language.specs.Course.{Course, End, Gives, IsFaulty, Reply, State}
+use Rattle.lp_language.specs.Course.{Course, Gives, IsFaulty, Reply, State}
 use Rattle.lp_language.specs.World.{World}
 use Rattle.lp_meaning.specs.Askers.{Asker, told}
 use Rattle.lp_meaning.specs.FileLoads.{fault_record, is_under_way, simul_names}
@@ -21,8 +21,6 @@ use Rattle.lp_world.specs.declared.live.Live.{Live}
 use Rattle.lp_world.specs.Stands.{Stands}
 use Rattle.lp_asking.specs.declared.asker.Loading.{Loading}
 use Rattle.lp_efuns.specs.declared.caller.Turn.{Turn}
-use Rattle.lp_efuns.specs.Turns.{At}
-use Rattle.lp_front_end.specs.FrontEnds.{IsFrontEnd}
 use Rattle.lp_front_end.specs.Parents.{file_bytes}
 use Rattle.lp_meaning.specs.FrontEnd.{FrontEnd}
 use Rattle.lp_targets.specs.Callees.{IsWorldOf}
@@ -30,7 +28,6 @@ use Rattle.lp_loading.specs.declared.compiling.Compiled.{Compiled}
 use Rattle.lp_loading.specs.declared.compiling.Compiled.TheVariants as compiled
 use Rattle.lp_loading.specs.declared.job.Answer.TheVariants as answers
 use Rattle.lp_loading.specs.declared.job.Going.TheVariants as goings
-use Rattle.lp_loading.specs.declared.job.LoadFault.{LoadFault}
 use Rattle.lp_loading.specs.declared.job.LoadJob.{LoadJob}
 use Rattle.lp_loading.specs.declared.job.MadeFor.{MadeFor}
 use Rattle.lp_loading.specs.declared.job.Going.{Going}

@@ -1,6 +1,6 @@
 -- The first `inherit` of a parent that is missing.
-use Rattle.std.proofs.Common.{◌≡◌, ◌∙◌, ◌++◌, ◌⊎◌, inl, inr, ℕ, zero, suc, Bool, true, false, List, [], ◌∷◌, Option, Some, None, OnOk, Vec, Global, refl, ap, sym, subst, map, unwrap_or, if◌then◌else◌, arith}
-use Rattle.std.specs.Prelude.{find, is_some, nat_lt, not}
+use Rattle.std.proofs.Common.{◌≡◌, ◌∙◌, ◌++◌, ◌⊎◌, inl, inr, ℕ, zero, suc, Bool, true, false, List, [], ◌∷◌, Option, Some, None, Vec, Global, refl, ap, sym, subst, map, unwrap_or, if◌then◌else◌, arith}
+use Rattle.std.specs.Prelude.{is_some, nat_lt, not}
 use Rattle.std.specs.Option.{option_map}
 use Rattle.std.proofs.lemmas.Slice.Eq.{bytes_eq-Decides}
 use Rattle.lp_instr.specs.EfunList.{is_name}
@@ -11,12 +11,11 @@ use Rattle.lp_tree.specs.declared.fault.FaultKind.TheVariants as faults
 use Rattle.lp_tree.specs.declared.pragma.Pragmas.{Pragmas}
 use Rattle.lp_tree.specs.Units.{ItemTree}
 use Rattle.lp_values.specs.declared.id.ProgId.{ProgId}
-use Rattle.lp_code.specs.declared.program.RawProgram.{RawProgram}
 use Rattle.lp_events.specs.declared.out.Out.{Out}
 use Rattle.lp_swapfile.specs.Device.{Bytes}
 use Rattle.lp_front.specs.declared.parents.Parent.{Parent as Inherited}
 use Rattle.lp_front.specs.Names as files
-use Rattle.lp_language.specs.Course.{Course, End, Gives, IsFaulty, Reply, State}
+use Rattle.lp_language.specs.Course.{Course, Gives, IsFaulty, Reply, State}
 use Rattle.lp_language.specs.World.{World}
 use Rattle.lp_meaning.specs.Askers.{Asker, told}
 use Rattle.lp_meaning.specs.Closing.{Ends}

@@ -1,5 +1,5 @@
 -- Programs that are there stay.
-use Rattle.std.proofs.Common.{◌≡◌, ◌∙◌, ◌++◌, List, [], ap, sym}
+use Rattle.std.proofs.Common.{◌∙◌, ◌++◌, List, [], ap, sym}
 use Rattle.std.proofs.lemmas.List.{append_assoc, append-nil}
 use Rattle.lp_code.specs.declared.program.RawProgram.{RawProgram}
 use Rattle.lp_loading.specs.Growing.{Grows}

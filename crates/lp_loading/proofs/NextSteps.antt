@@ -1,12 +1,11 @@
 -- What a load does next.
-use Rattle.std.proofs.Common.{◌≡◌, ◌∙◌, ◌++◌, ◌<◌, ℕ, zero, suc, List, [], ◌∷◌, Option, refl, ap, sym, subst, map, arith}
+use Rattle.std.proofs.Common.{◌≡◌, ◌∙◌, ◌++◌, ℕ, zero, suc, List, [], ◌∷◌, Option, refl, ap, sym, subst, map, arith}
 use Rattle.std.specs.Str.{IsAscii}
 use Rattle.lp_values.specs.declared.id.ProgId.{ProgId}
 use Rattle.lp_code.specs.declared.program.RawProgram.{RawProgram}
 use Rattle.lp_events.specs.declared.out.Out.{Out}
 use Rattle.lp_swapfile.specs.Device.{Bytes}
-use Rattle.lp_language.specs.Course.{Course, End, LoadKind, Reply, State}
-use Rattle.lp_language.specs.World.{Version}
+use Rattle.lp_language.specs.Course.{Course, End, Reply, State}
 use Rattle.lp_meaning.specs.Askers.{Asker}
 use Rattle.lp_meaning.specs.Closing.{Ends}
 use Rattle.lp_meaning.specs.FileLoads.{Made, making, parents_in, simul_names, version_known, version_now}
@@ -20,7 +19,6 @@ use Rattle.lp_world.specs.declared.objects.Object.{Object}
 use Rattle.lp_asking.specs.declared.asker.Loading.{Loading}
 use Rattle.lp_efuns.specs.declared.caller.Turn.{Turn}
 use Rattle.lp_loading.specs.declared.compiling.Compiled.TheVariants as compiled
-use Rattle.lp_loading.specs.declared.job.Answer.TheVariants as answers
 use Rattle.lp_loading.specs.declared.job.Going.{Going}
 use Rattle.lp_loading.specs.declared.job.Going.TheVariants as goings
 use Rattle.lp_loading.specs.declared.job.LoadJob.{LoadJob}

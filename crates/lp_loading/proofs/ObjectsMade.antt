@@ -1,5 +1,5 @@
 -- An object is made for a load.
-use Rattle.std.proofs.Common.{◌≡◌, ◌∙◌, ℕ, Bool, true, false, List, [], ◌∷◌, Option, IsSome, refl, ap, sym, subst, codes, if◌then◌else◌}
+use Rattle.std.proofs.Common.{◌≡◌, ◌∙◌, ℕ, Bool, true, false, List, [], ◌∷◌, Option, refl, ap, sym, subst, codes, if◌then◌else◌}
 use Rattle.lp_values.specs.declared.id.ObjId.{ObjId}
 use Rattle.lp_values.specs.declared.id.ProgId.{ProgId}
 use Rattle.lp_values.specs.declared.value.Value.TheVariants.{Obj}
@@ -7,15 +7,12 @@ use Rattle.lp_values.specs.declared.error.ErrorKind.TheVariants.{TooMany}
 use Rattle.lp_values.specs.Errors.{plain}
 use Rattle.lp_cells.specs.Cells.{Store}
 use Rattle.lp_code.specs.declared.program.RawProgram.{RawProgram}
-use Rattle.lp_events.specs.declared.out.Out.{Out}
 use Rattle.lp_swapfile.specs.Device.{Bytes}
-use Rattle.lp_language.specs.Course as course
-use Rattle.lp_language.specs.Course.{Apply, Course, End, Failed, Gives, IsFaulty, IsSound, LoadKind, Over, Plain, Reply, State, Stops, WasRead, and_then, gives, here, in_any_case, stops}
+use Rattle.lp_language.specs.Course.{Apply, End, Failed, Gives, IsFaulty, IsSound, LoadKind, Over, Plain, Reply, State, Stops, WasRead, and_then, gives, here, in_any_case, stops}
 use Rattle.lp_language.specs.Resolve.{heritage_of}
 use Rattle.lp_meaning.specs.Askers.{Asker, ask_value}
 use Rattle.lp_meaning.specs.Closing.{Ends}
 use Rattle.lp_meaning.specs.FileLoads.{begun_end, beginning, initialised_parts, initialising, making}
-use Rattle.lp_meaning.specs.FrontEnd.{FrontEnd}
 use Rattle.lp_meaning.specs.WorldSteps.{has_room, next_object, with_new_object}
 use Rattle.lp_world.specs.declared.live.Live.{Live}
 use Rattle.lp_world.specs.declared.objects.Object.{Object}
@@ -24,7 +21,6 @@ use Rattle.lp_asking.specs.declared.ending.Cause.{Cause}
 use Rattle.lp_asking.specs.declared.ending.Cause.TheVariants as causes
 use Rattle.lp_asking.specs.declared.ending.Ending.{Ending}
 use Rattle.lp_asking.specs.declared.ending.Ending.TheVariants as endings
-use Rattle.lp_efuns.specs.declared.caller.Turn.{Turn}
 use Rattle.lp_beginning.specs.Beginning.{Begins, IsBegunFor, IsBegunHome}
 use Rattle.lp_beginning.specs.Ends.{IsReplyEnd, state_at}
 use Rattle.lp_beginning.specs.Jobs as objects

@@ -1,8 +1,7 @@
 -- Rows of a file's own functions.
 use Rattle.std.proofs.Common.{◌≡◌, ◌∙◌, ◌&&◌, ◌||◌, ◌+◌, ◌-◌, ◌<◌, ◌++◌, ℕ, zero, suc, Bool, true, false, List, [], ◌∷◌, Option, Some, None, refl, ap, sym, subst, map, length, nat_eq, arith}
-use Rattle.std.specs.Prelude.{is_some, not, slice_get, unwrap_or, if◌then◌else◌}
+use Rattle.std.specs.Prelude.{is_some, slice_get, unwrap_or, if◌then◌else◌}
 use Rattle.std.specs.List.{list_any}
-use Rattle.std.proofs.lemmas.List.{length-map}
 use Rattle.std.proofs.lemmas.Bool.{eqb-true}
 use Rattle.std.proofs.lemmas.Bool.Decides.{Decides-eqb}
 use Rattle.lp_tree.specs.Units.{ItemTree, Inherit, Proto, Fun, Var}
@@ -10,7 +9,7 @@ use Rattle.lp_code.specs.declared.program.FunRow.{FunRow as CodeRow}
 use Rattle.lp_code.specs.declared.program.RawProgram.{RawProgram}
 use Rattle.lp_instr.specs.EfunList.{is_name}
 use Rattle.lp_instr.specs.Code.{Code}
-use Rattle.lp_isa.specs.Programs.{AreFuns, AreInit, FunRow, IsReached, Reached, fun_from, fun_in, own_functions}
+use Rattle.lp_isa.specs.Programs.{AreFuns, AreInit, IsReached, Reached, fun_from, fun_in, own_functions}
 use Rattle.lp_language.specs.Resolve.{Found, Function, Heir, Heritage, Part, callable_found, has_initialiser, own_function, found_in, or_else, own_names, own_variables, parents_of, parents_parts, part_at, part_count, parts, parts_before, resolve, resolve_last, version_of}
 use Rattle.lp_layout.proofs.RowLaid.{same_name}
 use Rattle.lp_inherit.specs.Heirs.{tables}
@@ -20,7 +19,7 @@ use Rattle.lp_plan_laws.specs.Tables.{AreOnce, IsNamedOnce}
 use Rattle.lp_plan_laws.proofs.Fresh.{itself}
 use Rattle.lp_part_laws.specs.Parts.{reached_in}
 use Rattle.lp_part_laws.specs.Versions.{FitsVersion, program_of, row_of}
-use Rattle.lp_part_laws.proofs.Lists.{one_value, past, there_below}
+use Rattle.lp_part_laws.proofs.Lists.{one_value, past}
 use Rattle.lp_part_laws.proofs.Places.{count_parents}
 use Rattle.lp_part_laws.proofs.Rows.{fit_reached, function_at}
 use Rattle.lp_part_laws.proofs.Texts.{own_named}

@@ -21,7 +21,7 @@ use Rattle.lp_loading.specs.declared.job.Step.TheVariants as steps
 use Rattle.lp_loading.specs.declared.job.Waiting.TheVariants as waitings
 use Rattle.lp_loading.specs.declared.job.Step.{Step}
 use Rattle.lp_loading.specs.Going.{Goes, LeadsTo}
-use Rattle.lp_loading.specs.Loads.{loads_of, reading_first, reading_on, waiting_course}
+use Rattle.lp_loading.specs.Loads.{loads_of, reading_first, waiting_course}
 use Rattle.lp_loading.specs.Simuls.{missing_if}
 use Rattle.lp_loading.proofs.Growth.{grows_same}
 

@@ -3,7 +3,7 @@ use Rattle.std.specs.Prelude.{IfSome}
 use Rattle.std.specs.Str.{IsAscii}
 use Rattle.lp_loading.specs.Steps.{AsksAscii, AsksInOrder, MakesFor, MakesHome}
 use Rattle.lp_loading.specs.declared.job.Going.TheVariants as goings
-use Rattle.lp_loading.proofs.NextSteps.{home_same, order_first}
+use Rattle.lp_loading.proofs.NextSteps.{order_first}
 use Rattle.lp_loading.proofs.SeenNames.{if_ok}
 use Rattle.lp_loading.proofs.SimulFirst.{read_goes_first}
 use Rattle.lp_loading.proofs.next.begin_on.Goals as goal

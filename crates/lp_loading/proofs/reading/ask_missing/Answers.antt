@@ -1,4 +1,3 @@
-use Rattle.lp_loading.specs.Present.{KeepsWorlds}
 use Rattle.lp_loading.specs.declared.job.Going.TheVariants as goings
 use Rattle.lp_loading.proofs.FilesRead.{asks_parent, goes_over}
 use Rattle.lp_loading.proofs.SeenNames.{if_ok}

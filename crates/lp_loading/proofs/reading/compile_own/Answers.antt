@@ -1,7 +1,6 @@
 use Rattle.std.proofs.Common.{◌∙◌, ap}
 use Rattle.lp_front_end.specs.Parents.{file_bytes}
-use Rattle.lp_loading.specs.Compiling.{CompilesTo}
-use Rattle.lp_loading.specs.Present.{KeepsWorlds, all_made}
+use Rattle.lp_loading.specs.Present.{KeepsWorlds}
 use Rattle.lp_loading.proofs.FilesRead.{has_read, if_ok_on}
 use Rattle.lp_loading.proofs.Parents.{world_stays}
 use Rattle.lp_loading.proofs.reading.compile_own.Goals as goal
