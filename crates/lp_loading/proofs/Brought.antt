@@ -10,7 +10,6 @@ use Rattle.lp_residence.specs.declared.answers.EnterFault.TheVariants as enters
 use Rattle.lp_part_laws.proofs.Lists.{within}
 use Rattle.lp_targets.specs.Brought.{Brings, StaysInMemory}
 use Rattle.lp_targets.proofs.Memory.{brings_more, brings_no_memory, brings_ok, same_object, same_version, stays_more, stays_same}
-use Rattle.lp_world.specs.Stands.{Stands}
 use Rattle.lp_world.specs.declared.live.Live.{Live}
 use Rattle.lp_world.specs.declared.versions.Version.{Version}
 use Rattle.lp_world.specs.Additions.{with_new_version}

@@ -1,5 +1,5 @@
 -- Programs that come into memory: fewer are out.
-use Rattle.std.proofs.Common.{◌≡◌, ◌∙◌, ◌+◌, ◌<◌, ℕ, zero, suc, true, false, List, [], ◌∷◌, Option, Some, None, IsSome, Result, Ok, Err, OnOk, refl, ap, sym, subst, arith, slice_get, unwrap_or}
+use Rattle.std.proofs.Common.{◌≡◌, ◌∙◌, ◌+◌, ◌<◌, ℕ, zero, suc, true, false, List, [], ◌∷◌, Option, Some, None, IsSome, refl, ap, sym, subst, arith, slice_get, unwrap_or}
 use Rattle.std.specs.Prelude.{slice_set}
 use Rattle.lp_values.specs.declared.id.ProgId.{ProgId}
 use Rattle.lp_swapper.specs.declared.ticket.Ticket.{Ticket}
