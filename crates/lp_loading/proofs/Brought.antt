@@ -1,9 +1,10 @@
 -- What was brought into memory for a load, from one call to the next.
-use Rattle.std.proofs.Common.{◌≡◌, ◌∙◌, ◌++◌, ◌∷◌, ℕ, List, [], Option, Some, None, Result, Ok, Err, IfErr, refl, ap, sym, subst, unwrap_or, slice_get}
+use Rattle.std.proofs.Common.{◌≡◌, ◌∙◌, ◌++◌, ◌∷◌, ℕ, List, [], Option, Some, None, Result, Ok, Err, IfErr, IsSome, refl, ap, sym, subst, unwrap_or, slice_get}
 use Rattle.std.specs.Prelude.{IsErrAnd}
 use Rattle.lp_code.specs.declared.program.RawProgram.{RawProgram}
 use Rattle.lp_language.specs.World as world
-use Rattle.lp_language.specs.World.{World}
+use Rattle.lp_language.specs.World.{World, named_from}
+use Rattle.lp_targets.specs.Callees.{IsWorldOf}
 use Rattle.lp_swapfile.specs.Device.{Bytes, Last}
 use Rattle.lp_residence.specs.declared.answers.EnterFault.{EnterFault}
 use Rattle.lp_residence.specs.declared.answers.EnterFault.TheVariants as enters
@@ -18,10 +19,10 @@ use Rattle.lp_residence.specs.Owners.{program_of}
 use Rattle.lp_making.specs.Versions.{StandsWithVersion}
 use Rattle.lp_meaning.specs.WorldSteps.{with_new_version as with_more}
 use Rattle.lp_beginning.specs.Beginning as objects
-use Rattle.lp_beginning.specs.Beginning.{BringsFirst, OnSwap, StandsStill}
+use Rattle.lp_beginning.specs.Beginning.{BringsFirst, IsRefusedFor, OnSwap, StandsStill}
 use Rattle.lp_beginning.specs.declared.fault.MakingFault.{MakingFault}
 use Rattle.lp_beginning.specs.declared.fault.MakingFault.TheVariants as makings
-use Rattle.lp_loading.specs.Causes.{IsReadless, StandsFor, brought_as, brought_by, fault_of}
+use Rattle.lp_loading.specs.Causes.{IsReadless, IsTakenFor, IsTakenIn, IsUntaken, StandsFor, brought_as, brought_by, fault_of}
 use Rattle.lp_loading.specs.Steps.{fault_of as refused_as}
 use Rattle.lp_loading.specs.declared.job.LoadFault.{LoadFault}
 use Rattle.lp_loading.specs.declared.job.LoadFault.TheVariants as faults
@@ -36,7 +37,7 @@ pub fault_still : {told0 told1 : Option Bytes} {last : Last} {reads0 reads1 writ
     → Brings told0 told1 last reads0 reads1 writes0 writes1 true0 true1 honest0 honest1 old new (brought_as f)
 fault_still new (faults.Swap cause) h s i = absurd i
 fault_still new faults.TooLarge h s i = brings_ok h s
-fault_still new faults.NameTaken h s i = brings_ok h s
+fault_still new faults.NameTaken h s i = absurd i
 fault_still new faults.NotYet h s i = brings_ok h s
 fault_still new faults.NoMemory h s i = brings_no_memory (brings_ok {B = Unit {0}} {y = tt} h s)
 
@@ -97,7 +98,7 @@ on_swap_same (Err enters.NoMemory) p = tt
 on_fault : (P : Type 0) (f : LoadFault) → IsReadless f → OnSwap (brought_as f) P
 on_fault P (faults.Swap cause) i = absurd i
 on_fault P faults.TooLarge i = tt
-on_fault P faults.NameTaken i = tt
+on_fault P faults.NameTaken i = absurd i
 on_fault P faults.NotYet i = tt
 on_fault P faults.NoMemory i = tt
 
@@ -173,4 +174,57 @@ version_stays old new v e = subst (StaysInMemory old) (sym e) (record {
 pub version_stands : (old new : Live) (file : List ℕ) (p : RawProgram) → StandsWithVersion old new file p → StandsFor old new
 version_stands old new file p s told programs w h =
     let v : world.Version = record { path = file; items = []; parents = p.tables.parents; pragmas = p.tables.pragmas; simuls = []; latest = w.clock } in
-    (programs ++ p ∷ [], with_more w v, s told programs w v h (record { path = refl; parents = refl; latest = refl }))
+    (programs ++ p ∷ [], with_more w v, s told programs w v h (record { path = refl; parents = refl; latest = refl }), refl)
+
+-- Names that are taken
+
+pub if_err : {A : Type 0} (r : Result A LoadFault) (P Q : LoadFault → Type 0) → ((f : LoadFault) → P f → Q f) → IfErr r P → IfErr r Q
+if_err (Ok x) P Q g h = tt
+if_err (Err f) P Q g h = g f h
+
+-- as why no object was made
+pub refusal_taken : (told : Option Bytes) (live : Live) (name : List ℕ) (e : MakingFault) → IsRefusedFor told live name e → IsTakenFor told live name (refused_as e)
+refusal_taken told live name makings.NameTaken h = h
+refusal_taken told live name (makings.Swap cause) h = tt
+refusal_taken told live name makings.NoMemory h = tt
+
+-- objects are the same before a version came
+pub taken_before : (told : Option Bytes) (old new : Live) (name : List ℕ) (f : LoadFault) → StandsFor old new → IsTakenFor told new name f → IsTakenIn told old name f
+taken_before told old new name (faults.Swap cause) s h = tt
+taken_before told old new name faults.TooLarge s h = tt
+taken_before told old new name faults.NameTaken s h = λ programs w i. let x = s told programs w i.stands in subst (λ os. IsSome (named_from name 0 os)) x.3 (h x.0 x.1 x.2)
+taken_before told old new name faults.NotYet s h = tt
+taken_before told old new name faults.NoMemory s h = tt
+
+-- and where the state stood for the same worlds
+pub taken_still : (told0 told1 : Option Bytes) (old new : Live) (name : List ℕ) (f : LoadFault) → ((programs : List RawProgram) (w : World) → IsWorldOf told0 programs old w → IsWorldOf told1 programs new w) → IsTakenIn told1 new name f → IsTakenIn told0 old name f
+taken_still told0 told1 old new name (faults.Swap cause) k h = tt
+taken_still told0 told1 old new name faults.TooLarge k h = tt
+taken_still told0 told1 old new name faults.NameTaken k h = λ programs w i. h programs w (k programs w i)
+taken_still told0 told1 old new name faults.NotYet k h = tt
+taken_still told0 told1 old new name faults.NoMemory k h = tt
+
+pub untaken_in : (told : Option Bytes) (live : Live) (name : List ℕ) (f : LoadFault) → IsUntaken f → IsTakenIn told live name f
+untaken_in told live name (faults.Swap cause) i = tt
+untaken_in told live name faults.TooLarge i = tt
+untaken_in told live name faults.NameTaken i = absurd i
+untaken_in told live name faults.NotYet i = tt
+untaken_in told live name faults.NoMemory i = tt
+
+pub readless_in : (told : Option Bytes) (live : Live) (name : List ℕ) (f : LoadFault) → IsReadless f → IsTakenIn told live name f
+readless_in told live name (faults.Swap cause) i = absurd i
+readless_in told live name faults.TooLarge i = tt
+readless_in told live name faults.NameTaken i = absurd i
+readless_in told live name faults.NotYet i = tt
+readless_in told live name faults.NoMemory i = tt
+
+pub entered_untaken : (e : EnterFault) → IsUntaken (fault_of e)
+entered_untaken (enters.Swap cause) = tt
+entered_untaken enters.NoMemory = tt
+
+pub readless_untaken : (f : LoadFault) → IsReadless f → IsUntaken f
+readless_untaken (faults.Swap cause) i = tt
+readless_untaken faults.TooLarge i = tt
+readless_untaken faults.NameTaken i = i
+readless_untaken faults.NotYet i = tt
+readless_untaken faults.NoMemory i = tt

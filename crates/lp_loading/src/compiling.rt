@@ -12,7 +12,7 @@ ghost use Rattle.lp_residence.specs.Entering.{IsEntered};
 ghost use Rattle.lp_residence.specs.Owners.{ticket_at};
 ghost use Rattle.lp_residence.specs.declared.owner.Owner.TheVariants as owners;
 ghost use Rattle.lp_targets.specs.Brought.{Brings};
-ghost use Rattle.lp_loading.specs.Causes.{IsReadless, brought_by, fault_of};
+ghost use Rattle.lp_loading.specs.Causes.{IsReadless, IsUntaken, brought_by, fault_of};
 ghost use Rattle.lp_loading.specs.Compiling.{CompilesTo, IsMissingHere, IsRefusedTo, IsUnknown};
 ghost use Rattle.lp_loading.specs.Present.{HasWorld, IsReadyFor, KeepsWorlds, all_made, known_of, out_count};
 
@@ -119,6 +119,7 @@ pub(crate) fn bring<W: Truthful>(live: &mut Live, swap: &mut W, p: ProgId) -> Re
     ensures cells { live.new.cells ≡ live.old.cells }
     ensures brings { Brings (W.content swap.old) (W.content swap.new) (W.last swap.new) (W.read_faults swap.old) (W.read_faults swap.new) (W.write_faults swap.old) (W.write_faults swap.new)
         (W.is_truthful swap.old) (W.is_truthful swap.new) (W.is_honest swap.old) (W.is_honest swap.new) live.old live.new (brought_by result) }
+    ensures untaken { IfErr result IsUntaken }
     ensures stands { W.is_truthful swap.new → StandsStill (W.content swap.old) live.old (W.content swap.new) live.new }
 {
     if !has_version(&live.versions, p) {
@@ -145,6 +146,7 @@ fn bring_out<W: Truthful>(live: &mut Live, swap: &mut W, p: ProgId) -> Result<()
     ensures cells { live.new.cells ≡ live.old.cells }
     ensures brings { Brings (W.content swap.old) (W.content swap.new) (W.last swap.new) (W.read_faults swap.old) (W.read_faults swap.new) (W.write_faults swap.old) (W.write_faults swap.new)
         (W.is_truthful swap.old) (W.is_truthful swap.new) (W.is_honest swap.old) (W.is_honest swap.new) live.old live.new (brought_by result) }
+    ensures untaken { IfErr result IsUntaken }
     ensures stands { W.is_truthful swap.new → StandsStill (W.content swap.old) live.old (W.content swap.new) live.new }
 {
     bring(live, swap, p)
@@ -168,6 +170,7 @@ fn needed<W: Truthful>(
     ensures cells { live.new.cells ≡ live.old.cells }
     ensures brings { Brings (W.content swap.old) (W.content swap.new) (W.last swap.new) (W.read_faults swap.old) (W.read_faults swap.new) (W.write_faults swap.old) (W.write_faults swap.new)
         (W.is_truthful swap.old) (W.is_truthful swap.new) (W.is_honest swap.old) (W.is_honest swap.new) live.old live.new (brought_by result) }
+    ensures untaken { IfErr result IsUntaken }
     ensures stands { W.is_truthful swap.new → StandsStill (W.content swap.old) live.old (W.content swap.new) live.new }
     ensures found { IfOk result (λ o. MatchOption o (out_count live.new.versions < out_count live.old.versions) (λ r. IsMissingHere r (all_made made.now) live.old (string_bytes file))) }
 {
@@ -201,6 +204,7 @@ fn refused<W: Truthful>(
     ensures cells { live.new.cells ≡ live.old.cells }
     ensures brings { Brings (W.content swap.old) (W.content swap.new) (W.last swap.new) (W.read_faults swap.old) (W.read_faults swap.new) (W.write_faults swap.old) (W.write_faults swap.new)
         (W.is_truthful swap.old) (W.is_truthful swap.new) (W.is_honest swap.old) (W.is_honest swap.new) live.old live.new (brought_by result) }
+    ensures untaken { IfErr result IsUntaken }
     ensures stands { W.is_truthful swap.new → StandsStill (W.content swap.old) live.old (W.content swap.new) live.new }
     ensures found { IfOk result (λ o. MatchOption o (out_count live.new.versions < out_count live.old.versions) (λ r. IsRefusedTo r fault (all_made made.now) live.old)) }
 {
@@ -231,6 +235,7 @@ fn attempt<W: Truthful>(
     ensures cells { live.new.cells ≡ live.old.cells }
     ensures brings { Brings (W.content swap.old) (W.content swap.new) (W.last swap.new) (W.read_faults swap.old) (W.read_faults swap.new) (W.write_faults swap.old) (W.write_faults swap.new)
         (W.is_truthful swap.old) (W.is_truthful swap.new) (W.is_honest swap.old) (W.is_honest swap.new) live.old live.new (brought_by result) }
+    ensures untaken { IfErr result IsUntaken }
     ensures stands { W.is_truthful swap.new → StandsStill (W.content swap.old) live.old (W.content swap.new) live.new }
     ensures found { IfOk result (λ o. MatchOption o (out_count live.new.versions < out_count live.old.versions)
         (λ r. (name : List ℕ) → path.now ≡ file_bytes name → CompilesTo r (all_made made.now) name own simuls.now (W.content swap.old) live.old (W.content swap.new) live.new)) }
@@ -270,6 +275,7 @@ pub(crate) fn compile_file<W: Truthful>(
     ensures cells { live.new.cells ≡ live.old.cells }
     ensures brings { Brings (W.content swap.old) (W.content swap.new) (W.last swap.new) (W.read_faults swap.old) (W.read_faults swap.new) (W.write_faults swap.old) (W.write_faults swap.new)
         (W.is_truthful swap.old) (W.is_truthful swap.new) (W.is_honest swap.old) (W.is_honest swap.new) live.old live.new (brought_by result) }
+    ensures untaken { IfErr result IsUntaken }
     ensures stands { W.is_truthful swap.new → StandsStill (W.content swap.old) live.old (W.content swap.new) live.new }
 {
     match attempt(live, swap, made, path, own, simuls) {

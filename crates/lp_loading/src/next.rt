@@ -1,10 +1,10 @@
 //! What a load does next.
-ghost use Rattle.std.specs.Prelude.{◌≡◌, IfOk, List, Option, ℕ};
+ghost use Rattle.std.specs.Prelude.{◌≡◌, IfErr, IfOk, List, Option, ℕ};
 ghost use Rattle.std.specs.Str.{IsAscii};
 ghost use Rattle.lp_asking.specs.declared.asker.Loading.{Loading as Loads};
 ghost use Rattle.lp_efuns.specs.declared.caller.Turn.{Turn};
 ghost use Rattle.lp_beginning.specs.Beginning.{BringsFirst};
-ghost use Rattle.lp_loading.specs.Causes.{brought_by};
+ghost use Rattle.lp_loading.specs.Causes.{IsTakenIn, brought_by};
 ghost use Rattle.lp_loading.specs.Going.{Goes};
 ghost use Rattle.lp_loading.specs.Present.{HasWorld};
 ghost use Rattle.lp_loading.specs.Reads.{HasRead};
@@ -49,6 +49,7 @@ fn make_both<W: Truthful>(
     ensures variables { KeepsVariables live.old.objects live.new.objects }
     ensures brings { BringsFirst (W.content swap.old) (W.content swap.new) (W.last swap.new) (W.read_faults swap.old) (W.read_faults swap.new) (W.write_faults swap.old) (W.write_faults swap.new)
         (W.is_truthful swap.old) (W.is_truthful swap.new) (W.is_honest swap.old) (W.is_honest swap.new) live.old live.new (brought_by result) }
+    ensures taken { IfErr result (IsTakenIn (W.content swap.old) live.old job.now.name) }
 {
     law_sound_goes_on();
     match make_version(live, job.name.as_str(), program) {
@@ -78,6 +79,7 @@ fn go_on<W: Truthful>(
     ensures variables { KeepsVariables live.old.objects live.new.objects }
     ensures brings { BringsFirst (W.content swap.old) (W.content swap.new) (W.last swap.new) (W.read_faults swap.old) (W.read_faults swap.new) (W.write_faults swap.old) (W.write_faults swap.new)
         (W.is_truthful swap.old) (W.is_truthful swap.new) (W.is_honest swap.old) (W.is_honest swap.new) live.old live.new (brought_by result) }
+    ensures taken { IfErr result (IsTakenIn (W.content swap.old) live.old job.now.name) }
 {
     match read {
         Compiled::Made(program) => make_both(live, swap, job, program),
@@ -106,6 +108,7 @@ fn read_on<W: Truthful>(
     ensures variables { KeepsVariables live.old.objects live.new.objects }
     ensures brings { BringsFirst (W.content swap.old) (W.content swap.new) (W.last swap.new) (W.read_faults swap.old) (W.read_faults swap.new) (W.write_faults swap.old) (W.write_faults swap.new)
         (W.is_truthful swap.old) (W.is_truthful swap.new) (W.is_honest swap.old) (W.is_honest swap.new) live.old live.new (brought_by result) }
+    ensures taken { IfErr result (IsTakenIn (W.content swap.old) live.old job.now.name) }
 {
     match compile_own(job, live, swap, loads) {
         Ok(read) => go_on(live, swap, job, loads, read),
@@ -133,6 +136,7 @@ fn begin_on<W: Truthful>(
     ensures variables { KeepsVariables live.old.objects live.new.objects }
     ensures brings { BringsFirst (W.content swap.old) (W.content swap.new) (W.last swap.new) (W.read_faults swap.old) (W.read_faults swap.new) (W.write_faults swap.old) (W.write_faults swap.new)
         (W.is_truthful swap.old) (W.is_truthful swap.new) (W.is_honest swap.old) (W.is_honest swap.new) live.old live.new (brought_by result) }
+    ensures taken { IfErr result (IsTakenIn (W.content swap.old) live.old job.now.name) }
 {
     let missing = simul_missing(live, loads)?;
     match missing {
@@ -173,6 +177,7 @@ pub fn next<W: Truthful>(
     ensures variables { KeepsVariables live.old.objects live.new.objects }
     ensures brings { BringsFirst (W.content swap.old) (W.content swap.new) (W.last swap.new) (W.read_faults swap.old) (W.read_faults swap.new) (W.write_faults swap.old) (W.write_faults swap.new)
         (W.is_truthful swap.old) (W.is_truthful swap.new) (W.is_honest swap.old) (W.is_honest swap.new) live.old live.new (brought_by result) }
+    ensures taken { IfErr result (IsTakenIn (W.content swap.old) live.old job.now.name) }
 {
     match going {
         Going::Simul => begin_on(live, swap, job, loads),

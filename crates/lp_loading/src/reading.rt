@@ -6,7 +6,7 @@ ghost use Rattle.lp_asking.specs.declared.asker.Loading.{Loading as Loads};
 ghost use Rattle.lp_efuns.specs.declared.caller.Turn.{Turn};
 ghost use Rattle.lp_front_end.specs.Parents.{file_bytes};
 ghost use Rattle.lp_beginning.specs.Beginning.{StandsStill};
-ghost use Rattle.lp_loading.specs.Causes.{IsReadless, brought_by};
+ghost use Rattle.lp_loading.specs.Causes.{IsReadless, IsUntaken, brought_by};
 ghost use Rattle.lp_loading.specs.Going.{Goes};
 ghost use Rattle.lp_loading.specs.Present.{HasWorld};
 ghost use Rattle.lp_loading.specs.Reads.{HasRead};
@@ -67,6 +67,7 @@ pub(crate) fn compile_own<W: Truthful>(
     ensures cells { live.new.cells ≡ live.old.cells }
     ensures brings { Brings (W.content swap.old) (W.content swap.new) (W.last swap.new) (W.read_faults swap.old) (W.read_faults swap.new) (W.write_faults swap.old) (W.write_faults swap.new)
         (W.is_truthful swap.old) (W.is_truthful swap.new) (W.is_honest swap.old) (W.is_honest swap.new) live.old live.new (brought_by result) }
+    ensures untaken { IfErr result IsUntaken }
     ensures stands { W.is_truthful swap.new → StandsStill (W.content swap.old) live.old (W.content swap.new) live.new }
 {
     let simuls = simul_names(live, swap, loads)?;
