@@ -3,6 +3,7 @@ ghost use Rattle.std.specs.Prelude.{◌≡◌, ◌≤◌, IfErr, IfOk, IfSome, I
 ghost use Rattle.std.specs.Char.{is_ascii as ascii};
 ghost use Rattle.std.specs.List.{list_all};
 ghost use Rattle.lp_language.specs.Course.{Ask};
+ghost use Rattle.lp_loading.specs.Causes.{IsReadless};
 ghost use Rattle.lp_loading.specs.Going.{BeginsAs};
 ghost use Rattle.lp_loading.specs.Loads.{kind_of, last_nested, loads_of};
 ghost use Rattle.lp_loading.specs.declared.job.LoadFault.TheVariants.{NotYet};
@@ -29,6 +30,7 @@ pub(crate) fn name_of(alloc: Global, name: &[char]) -> Result<Name, LoadFault>
     ensures name { IfOk result (λ n. n ≡ name.now) }
     ensures ascii { IfOk result (λ n. IsAscii n) }
     ensures yet { IfErr result (λ f. f ≡ NotYet → list_all ascii name.now ≡ false) }
+    ensures readless { IfErr result IsReadless }
 {
     if !are_ascii(name) {
         return Err(LoadFault::NotYet);
