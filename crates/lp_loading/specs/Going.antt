@@ -1,5 +1,5 @@
 -- How loads begin, go on, and take what was answered.
-use Rattle.std.specs.Prelude.{◌≡◌, ◌<◌, ◌≤◌, ⊤, ℕ, List, [], Option}
+use Rattle.std.specs.Prelude.{◌≡◌, ◌+◌, ◌<◌, ◌≤◌, ⊤, ℕ, List, [], Option}
 use Rattle.std.specs.Str.{IsAscii}
 use Rattle.lp_values.specs.declared.id.ProgId.{ProgId}
 use Rattle.lp_cells.specs.Cells.{IsThere, Store}
@@ -148,6 +148,11 @@ pub record HasBegun (job : LoadJob) (name : List ℕ) (purpose : Purpose) (loads
 -- or its price cannot be paid
 abbrev pub HasSpent : List ℕ → Purpose → Ask → ℕ → Type 0
 HasSpent name purpose a budget = (load_call a name (kind_of purpose) ≡ course.Over (Stops (here Spent) (record (state_of a) { budget = 0 }))) × (budget ≡ 0)
+
+-- the price was paid, or the budget is spent
+abbrev pub IsPaid : Begun → ℕ → ℕ → Type 0
+IsPaid (begun.Runs job) old new = old ≡ new + 1000
+IsPaid begun.Spent old new = new ≡ 0
 
 abbrev pub BeginsAs : Begun → List ℕ → Purpose → List Loading → Ask → ℕ → Type 0
 BeginsAs (begun.Runs job) name purpose loads a budget = HasBegun job name purpose loads a budget

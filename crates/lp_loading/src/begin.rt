@@ -4,7 +4,7 @@ ghost use Rattle.std.specs.Char.{is_ascii as ascii};
 ghost use Rattle.std.specs.List.{list_all};
 ghost use Rattle.lp_language.specs.Course.{Ask};
 ghost use Rattle.lp_loading.specs.Causes.{IsReadless};
-ghost use Rattle.lp_loading.specs.Going.{BeginsAs};
+ghost use Rattle.lp_loading.specs.Going.{BeginsAs, IsPaid};
 ghost use Rattle.lp_loading.specs.Loads.{kind_of, last_nested, loads_of};
 ghost use Rattle.lp_loading.specs.declared.job.LoadFault.TheVariants.{NotYet};
 ghost use Rattle.lp_meaning.specs.FileLoads.{nested_in as nested};
@@ -77,6 +77,8 @@ pub fn begin(
 ) -> Result<Begun, LoadFault>
     ensures begins { IfOk result (λ r. (a : Ask) → a.budget ≡ budget.old → a.loads ≡ loads_of loads.now → BeginsAs r name.now purpose loads.now a budget.new) }
     ensures spends { budget.new ≤ budget.old }
+    ensures pays { IfOk result (λ r. IsPaid r budget.old budget.new) }
+    ensures fault { IfErr result IsReadless }
     ensures yet { IfErr result (λ f. f ≡ NotYet → list_all ascii name.now ≡ false) }
 {
     if *budget < PRICE {

@@ -1,10 +1,11 @@
 //! A load takes the answer of a load that it asked for: that of the simul-efun object, or of a parent.
-ghost use Rattle.std.specs.Prelude.{◌≡◌, IfOk, List, None, Option, Some, ℕ};
+ghost use Rattle.std.specs.Prelude.{◌≡◌, IfErr, IfOk, List, None, Option, Some, ℕ};
 ghost use Rattle.std.specs.Str.{IsAscii};
 ghost use Rattle.lp_code.specs.declared.program.RawProgram.{RawProgram as Raw};
 ghost use Rattle.lp_efuns.specs.declared.caller.Turn.{Turn};
 ghost use Rattle.lp_language.specs.World.{World, object_named};
 ghost use Rattle.lp_cells.specs.Cells.{Store};
+ghost use Rattle.lp_loading.specs.Causes.{IsReadless};
 ghost use Rattle.lp_loading.specs.Going.{IsAnswerThere, Takes};
 ghost use Rattle.lp_loading.specs.Steps.{EndsThere, GoesReading, IsSameLoad};
 ghost use Rattle.lp_meaning.specs.FileLoads.{object_of_value};
@@ -88,6 +89,7 @@ fn note_parent(job: &mut LoadJob, live: &Live, name: Name, ob: ObjId) -> Result<
         → Takes r job.old (waitings.Parent name) (answers.Value v) told live.now job.new turn budget) }
     ensures same { IsSameLoad job.old job.new }
     ensures reads { IfOk result GoesReading }
+    ensures fault { IfErr result IsReadless }
     ensures there { IfOk result (λ r. (cells : Store) → EndsThere cells r) }
 {
     match version_of_object(&live.objects, ob) {
@@ -106,6 +108,7 @@ fn after_parent(job: &mut LoadJob, live: &Live, name: Name, ob: ObjId) -> Result
         → Takes r job.old (waitings.Parent name) (answers.Value v) told live.now job.new turn budget) }
     ensures same { IsSameLoad job.old job.new }
     ensures reads { IfOk result GoesReading }
+    ensures fault { IfErr result IsReadless }
     ensures there { IfOk result (λ r. (cells : Store) → EndsThere cells r) }
 {
     match own_object(job, live) {
@@ -121,6 +124,7 @@ fn parent_value(job: &mut LoadJob, live: &Live, name: Name, v: &Value) -> Result
         → Takes r job.old (waitings.Parent name) (answers.Value v.now) told live.now job.new turn budget) }
     ensures same { IsSameLoad job.old job.new }
     ensures reads { IfOk result GoesReading }
+    ensures fault { IfErr result IsReadless }
     ensures there { IfOk result (λ r. (cells : Store) → EndsThere cells r) }
 {
     match object_of(v) {
@@ -144,6 +148,7 @@ pub(crate) fn take_parent(
         → Takes r job.old (waitings.Parent name) answer told live.now job.new turn budget) }
     ensures same { IsSameLoad job.old job.new }
     ensures reads { IfOk result GoesReading }
+    ensures fault { IfErr result IsReadless }
     ensures there { IfOk result (λ r. (cells : Store) → IsAnswerThere cells answer → EndsThere cells r) }
 {
     match answer {
