@@ -42,7 +42,7 @@ pub record IsTreeFor (p : RawProgram) (h k : Heritage) : Type 0 where
   pub once : IsNamedOnce k
 
 -- In none of the files of a tree is a name of a function or variable of other letters than those of ASCII.
-mutual
+abbrev mutual
   pub IsSpelledTree : Heritage → Type 0
   IsSpelledTree (Heir n v ps) = IsSpelled v.items × AreSpelledTrees ps
 
