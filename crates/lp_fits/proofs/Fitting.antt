@@ -35,7 +35,7 @@ use Rattle.lp_fits.specs.Fits.{EntryStillFits, HaveTables, IsVersionOf, NewVersi
 use Rattle.lp_fits.proofs.Trees.{inside, kept, tree_of_new}
 
 -- what the front end tells of each file that declares something
-FilesAreSpelled : Type 0
+abbrev FilesAreSpelled : Type 0
 FilesAreSpelled = (files : Store) (path : List ℕ) (is : List ItemTree) (p : Pragmas) → Declares files path is p → IsSpelled is
 
 -- The path of a version
