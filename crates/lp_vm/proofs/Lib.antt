@@ -15,3 +15,4 @@ pub mod Cycling
 pub mod Applied
 pub mod Initialised
 pub mod Makings
+pub mod MakingBegins
