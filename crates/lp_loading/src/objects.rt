@@ -5,7 +5,7 @@ ghost use Rattle.lp_code.specs.declared.program.RawProgram.{RawProgram as Raw};
 ghost use Rattle.lp_language.specs.Course.{End, Reply};
 ghost use Rattle.lp_beginning.specs.Ends.{IsReplyEnd};
 ghost use Rattle.lp_beginning.specs.Beginning.{BringsFirst};
-ghost use Rattle.lp_loading.specs.Causes.{IsTakenFor, brought_by};
+ghost use Rattle.lp_loading.specs.Telling.{IsTakenFor, brought_by};
 ghost use Rattle.lp_loading.specs.Going.{IsAnswerOf, MakesAs};
 ghost use Rattle.lp_loading.specs.Steps.{AsksAscii, AsksInOrder, MakesFor, MakesHome, answer_of as answer_meant, fault_of as fault_meant, making_kind as kind_meant, step_of as step_meant};
 ghost use Rattle.lp_loading.specs.declared.job.Going.{Going as Stage};
