@@ -10,6 +10,7 @@ pub mod Turning
 pub mod Askings
 pub mod Reachings
 pub mod Answered
+pub mod Lookings
 pub mod Workings
 pub mod Cycling
 pub mod Applied

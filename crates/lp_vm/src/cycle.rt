@@ -9,10 +9,11 @@ ghost use Rattle.lp_vm.specs.Cycle.{Answers, Finishes, Works};
 ghost use Rattle.lp_vm.specs.Going.{CanGo};
 ghost use Rattle.lp_vm.specs.Working.{CanWork};
 
-use crate::efuns::{EfunBegun, begin_efun};
+use crate::efuns::EfunBegun;
 use crate::entering::{Started, close, start};
 use crate::fault::VmFault;
 use crate::halting::{Halted, go_back, run_to_halt};
+use crate::looking::start_efun;
 use crate::request::Request;
 use crate::working::{Stepped, feed_back, step_job};
 use lp_asking::asker::Asker;
@@ -110,7 +111,7 @@ fn call_efun<W: Truthful>(
     ensures tells { Tells (W.content swap.new) (W.last swap.new) (W.read_faults swap.old) (W.read_faults swap.new) (W.write_faults swap.old) (W.write_faults swap.new)
         (W.is_truthful swap.old) (W.is_truthful swap.new) (W.is_honest swap.old) (W.is_honest swap.new) live.new (read_of result) }
 {
-    match begin_efun(live, stack, asker, this, efun, args, budget)? {
+    match start_efun(live, swap, stack, asker, this, efun, args, budget)? {
         EfunBegun::Answered(ending) => Ok(ending),
         EfunBegun::Works(job) => work(alloc, live, swap, stack, asker, this, job, budget),
     }

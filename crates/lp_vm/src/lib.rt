@@ -13,6 +13,7 @@ pub mod fault;
 mod halting;
 pub mod initialising;
 mod laying;
+mod looking;
 pub mod making;
 mod naming;
 pub mod request;

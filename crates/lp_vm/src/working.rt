@@ -48,7 +48,7 @@ fn count_of(n: usize) -> Result<u32, VmFault>
 /// A job goes on until it asks or ends. A function of this object called its efun.
 ///
 /// # Errors
-/// `NoMemory`, `Swap` and `NotYet` as those of what it asks.
+/// `NoMemory`, and `Swap` as that of what it asks.
 pub fn step_job<W: Truthful>(
     live: &mut Live,
     swap: &mut W,
