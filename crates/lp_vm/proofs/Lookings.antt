@@ -1,12 +1,15 @@
 -- Efuns that look into programs: what they keep of a world, and what they are answered.
 use Rattle.std.proofs.Common.{◌≡◌, ◌∙◌, ◌-◌, ℕ, Bool, true, false, cond, List, [], ◌∷◌, Option, Some, None, refl, ap, sym, subst, length, take, drop, if◌then◌else◌}
-use Rattle.std.specs.Prelude.{nat_lt}
+use Rattle.std.specs.Prelude.{nat_lt, pos}
 use Rattle.lp_values.specs.declared.id.ObjId.{ObjId}
 use Rattle.lp_values.specs.declared.value.Value.{Value}
+use Rattle.lp_values.specs.declared.value.Value.TheVariants as values
 use Rattle.lp_instr.specs.EfunKinds.{kinds}
 use Rattle.lp_instr.specs.declared.efun.Efun.{Efun}
 use Rattle.lp_instr.specs.declared.efun.Efun.TheVariants as efuns
 use Rattle.lp_swapfile.specs.Device.{Bytes}
+use Rattle.lp_ops.specs.declared.effect.Effect.TheVariants as effects
+use Rattle.lp_ops.specs.Operators.{text}
 use Rattle.lp_language.specs.World.{World}
 use Rattle.lp_language.specs.Course.{Asks, Course, End, Gives, Over, Scene, Spent, State, Stops, here, outcome_of}
 use Rattle.lp_language.specs.Resolve.{Found, function_of, is_private}
@@ -15,7 +18,7 @@ use Rattle.lp_meaning.specs.Askers.{asker_of, state_of}
 use Rattle.lp_meaning.specs.Closing.{Ends}
 use Rattle.lp_meaning.specs.EfunArguments.{first_bad, opened_args, price_before, text_arg}
 use Rattle.lp_meaning.specs.Questions.{deed_end, efun_in, kinds_looked_at}
-use Rattle.lp_meaning.specs.WorldEfuns.{Yields, deed, function_program, object_or_this, of_object, program_of, text, zero}
+use Rattle.lp_meaning.specs.WorldEfuns.{Yields, deed, function_program, object_or_this, of_object, program_of, zero}
 use Rattle.lp_world.specs.declared.live.Live.{Live}
 use Rattle.lp_step.specs.Steps.{IsFit, KeepsVariables}
 use Rattle.lp_efuns.specs.declared.answer.Answer.{Answer}
@@ -41,13 +44,16 @@ use Rattle.lp_vm.proofs.Startings.{same_asker}
 
 -- The world stays the same.
 
+value_settles : (v : Value) (s : State) → EndSettles s.world (deed_end efuns.FunctionExists (Yields (effects.Gives v) s) s)
+value_settles v s = pay_settles s.world _ s (Gives v) (still s.world) (still s.world)
+
 program_settles : (w : World) (o : ObjId) (x : Option Found) (s : State) → EndSettles s.world (deed_end efuns.FunctionExists (Yields (function_program w o x) s) s)
-program_settles w o None s = pay_settles s.world _ s (Gives _) (still s.world) (still s.world)
+program_settles w o None s = value_settles (values.Int (pos 0)) s
 program_settles w o (Some f) s = by (is_private f.function.modifiers)
   where
     by : (b : Bool) → EndSettles s.world (deed_end efuns.FunctionExists (Yields (if b then zero else text (program_of w o f)) s) s)
-    by true = pay_settles s.world _ s (Gives _) (still s.world) (still s.world)
-    by false = pay_settles s.world _ s (Gives _) (still s.world) (still s.world)
+    by true = value_settles (values.Int (pos 0)) s
+    by false = value_settles (values.Str (program_of w o f)) s
 
 object_settles : (o : Option ObjId) (name : List ℕ) (s : State)
     → EndSettles s.world (deed_end efuns.FunctionExists (of_object efuns.FunctionExists 2 o s (λ o. Yields (function_program s.world o (function_of s.world o name)) s)) s)

@@ -3,7 +3,7 @@ ghost use Rattle.std.specs.Prelude.{◌≡◌, IfErr, IfOk, IfSome, OnOk};
 ghost use Rattle.lp_calling.specs.Jobs.{IsAsking, IsJobOn, IsReady};
 ghost use Rattle.lp_step.specs.Steps.{IsFit};
 ghost use Rattle.lp_asking.specs.Endings.{IsEndingThere};
-ghost use Rattle.lp_vm.specs.declared.fault.VmFault.TheVariants.{NoMemory};
+ghost use Rattle.lp_vm.specs.declared.fault.VmFault.TheVariants.{NoMemory, NotYet};
 ghost use Rattle.lp_vm.specs.Causes.{Tells, read_of};
 ghost use Rattle.lp_vm.specs.Jobs.{FedOn, Feeds, StepsTo};
 ghost use Rattle.lp_vm.specs.Working.{CanWork};
@@ -63,6 +63,7 @@ pub fn step_job<W: Truthful>(
     requires fit { IsFit live.old stack.old.items }
     requires can { CanWork this job.old (W.content swap.old) live.old stack.old.items asker.now budget.old }
     ensures steps { IfOk result (λ r. StepsTo r this job.old (W.content swap.old) live.old stack.old.items asker.now budget.old job.new (W.content swap.new) live.new stack.new.items budget.new) }
+    ensures yet { IfErr result (λ f. f ≡ NotYet → ⊥) }
     ensures tells { Tells (W.content swap.new) (W.last swap.new) (W.read_faults swap.old) (W.read_faults swap.new) (W.write_faults swap.old) (W.write_faults swap.new)
         (W.is_truthful swap.old) (W.is_truthful swap.new) (W.is_honest swap.old) (W.is_honest swap.new) live.new (read_of result) }
 {
