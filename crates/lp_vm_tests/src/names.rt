@@ -31,7 +31,12 @@ const NAMES: [File; 3] = [
 const ASKED: [Row; 7] = [
     (2, "asks", &[Obj(1), Str("low")], "3"),
     (2, "asks", &[Obj(1), Str("")], "0"),
-    (2, "asks", &[Obj(1), Str("aaaaaaaaaaaaaaaaaaaaaaaaaaaaaaé")], "0"),
+    (
+        2,
+        "asks",
+        &[Obj(1), Str("aaaaaaaaaaaaaaaaaaaaaaaaaaaaaaé")],
+        "0",
+    ),
     (
         2,
         "asks",
