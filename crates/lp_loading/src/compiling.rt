@@ -96,6 +96,7 @@ pub(crate) fn bring_out<W: Truthful>(
     ensures store { live.new.store ≡ live.old.store }
     ensures outputs { live.new.outputs ≡ live.old.outputs }
     ensures objects { live.new.objects ≡ live.old.objects }
+    ensures cells { live.new.cells ≡ live.old.cells }
 {
     if !has_version(&live.versions, p) {
         return Err(LoadFault::NoMemory);
@@ -121,6 +122,7 @@ fn needed<W: Truthful>(
     ensures store { live.new.store ≡ live.old.store }
     ensures outputs { live.new.outputs ≡ live.old.outputs }
     ensures objects { live.new.objects ≡ live.old.objects }
+    ensures cells { live.new.cells ≡ live.old.cells }
     ensures found { IfOk result (λ o. MatchOption o (out_count live.new.versions < out_count live.old.versions) (λ r. IsMissingHere r (all_made made.now) live.old (string_bytes file))) }
 {
     if !is_ascii(file.as_str()) {
@@ -150,6 +152,7 @@ fn refused<W: Truthful>(
     ensures store { live.new.store ≡ live.old.store }
     ensures outputs { live.new.outputs ≡ live.old.outputs }
     ensures objects { live.new.objects ≡ live.old.objects }
+    ensures cells { live.new.cells ≡ live.old.cells }
     ensures found { IfOk result (λ o. MatchOption o (out_count live.new.versions < out_count live.old.versions) (λ r. IsRefusedTo r fault (all_made made.now) live.old)) }
 {
     match fault {
@@ -176,6 +179,7 @@ fn attempt<W: Truthful>(
     ensures store { live.new.store ≡ live.old.store }
     ensures outputs { live.new.outputs ≡ live.old.outputs }
     ensures objects { live.new.objects ≡ live.old.objects }
+    ensures cells { live.new.cells ≡ live.old.cells }
     ensures found { IfOk result (λ o. MatchOption o (out_count live.new.versions < out_count live.old.versions)
         (λ r. (name : List ℕ) → path.now ≡ file_bytes name → CompilesTo r (all_made made.now) name own simuls.now (W.content swap.old) live.old (W.content swap.new) live.new)) }
 {
@@ -211,6 +215,7 @@ pub(crate) fn compile_file<W: Truthful>(
     ensures store { live.new.store ≡ live.old.store }
     ensures outputs { live.new.outputs ≡ live.old.outputs }
     ensures objects { live.new.objects ≡ live.old.objects }
+    ensures cells { live.new.cells ≡ live.old.cells }
 {
     match attempt(live, swap, made, path, own, simuls) {
         Ok(Some(r)) => Ok(r),

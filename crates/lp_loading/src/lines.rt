@@ -10,6 +10,7 @@ ghost use Rattle.lp_front_end.specs.Parents.{file_bytes};
 ghost use Rattle.lp_loading.specs.Going.{Goes};
 ghost use Rattle.lp_loading.specs.Lines.{IsFaultOf, IsLineOf, IsTooFar, first_of};
 ghost use Rattle.lp_loading.specs.Reads.{HasRead};
+ghost use Rattle.lp_loading.specs.Steps.{AsksOrFails};
 ghost use Rattle.lp_loading.specs.declared.compiling.Compiled.TheVariants as compiled;
 ghost use Rattle.lp_loading.specs.declared.job.Going.TheVariants as stages;
 ghost use Rattle.lp_loading.specs.declared.job.LoadJob.{LoadJob as Job};
@@ -103,7 +104,10 @@ fn end_at(
     requires line { IsLineOf live.old.store (file_bytes name.now) file.now line }
     ensures goes { IfOk result (λ r. (job : Job) (loads : List Loads) (told0 : Option Bytes) (live0 : L) (told1 : Option Bytes) (budget : ℕ) (turn : Turn) → job.name ≡ name.now → HasRead (compiled.Missing file.now) job loads told0 live0 told1 live.old
         → IsTooFar kind file.now job loads → Goes r job stages.Read loads told0 live0 budget told1 live.new budget turn) }
+    ensures asks { IfOk result AsksOrFails }
     ensures closed { IsClosed live.new }
+    ensures objects { live.new.objects ≡ live.old.objects }
+    ensures cells { live.new.cells ≡ live.old.cells }
 {
     law_missing_goes_on();
     law_names_have_files();
@@ -125,7 +129,10 @@ pub(crate) fn end_missing(
     requires ascii { IsAscii name.now }
     ensures goes { IfOk result (λ r. (job : Job) (loads : List Loads) (told0 : Option Bytes) (live0 : L) (told1 : Option Bytes) (budget : ℕ) (turn : Turn) → job.name ≡ name.now → HasRead (compiled.Missing file.now) job loads told0 live0 told1 live.old
         → IsTooFar kind file.now job loads → Goes r job stages.Read loads told0 live0 budget told1 live.new budget turn) }
+    ensures asks { IfOk result AsksOrFails }
     ensures closed { IsClosed live.new }
+    ensures objects { live.new.objects ≡ live.old.objects }
+    ensures cells { live.new.cells ≡ live.old.cells }
 {
     let path = file_of(live.alloc, name)?;
     let line = parent_line(live.alloc, &live.store, path.as_str(), file)?;
@@ -147,7 +154,10 @@ pub(crate) fn go_missing(
     requires ascii { IsAscii job.now.name }
     ensures goes { IfOk result (λ r. (told0 : Option Bytes) (live0 : L) (told1 : Option Bytes) (budget : ℕ) (turn : Turn) → HasRead (compiled.Missing file.now) job.now loads.now told0 live0 told1 live.old
         → Goes r job.now stages.Read loads.now told0 live0 budget told1 live.new budget turn) }
+    ensures asks { IfOk result AsksOrFails }
     ensures closed { IsClosed live.new }
+    ensures objects { live.new.objects ≡ live.old.objects }
+    ensures cells { live.new.cells ≡ live.old.cells }
 {
     let own = job.name.as_str();
     let name = parent_name(live.alloc, file)?;

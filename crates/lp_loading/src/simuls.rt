@@ -109,6 +109,7 @@ pub(crate) fn bring_shared<W: Truthful>(
     ensures store { live.new.store ≡ live.old.store }
     ensures outputs { live.new.outputs ≡ live.old.outputs }
     ensures objects { live.new.objects ≡ live.old.objects }
+    ensures cells { live.new.cells ≡ live.old.cells }
     ensures code { IfOk result (IsProgramNow (W.content swap.old) live.old p) }
 {
     if !has_version(&live.versions, p) {
@@ -139,6 +140,7 @@ fn put_tree<W: Truthful>(
     ensures store { live.new.store ≡ live.old.store }
     ensures outputs { live.new.outputs ≡ live.old.outputs }
     ensures objects { live.new.objects ≡ live.old.objects }
+    ensures cells { live.new.cells ≡ live.old.cells }
     ensures names { OnOk result (PutsTree (W.content swap.old) live.old whole.now depth version names.old.items names.new.items) }
 {
     law_names();
@@ -166,6 +168,7 @@ fn names_of_version<W: Truthful>(
     ensures store { live.new.store ≡ live.old.store }
     ensures outputs { live.new.outputs ≡ live.old.outputs }
     ensures objects { live.new.objects ≡ live.old.objects }
+    ensures cells { live.new.cells ≡ live.old.cells }
     ensures names { IfOk result (λ names. (programs : List Raw) (w : World) → IsWorldOf (W.content swap.old) programs live.old w → names ≡ callable_names (heritage w v)) }
 {
     law_open();
@@ -194,6 +197,7 @@ fn names_of_object<W: Truthful>(
     ensures store { live.new.store ≡ live.old.store }
     ensures outputs { live.new.outputs ≡ live.old.outputs }
     ensures objects { live.new.objects ≡ live.old.objects }
+    ensures cells { live.new.cells ≡ live.old.cells }
     ensures names { IfOk result (λ names. (programs : List Raw) (w : World) (n : List ℕ) → IsWorldOf (W.content swap.old) programs live.old w → named w n ≡ Some ob → names ≡ names_seen w (Some ob)) }
 {
     match version_of_object(&live.objects, ob) {
@@ -218,6 +222,7 @@ pub(crate) fn simul_names<W: Truthful>(
     ensures store { live.new.store ≡ live.old.store }
     ensures outputs { live.new.outputs ≡ live.old.outputs }
     ensures objects { live.new.objects ≡ live.old.objects }
+    ensures cells { live.new.cells ≡ live.old.cells }
     ensures sees { IfOk result (SeesSimuls (W.content swap.old) live.old loads.now) }
 {
     let seen = simul_seen(live, loads)?;

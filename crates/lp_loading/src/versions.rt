@@ -42,6 +42,9 @@ pub(crate) fn make_version(
     ensures makes { IfOk result (MakesVersion live.old live.new name.now program) }
     ensures same { OnErr result (live.new ≡ live.old) }
     ensures closed { IsClosed live.new }
+    ensures objects { live.new.objects ≡ live.old.objects }
+    ensures cells { live.new.cells ≡ live.old.cells }
+    ensures outputs { live.new.outputs ≡ live.old.outputs }
 {
     law_fits();
     calls_find_rows();

@@ -16,3 +16,4 @@ pub mod Cycling
 pub mod Applied
 pub mod Initialised
 pub mod Makings
+pub mod MakingBegins

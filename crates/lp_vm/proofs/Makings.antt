@@ -45,7 +45,7 @@ use Rattle.lp_beginning.specs.declared.job.LoadKind.TheVariants as kinds
 use Rattle.lp_beginning.specs.declared.job.Making.{Making}
 use Rattle.lp_beginning.specs.declared.job.Question.{Question}
 use Rattle.lp_beginning.specs.declared.job.Question.TheVariants as questions
-use Rattle.lp_beginning.specs.Beginning.{Fits}
+use Rattle.lp_beginning.specs.Beginning.{Fits, IsInitialised}
 use Rattle.lp_beginning.specs.Ends.{IsReplyEnd, IsValueEnd, state_at}
 use Rattle.lp_beginning.specs.Feeding.{AsksNext, EndsWith, Feeds, GoesOn, IsLater}
 use Rattle.lp_beginning.specs.Jobs.{asked_of, course_of, kind_of, made_from, next_of, parts_left, rest_from, rest_of}
@@ -53,7 +53,7 @@ use Rattle.lp_vm.specs.declared.request.Request.TheVariants as requests
 use Rattle.lp_vm.specs.Answering.{Answered, CanServe, IsAsked, IsSameAsker, Serves}
 use Rattle.lp_vm.specs.Cycle.{Answers}
 use Rattle.lp_vm.specs.Going.{IsOutcome}
-use Rattle.lp_vm.specs.Making.{CanAskNext, CanMake, CanReachFor, IsAskedFor, IsInitialised, IsMaking, MakeAsks, MakeContinues, Makes, MakesOn, StandsForOne, object_for}
+use Rattle.lp_vm.specs.Making.{CanAskNext, CanMake, CanReachFor, IsAskedFor, IsMaking, MakeAsks, MakeContinues, Makes, MakesOn, StandsForOne, object_for}
 use Rattle.lp_vm.proofs.Answered.{setting}
 use Rattle.lp_vm.proofs.Carried.{some_at}
 use Rattle.lp_vm.proofs.Startings.{same_later}

@@ -1,5 +1,5 @@
 -- An object that was made begins: its job goes on for a course of the meaning.
-use Rattle.std.specs.Prelude.{◌≡◌, ◌+◌, ◌≤◌, ◌++◌, ℕ, List, Option, Some, All, codes, map, reverse, true}
+use Rattle.std.specs.Prelude.{◌≡◌, ◌+◌, ◌≤◌, ◌++◌, ℕ, List, Option, All, codes, map, reverse}
 use Rattle.std.specs.Option.{option_to_list}
 use Rattle.lp_values.specs.declared.id.ObjId.{ObjId}
 use Rattle.lp_values.specs.declared.value.Value.{Value}
@@ -8,7 +8,6 @@ use Rattle.lp_events.specs.declared.out.Out.{Out}
 use Rattle.lp_swapfile.specs.Device.{Bytes}
 use Rattle.lp_language.specs.World.{Keeps, World}
 use Rattle.lp_language.specs.Course.{Ask, Course, End, Reply, State}
-use Rattle.lp_language.specs.Resolve.{Part, heritage_of, part_at}
 use Rattle.lp_meaning.specs.Askers as meaning
 use Rattle.lp_meaning.specs.Closing.{Ends}
 use Rattle.lp_meaning.specs.FrontEnd.{FrontEnd}
@@ -23,13 +22,12 @@ use Rattle.lp_asking.specs.declared.ending.Ending.{Ending}
 use Rattle.lp_asking.specs.declared.ending.Place.{Place}
 use Rattle.lp_asking.specs.Asking.{loading_of}
 use Rattle.lp_asking.specs.Endings.{IsEndingThere}
-use Rattle.lp_initialisers.specs.Rows.{has_initialisers}
 use Rattle.lp_reaching.specs.declared.reached.Reached.{Reached}
 use Rattle.lp_reaching.specs.Reaching.{Applies, Initialises, ReachesIf}
 use Rattle.lp_beginning.specs.declared.job.Making.{Making}
 use Rattle.lp_beginning.specs.declared.job.Question.{Question}
 use Rattle.lp_beginning.specs.declared.job.Question.TheVariants as questions
-use Rattle.lp_beginning.specs.Beginning.{Fits}
+use Rattle.lp_beginning.specs.Beginning.{Fits, IsInitialised}
 use Rattle.lp_beginning.specs.Feeding.{AsksNext, IsAskerAt}
 use Rattle.lp_beginning.specs.Jobs.{course_of, parts_left}
 use Rattle.lp_vm.specs.Answering.{Answered, IsSameAsker}
@@ -67,12 +65,6 @@ pub record MakeAsks (found : Option Reached) (caller : Option ObjId) (job : Maki
   pub finds : FindsFor caller question told0 live0 told1 live1 found
 
 -- How it begins
-
--- a part of an object's program is there, and has initialisers
-pub record IsInitialised (w : World) (o : ObjId) (part : ℕ) : Type 0 where
-  pub place : Part
-  pub at : part_at (heritage_of w o) part ≡ Some place
-  pub has : has_initialisers place.tree ≡ true
 
 -- The state stands for a state of the meaning, in which who asks has what was handed down, and the caller as its latest. In
 -- each world to which that leads the parts that are left have initialisers, and this is the place of who asks.

@@ -18,6 +18,7 @@ invariant-loop-p g l = record {
   store : l.live.store ≡ l.fn.live.store;
   outputs : l.live.outputs ≡ l.fn.live.outputs;
   objects : l.live.objects ≡ l.fn.live.objects;
+  cells : l.live.cells ≡ l.fn.live.cells;
   names : (programs : List RawProgram) (w : World) → IsWorldOf (g.W.SwapFile.content l.fn.swap) programs l.fn.live w
       → l.names.items ++ open_before l.whole (each_heritage (heritage_within (l.depth - 1) w) (drop l.p-index l.parents)) ≡ l.fn.names.items ++ open_in l.whole (heritage_within l.depth w l.fn.version);
 }
