@@ -28,6 +28,7 @@ use Rattle.lp_settling.proofs.Still.{pay_settles, still}
 use Rattle.lp_calling.proofs.Settled.{end_settled}
 use Rattle.lp_object_efuns.specs.Exists.{CallsOver}
 use Rattle.lp_asking.specs.declared.asker.Asker.{Asker}
+use Rattle.lp_asking.specs.declared.ending.Place.{Place}
 use Rattle.lp_asking.specs.Endings.{IsEndingThere, plain_end}
 use Rattle.lp_asking.proofs.Courses.{over_ends}
 use Rattle.lp_vm.specs.declared.efuns.EfunBegun.{EfunBegun}
@@ -84,14 +85,14 @@ looking_settles by c vs s end q =
     subst (λ x. CourseSettles s.world x) q all
 
 -- What is answered.
-module _ (this : ObjId) (live0 live1 : Live) (stack0 stack1 : List Value) (asker : Asker) (args budget0 budget1 : ℕ) (told0 told1 : Option Bytes) (caller : Caller) (x : Answer) (vs : List Value)
-    (same_this : caller.this ≡ this) (same_interactive : caller.interactive ≡ asker.interactive) (same_callers : caller.callers.now ≡ asker.callers.items) (same_told : told1 ≡ told0)
+module _ (at : Place) (live0 live1 : Live) (stack0 stack1 : List Value) (asker : Asker) (args budget0 budget1 : ℕ) (told0 told1 : Option Bytes) (caller : Caller) (x : Answer) (vs : List Value)
+    (same_this : caller.this ≡ at.this) (same_interactive : caller.interactive ≡ asker.interactive) (same_callers : caller.callers.now ≡ asker.callers.items) (same_told : told1 ≡ told0)
     (top : vs ≡ drop (length stack0 - args) stack0) (cut : stack1 ≡ take (length stack0 - args) stack0) (calls : CallsOver efuns.FunctionExists caller vs told0 live0 budget0 x live1 budget1) where
-  looked_served : Served (requests.Efun this efuns.FunctionExists) args told0 live0 stack0 asker budget0 told1 live1 stack1 asker budget1 (ending_of x)
+  looked_served : Served (requests.Efun at efuns.FunctionExists) args told0 live0 stack0 asker budget0 told1 live1 stack1 asker budget1 (ending_of x)
   looked_served front real programs a below h is =
       let q = is.0 in
       let are : vs ≡ a.arguments = top ∙ arguments_are stack0 below a.arguments args h.lies h.many in
-      let r = calls (setting told0 programs live0.outputs) asker.turn (asker_of a) q.scene (state_of a) refl (scene_so caller asker this efuns.FunctionExists a q same_this same_interactive same_callers)
+      let r = calls (setting told0 programs live0.outputs) asker.turn (asker_of a) q.scene (state_of a) refl (scene_so caller programs asker at efuns.FunctionExists a q same_this same_interactive same_callers)
       (at_start told0 programs live0 stack0 below asker args budget0 a h) h.world in
       let over : efun_in efuns.FunctionExists (asker_of a) q.scene a.arguments (state_of a) ≡ Over r.0 = ap (λ xs. efun_in efuns.FunctionExists (asker_of a) q.scene xs (state_of a)) (sym are) ∙ r.1 in
       let settled = end_settled a.world (setting told0 programs live0.outputs) live1 asker.turn budget1 x r.0 r.2 (looking_settles (asker_of a) q.scene a.arguments (state_of a) r.0 over) in
@@ -102,19 +103,19 @@ module _ (this : ObjId) (live0 live1 : Live) (stack0 stack1 : List Value) (asker
         left = below_is stack0 stack1 below a.arguments args h.lies h.many cut;
       }
 
-  pub looked_answers : KeepsVariables live0.objects live1.objects → IsFit live1 stack1 → IsEndingThere live1.cells (ending_of x) → CanServe told0 live0 stack0 asker budget0 (requests.Efun this efuns.FunctionExists) args
-      → Answers (requests.Efun this efuns.FunctionExists) args told0 live0 stack0 asker budget0 told1 live1 stack1 asker budget1 (ending_of x)
+  pub looked_answers : KeepsVariables live0.objects live1.objects → IsFit live1 stack1 → IsEndingThere live1.cells (ending_of x) → CanServe told0 live0 stack0 asker budget0 (requests.Efun at efuns.FunctionExists) args
+      → Answers (requests.Efun at efuns.FunctionExists) args told0 live0 stack0 asker budget0 told1 live1 stack1 asker budget1 (ending_of x)
   looked_answers home fit there can = record {
     served = looked_served;
     same = same_asker asker;
-    spends = serves_spends told0 told1 live0 live1 stack0 stack1 asker asker args budget0 budget1 (requests.Efun this efuns.FunctionExists) (ending_of x) can looked_served;
+    spends = serves_spends told0 told1 live0 live1 stack0 stack1 asker asker args budget0 budget1 (requests.Efun at efuns.FunctionExists) (ending_of x) can looked_served;
     home = home;
     fit = fit;
     there = there;
   }
 
 -- One for which nothing came into memory begins so, whatever the swap file tells.
-pub begins_alone : (r : EfunBegun) (this : ObjId) (efun : Efun) (args : ℕ) (live0 live1 : Live) (stack0 stack1 : List Value) (asker0 asker1 : Asker) (budget0 budget1 : ℕ) (told : Option Bytes) → StartsEfun r this efun args live0 stack0 asker0 budget0 live1 stack1 asker1 budget1
-    → BeginsEfun r this efun args told live0 stack0 asker0 budget0 told live1 stack1 asker1 budget1
-begins_alone (begun.Answered e) this efun args live0 live1 stack0 stack1 asker0 asker1 budget0 budget1 told h = h told
-begins_alone (begun.Works job) this efun args live0 live1 stack0 stack1 asker0 asker1 budget0 budget1 told h = (refl, h)
+pub begins_alone : (r : EfunBegun) (at : Place) (efun : Efun) (args : ℕ) (live0 live1 : Live) (stack0 stack1 : List Value) (asker0 asker1 : Asker) (budget0 budget1 : ℕ) (told : Option Bytes) → StartsEfun r at efun args live0 stack0 asker0 budget0 live1 stack1 asker1 budget1
+    → BeginsEfun r at efun args told live0 stack0 asker0 budget0 told live1 stack1 asker1 budget1
+begins_alone (begun.Answered e) at efun args live0 live1 stack0 stack1 asker0 asker1 budget0 budget1 told h = h told
+begins_alone (begun.Works job) at efun args live0 live1 stack0 stack1 asker0 asker1 budget0 budget1 told h = (refl, h)

@@ -1,3 +1,4 @@
+pub mod Growing
 pub mod Faults
 pub mod Causes
 pub mod Going
@@ -10,7 +11,11 @@ pub mod Efuns
 pub mod Looking
 pub mod Beginning
 pub mod Turns
+pub mod Making
+pub mod Loading
+pub mod Loaded
 pub mod Jobs
 pub mod Applying
 pub mod Initialising
-pub mod Making
+pub mod LoadFaults
+pub mod ObjectLoading

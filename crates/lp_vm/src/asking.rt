@@ -1,7 +1,6 @@
-//! What a question of a job reaches.
+//! What a question of a job for a function reaches.
 ghost use Rattle.std.specs.Prelude.{◌≡◌, ◌≤◌, IfErr, IfOk, IfSome, IsSome, length};
 ghost use Rattle.lp_calling.specs.declared.job.Question.TheVariants as questions;
-ghost use Rattle.lp_calling.specs.Jobs.{object_of};
 ghost use Rattle.lp_step.specs.Steps.{KeepsVariables};
 ghost use Rattle.lp_world.specs.Closed.{IsClosed};
 ghost use Rattle.lp_world.specs.Rows.{row_at};
@@ -13,7 +12,6 @@ ghost use Rattle.lp_vm.specs.Working.{CanReach, FindsAsked};
 use crate::fault::VmFault;
 use crate::naming::{name_of, spell};
 use lp_asking::truth::Truthful;
-use lp_calling::job::Question;
 use lp_reaching::applying::find_applied;
 use lp_reaching::outside::find_outside;
 use lp_reaching::reached::Reached;
@@ -82,9 +80,12 @@ fn reach_long<W: Truthful>(
     }
 }
 
-/// A function of an object, by its name, as the object of the efun's caller calls it. A name that is not of ASCII is that of no
-/// function.
-fn reach_other<W: Truthful>(
+/// A function of an object, by its name, as an object calls it in which a function called the job's efun. What is needed for the
+/// function comes into memory. A name that is not of ASCII is that of no function.
+///
+/// # Errors
+/// `NoMemory` and `Swap` as where a running function asks.
+pub fn reach_other<W: Truthful>(
     live: &mut Live,
     swap: &mut W,
     this: ObjId,
@@ -110,8 +111,11 @@ fn reach_other<W: Truthful>(
     reach_long(live, swap, this, ob, name)
 }
 
-/// `catch_tell` of an object, as an efun of this object applies it.
-fn reach_catch_tell<W: Truthful>(
+/// `catch_tell` of an object, as an efun of this object applies it. What is needed for the function comes into memory.
+///
+/// # Errors
+/// `NoMemory` and `Swap` as where a running function asks.
+pub fn reach_catch_tell<W: Truthful>(
     live: &mut Live,
     swap: &mut W,
     this: ObjId,
@@ -131,34 +135,4 @@ fn reach_catch_tell<W: Truthful>(
         (W.is_truthful swap.old) (W.is_truthful swap.new) (W.is_honest swap.old) (W.is_honest swap.new) live.new (read_of result) }
 {
     Ok(find_applied(live, swap, Some(this), ob, "catch_tell")?)
-}
-
-/// The function that a question of a job reaches, if there is one. A function of this object called the job's efun. What is
-/// needed for the function comes into memory.
-///
-/// # Errors
-/// `NoMemory` and `Swap` as where a running function asks.
-pub fn reach<W: Truthful>(
-    live: &mut Live,
-    swap: &mut W,
-    this: ObjId,
-    question: &Question,
-) -> Result<Option<Reached>, VmFault>
-    requires closed { IsClosed live.old }
-    requires object { IsSome (row_at live.old.objects (object_of question.now).0) }
-    requires can { CanReach this question.now (W.content swap.old) live.old }
-    ensures found { IfOk result (λ r. FindsAsked this question.now (W.content swap.old) live.old (W.content swap.new) live.new r) }
-    ensures there { IfOk result (λ r. IfSome r (λ x. IsInMemory live.new x.callee x.code)) }
-    ensures closed { IsClosed live.new }
-    ensures home { KeepsVariables live.old.objects live.new.objects }
-    ensures cells { live.new.cells ≡ live.old.cells }
-    ensures outputs { live.new.outputs ≡ live.old.outputs }
-    ensures yet { IfErr result (λ f. f ≡ NotYet → ⊥) }
-    ensures tells { Tells (W.content swap.new) (W.last swap.new) (W.read_faults swap.old) (W.read_faults swap.new) (W.write_faults swap.old) (W.write_faults swap.new)
-        (W.is_truthful swap.old) (W.is_truthful swap.new) (W.is_honest swap.old) (W.is_honest swap.new) live.new (read_of result) }
-{
-    match question {
-        Question::Other(ob, name) => reach_other(live, swap, this, *ob, name),
-        Question::CatchTell(ob) => reach_catch_tell(live, swap, this, *ob),
-    }
 }

@@ -1,5 +1,5 @@
 //! Efuns that a running function calls begin, also those for which a program comes into memory.
-ghost use Rattle.std.specs.Prelude.{◌≡◌, ◌-◌, All, IfErr, IfOk, drop, length};
+ghost use Rattle.std.specs.Prelude.{◌≡◌, All, IfErr, IfOk};
 ghost use Rattle.lp_cells.specs.Cells.{IsThere};
 ghost use Rattle.lp_instr.specs.declared.efun.Efun.TheVariants as efuns;
 ghost use Rattle.lp_world.specs.Closed.{IsClosed};
@@ -16,6 +16,7 @@ ghost use Rattle.lp_vm.specs.Looking.{BeginsEfun, IsMissing};
 use crate::efuns::{EfunBegun, begin_efun, ending_of, topmost};
 use crate::fault::VmFault;
 use lp_asking::asker::Asker;
+use lp_asking::ending::Place;
 use lp_asking::resume::drop_top;
 use lp_asking::truth::Truthful;
 use lp_efuns::answer::Answer;
@@ -23,7 +24,6 @@ use lp_efuns::caller::Caller;
 use lp_instr::efun::Efun;
 use lp_object_efuns::exists::function_exists;
 use lp_residence::answers::EnterFault;
-use lp_values::id::ObjId;
 use lp_values::value::Value;
 use lp_world::live::Live;
 
@@ -65,19 +65,19 @@ fn looking<W: Truthful>(
     swap: &mut W,
     stack: &mut Vec<Value>,
     asker: &Asker,
-    this: ObjId,
+    at: Place,
     args: u32,
     budget: &mut u64,
 ) -> Result<EfunBegun, VmFault>
     requires fit { IsFit live.old stack.old.items }
-    requires can { CanServe (W.content swap.old) live.old stack.old.items asker.now budget.old (requests.Efun this efuns.FunctionExists) args }
-    ensures begins { IfOk result (λ r. BeginsEfun r this efuns.FunctionExists args (W.content swap.old) live.old stack.old.items asker.now budget.old (W.content swap.new) live.new stack.new.items asker.now budget.new) }
+    requires can { CanServe (W.content swap.old) live.old stack.old.items asker.now budget.old (requests.Efun at efuns.FunctionExists) args }
+    ensures begins { IfOk result (λ r. BeginsEfun r at efuns.FunctionExists args (W.content swap.old) live.old stack.old.items asker.now budget.old (W.content swap.new) live.new stack.new.items asker.now budget.new) }
     ensures tells { Tells (W.content swap.new) (W.last swap.new) (W.read_faults swap.old) (W.read_faults swap.new) (W.write_faults swap.old) (W.write_faults swap.new)
         (W.is_truthful swap.old) (W.is_truthful swap.new) (W.is_honest swap.old) (W.is_honest swap.new) live.new (read_of result) }
     ensures yet { IfErr result (λ f. f ≡ NotYet → ⊥) }
 {
     let caller = Caller {
-        this,
+        this: at.this,
         interactive: asker.interactive,
         callers: asker.callers.as_slice(),
     };
@@ -86,31 +86,30 @@ fn looking<W: Truthful>(
     Ok(EfunBegun::Answered(ending_of(answer)))
 }
 
-/// An efun begins that a function of this object calls, with so many arguments on top of the stack, which are taken: it is
+/// An efun begins that the function at a place calls, with so many arguments on top of the stack, which are taken: it is
 /// answered, or goes on as a job. The program that `function_exists` looks into comes into memory.
 ///
 /// # Errors
-/// `NoMemory` and `Swap` of `function_exists`; `NoMemory` of every other efun; `NotYet` of an efun that is not carried out yet,
-/// and where an object would have to be loaded.
+/// `NoMemory` and `Swap` of `function_exists`; `NoMemory` of every other efun; `NotYet` of an efun that is not carried out yet.
 pub fn start_efun<W: Truthful>(
     live: &mut Live,
     swap: &mut W,
     stack: &mut Vec<Value>,
     asker: &mut Asker,
-    this: ObjId,
+    at: Place,
     efun: Efun,
     args: u32,
     budget: &mut u64,
 ) -> Result<EfunBegun, VmFault>
     requires fit { IsFit live.old stack.old.items }
-    requires can { CanServe (W.content swap.old) live.old stack.old.items asker.old budget.old (requests.Efun this efun) args }
-    ensures begins { IfOk result (λ r. BeginsEfun r this efun args (W.content swap.old) live.old stack.old.items asker.old budget.old (W.content swap.new) live.new stack.new.items asker.new budget.new) }
+    requires can { CanServe (W.content swap.old) live.old stack.old.items asker.old budget.old (requests.Efun at efun) args }
+    ensures begins { IfOk result (λ r. BeginsEfun r at efun args (W.content swap.old) live.old stack.old.items asker.old budget.old (W.content swap.new) live.new stack.new.items asker.new budget.new) }
     ensures tells { Tells (W.content swap.new) (W.last swap.new) (W.read_faults swap.old) (W.read_faults swap.new) (W.write_faults swap.old) (W.write_faults swap.new)
         (W.is_truthful swap.old) (W.is_truthful swap.new) (W.is_honest swap.old) (W.is_honest swap.new) live.new (read_of result) }
-    ensures yet { IfErr result (λ f. f ≡ NotYet → IsMissing live.old efun (drop (length stack.old.items - args) stack.old.items)) }
+    ensures yet { IfErr result (λ f. f ≡ NotYet → IsMissing efun) }
 {
     match efun {
-        Efun::FunctionExists => looking(live, swap, stack, asker, this, args, budget),
-        _ => begin_efun(live, stack, asker, this, efun, args, budget),
+        Efun::FunctionExists => looking(live, swap, stack, asker, at, args, budget),
+        _ => begin_efun(live, stack, asker, at, efun, args, budget),
     }
 }
