@@ -1,5 +1,5 @@
 -- Efuns that look into programs: what they keep of a world, and what they are answered.
-use Rattle.std.proofs.Common.{◌≡◌, ◌∙◌, ◌-◌, ℕ, Bool, true, false, cond, List, [], ◌∷◌, Option, Some, None, refl, ap, sym, subst, length, take, drop, if◌then◌else◌}
+use Rattle.std.proofs.Common.{◌≡◌, ◌∙◌, ◌-◌, ℕ, Bool, true, false, cond, List, Option, Some, None, refl, ap, sym, subst, length, take, drop, if◌then◌else◌}
 use Rattle.std.specs.Prelude.{nat_lt, pos}
 use Rattle.lp_values.specs.declared.id.ObjId.{ObjId}
 use Rattle.lp_values.specs.declared.value.Value.{Value}
