@@ -13,12 +13,13 @@ ghost use Rattle.lp_vm.specs.Loading.{CanLoad, CanLoadOn, Loads, LoadsOn};
 ghost use Rattle.lp_vm.specs.Making.{CanMake, Makes};
 ghost use Rattle.lp_vm.specs.Working.{CanWork};
 
-use crate::efuns::{EfunBegun, begin_efun};
+use crate::efuns::EfunBegun;
 use crate::entering::{Started, close, start};
 use crate::fault::VmFault;
 use crate::halting::{Halted, go_back, run_to_halt};
 use crate::loaded::loaded_ending;
 use crate::loading::{answer_of, begin_load, feed_load, letters_of, pop_load, step_load, unpaid};
+use crate::looking::start_efun;
 use crate::making::{ask_next, feed_on};
 use crate::request::Request;
 use crate::working::{Stepped, feed_back, step_job};
@@ -137,7 +138,7 @@ fn call_efun<W: Truthful>(
     ensures tells { Tells (W.content swap.new) (W.last swap.new) (W.read_faults swap.old) (W.read_faults swap.new) (W.write_faults swap.old) (W.write_faults swap.new)
         (W.is_truthful swap.old) (W.is_truthful swap.new) (W.is_honest swap.old) (W.is_honest swap.new) live.new (read_of result) }
 {
-    match begin_efun(live, stack, asker, at, efun, args, budget)? {
+    match start_efun(live, swap, stack, asker, at, efun, args, budget)? {
         EfunBegun::Answered(ending) => Ok(ending),
         EfunBegun::Works(job) => work(alloc, live, swap, stack, asker, at, job, budget),
     }
