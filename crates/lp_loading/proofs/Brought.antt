@@ -22,7 +22,7 @@ use Rattle.lp_beginning.specs.Beginning as objects
 use Rattle.lp_beginning.specs.Beginning.{BringsFirst, IsRefusedFor, OnSwap, StandsStill}
 use Rattle.lp_beginning.specs.declared.fault.MakingFault.{MakingFault}
 use Rattle.lp_beginning.specs.declared.fault.MakingFault.TheVariants as makings
-use Rattle.lp_loading.specs.Causes.{IsReadless, IsTakenFor, IsTakenIn, IsUntaken, StandsFor, brought_as, brought_by, fault_of}
+use Rattle.lp_loading.specs.Telling.{IsReadless, IsTakenFor, IsTakenIn, IsUntaken, StandsFor, brought_as, brought_by, fault_of}
 use Rattle.lp_loading.specs.Steps.{fault_of as refused_as}
 use Rattle.lp_loading.specs.declared.job.LoadFault.{LoadFault}
 use Rattle.lp_loading.specs.declared.job.LoadFault.TheVariants as faults

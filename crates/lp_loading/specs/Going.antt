@@ -149,11 +149,11 @@ pub record HasBegun (job : LoadJob) (name : List ℕ) (purpose : Purpose) (loads
 abbrev pub HasSpent : List ℕ → Purpose → Ask → ℕ → Type 0
 HasSpent name purpose a budget = (load_call a name (kind_of purpose) ≡ course.Over (Stops (here Spent) (record (state_of a) { budget = 0 }))) × (budget ≡ 0)
 
--- the price was paid, or the budget is spent
-abbrev pub IsPaid : Begun → ℕ → ℕ → Type 0
-IsPaid (begun.Runs job) old new = old ≡ new + 1000
-IsPaid begun.Spent old new = new ≡ 0
-
 abbrev pub BeginsAs : Begun → List ℕ → Purpose → List Loading → Ask → ℕ → Type 0
 BeginsAs (begun.Runs job) name purpose loads a budget = HasBegun job name purpose loads a budget
 BeginsAs begun.Spent name purpose loads a budget = HasSpent name purpose a budget
+
+-- the price was paid, or nothing is left of the budget
+abbrev pub IsPaid : Begun → ℕ → ℕ → Type 0
+IsPaid (begun.Runs job) old new = old ≡ new + 1000
+IsPaid begun.Spent old new = new ≡ 0

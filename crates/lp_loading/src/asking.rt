@@ -5,7 +5,7 @@ ghost use Rattle.lp_asking.specs.declared.asker.Loading.{Loading as Loads};
 ghost use Rattle.lp_code.specs.declared.program.RawProgram.{RawProgram as Raw};
 ghost use Rattle.lp_language.specs.World.{World};
 ghost use Rattle.lp_efuns.specs.declared.caller.Turn.{Turn};
-ghost use Rattle.lp_loading.specs.Causes.{IsReadless};
+ghost use Rattle.lp_loading.specs.Telling.{IsReadless};
 ghost use Rattle.lp_loading.specs.Going.{Goes};
 ghost use Rattle.lp_loading.specs.Parents.{AsksParent};
 ghost use Rattle.lp_loading.specs.Loads.{loads_of};

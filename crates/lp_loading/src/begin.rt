@@ -3,7 +3,7 @@ ghost use Rattle.std.specs.Prelude.{◌≡◌, ◌≤◌, IfErr, IfOk, IfSome, I
 ghost use Rattle.std.specs.Char.{is_ascii as ascii};
 ghost use Rattle.std.specs.List.{list_all};
 ghost use Rattle.lp_language.specs.Course.{Ask};
-ghost use Rattle.lp_loading.specs.Causes.{IsReadless};
+ghost use Rattle.lp_loading.specs.Telling.{IsDeviceless, IsReadless};
 ghost use Rattle.lp_loading.specs.Going.{BeginsAs, IsPaid};
 ghost use Rattle.lp_loading.specs.Loads.{kind_of, last_nested, loads_of};
 ghost use Rattle.lp_loading.specs.declared.job.LoadFault.TheVariants.{NotYet};
@@ -76,9 +76,9 @@ pub fn begin(
     budget: &mut u64,
 ) -> Result<Begun, LoadFault>
     ensures begins { IfOk result (λ r. (a : Ask) → a.budget ≡ budget.old → a.loads ≡ loads_of loads.now → BeginsAs r name.now purpose loads.now a budget.new) }
-    ensures spends { budget.new ≤ budget.old }
     ensures pays { IfOk result (λ r. IsPaid r budget.old budget.new) }
-    ensures fault { IfErr result IsReadless }
+    ensures spends { budget.new ≤ budget.old }
+    ensures fault { IfErr result IsDeviceless }
     ensures yet { IfErr result (λ f. f ≡ NotYet → list_all ascii name.now ≡ false) }
 {
     if *budget < PRICE {

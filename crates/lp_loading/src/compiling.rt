@@ -12,7 +12,7 @@ ghost use Rattle.lp_residence.specs.Entering.{IsEntered};
 ghost use Rattle.lp_residence.specs.Owners.{ticket_at};
 ghost use Rattle.lp_residence.specs.declared.owner.Owner.TheVariants as owners;
 ghost use Rattle.lp_targets.specs.Brought.{Brings};
-ghost use Rattle.lp_loading.specs.Causes.{IsReadless, IsUntaken, brought_by, fault_of};
+ghost use Rattle.lp_loading.specs.Telling.{IsReadless, IsUntaken, brought_by, fault_of};
 ghost use Rattle.lp_loading.specs.Compiling.{CompilesTo, IsMissingHere, IsRefusedTo, IsUnknown};
 ghost use Rattle.lp_loading.specs.Present.{HasWorld, IsReadyFor, KeepsWorlds, all_made, known_of, out_count};
 

@@ -3,9 +3,9 @@ ghost use Rattle.std.specs.Prelude.{IfErr, IfOk, Option, ℕ};
 ghost use Rattle.std.specs.Str.{IsAscii};
 ghost use Rattle.lp_cells.specs.Cells.{Store};
 ghost use Rattle.lp_efuns.specs.declared.caller.Turn.{Turn};
-ghost use Rattle.lp_loading.specs.Causes.{IsReadless};
 ghost use Rattle.lp_loading.specs.Going.{IsAnswerThere, Takes};
 ghost use Rattle.lp_loading.specs.Steps.{EndsThere, GoesReading, IsSameLoad};
+ghost use Rattle.lp_loading.specs.Telling.{IsDeviceless};
 ghost use Rattle.lp_swapfile.specs.Device.{Bytes};
 
 use crate::job::{Answer, Fed, LoadFault, LoadJob, Waiting};
@@ -29,8 +29,8 @@ pub fn feed(
     ensures takes { IfOk result (λ r. (told : Option Bytes) (turn : Turn) (budget : ℕ) → Takes r job.old waiting answer told live.now job.new turn budget) }
     ensures same { IsSameLoad job.old job.new }
     ensures reads { IfOk result GoesReading }
-    ensures fault { IfErr result IsReadless }
     ensures there { IfOk result (λ r. (cells : Store) → IsAnswerThere cells answer → EndsThere cells r) }
+    ensures fault { IfErr result IsDeviceless }
 {
     match waiting {
         Waiting::Simul => Ok(take_simul(job, live, answer)),

@@ -7,7 +7,7 @@ ghost use Rattle.lp_efuns.specs.declared.caller.Turn.{Turn};
 ghost use Rattle.lp_front.specs.Names.{parents_in};
 ghost use Rattle.lp_front.specs.Reading.{items_of};
 ghost use Rattle.lp_front_end.specs.Parents.{file_bytes};
-ghost use Rattle.lp_loading.specs.Causes.{IsReadless};
+ghost use Rattle.lp_loading.specs.Telling.{IsReadless};
 ghost use Rattle.lp_loading.specs.Going.{Goes};
 ghost use Rattle.lp_loading.specs.Lines.{IsFaultOf, IsLineOf, IsTooFar, first_of};
 ghost use Rattle.lp_loading.specs.Reads.{HasRead};

@@ -3,10 +3,12 @@ ghost use Rattle.std.specs.Prelude.{◌≡◌, IfErr, IfOk, List};
 ghost use Rattle.std.specs.Str.{IsAscii};
 ghost use Rattle.lp_code.specs.declared.program.RawProgram.{RawProgram as Raw};
 ghost use Rattle.lp_language.specs.Course.{End, Reply};
+ghost use Rattle.lp_asking.specs.Endings.{IsEndingThere};
 ghost use Rattle.lp_beginning.specs.Ends.{IsReplyEnd};
+ghost use Rattle.lp_cells.specs.Cells.{Store};
 ghost use Rattle.lp_beginning.specs.Beginning.{BringsFirst};
-ghost use Rattle.lp_loading.specs.Causes.{IsTakenFor, brought_by};
-ghost use Rattle.lp_loading.specs.Going.{IsAnswerOf, MakesAs};
+ghost use Rattle.lp_loading.specs.Telling.{IsTakenFor, brought_by};
+ghost use Rattle.lp_loading.specs.Going.{IsAnswerOf, IsAnswerThere, MakesAs};
 ghost use Rattle.lp_loading.specs.Steps.{AsksAscii, AsksInOrder, MakesFor, MakesHome, answer_of as answer_meant, fault_of as fault_meant, making_kind as kind_meant, step_of as step_meant};
 ghost use Rattle.lp_loading.specs.declared.job.Going.{Going as Stage};
 ghost use Rattle.lp_step.specs.Steps.{KeepsVariables};
@@ -35,6 +37,7 @@ fn making_kind(purpose: Purpose) -> LoadKind
 pub fn answer_of(ending: Ending) -> Answer
     ensures is { result ≡ answer_meant ending }
     ensures same { (programs : List Raw) (e : End Reply) → IsReplyEnd programs ending e → IsAnswerOf programs result e }
+    ensures there { (cells : Store) → IsEndingThere cells ending → IsAnswerThere cells result }
 {
     match ending {
         Ending::Value(v) => Answer::Value(v),

@@ -6,7 +6,7 @@ ghost use Rattle.lp_asking.specs.declared.asker.Loading.{Loading as Loads};
 ghost use Rattle.lp_efuns.specs.declared.caller.Turn.{Turn};
 ghost use Rattle.lp_front_end.specs.Parents.{file_bytes};
 ghost use Rattle.lp_beginning.specs.Beginning.{StandsStill};
-ghost use Rattle.lp_loading.specs.Causes.{IsReadless, IsUntaken, brought_by};
+ghost use Rattle.lp_loading.specs.Telling.{IsReadless, IsUntaken, brought_by};
 ghost use Rattle.lp_loading.specs.Going.{Goes};
 ghost use Rattle.lp_loading.specs.Present.{HasWorld};
 ghost use Rattle.lp_loading.specs.Reads.{HasRead};

@@ -14,7 +14,7 @@ ghost use Rattle.lp_targets.specs.Callees.{IsWorldOf};
 ghost use Rattle.lp_world.specs.Closed.{IsClosed};
 ghost use Rattle.lp_world.specs.Stands.{Stands};
 ghost use Rattle.lp_beginning.specs.Beginning.{StandsStill};
-ghost use Rattle.lp_loading.specs.Causes.{IsUntaken, brought_by};
+ghost use Rattle.lp_loading.specs.Telling.{IsUntaken, brought_by};
 ghost use Rattle.lp_loading.specs.Loads.{loads_of};
 ghost use Rattle.lp_loading.specs.Present.{KeepsWorlds};
 ghost use Rattle.lp_loading.specs.Simuls.{IsProgramNow, PutsTree, SeesSimuls, names_seen, seen_simul};

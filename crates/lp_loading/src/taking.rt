@@ -5,9 +5,9 @@ ghost use Rattle.lp_code.specs.declared.program.RawProgram.{RawProgram as Raw};
 ghost use Rattle.lp_efuns.specs.declared.caller.Turn.{Turn};
 ghost use Rattle.lp_language.specs.World.{World, object_named};
 ghost use Rattle.lp_cells.specs.Cells.{Store};
-ghost use Rattle.lp_loading.specs.Causes.{IsReadless};
 ghost use Rattle.lp_loading.specs.Going.{IsAnswerThere, Takes};
 ghost use Rattle.lp_loading.specs.Steps.{EndsThere, GoesReading, IsSameLoad};
+ghost use Rattle.lp_loading.specs.Telling.{IsDeviceless};
 ghost use Rattle.lp_meaning.specs.FileLoads.{object_of_value};
 ghost use Rattle.lp_loading.specs.declared.job.Answer.TheVariants as answers;
 ghost use Rattle.lp_loading.specs.declared.job.Waiting.TheVariants as waitings;
@@ -89,8 +89,8 @@ fn note_parent(job: &mut LoadJob, live: &Live, name: Name, ob: ObjId) -> Result<
         → Takes r job.old (waitings.Parent name) (answers.Value v) told live.now job.new turn budget) }
     ensures same { IsSameLoad job.old job.new }
     ensures reads { IfOk result GoesReading }
-    ensures fault { IfErr result IsReadless }
     ensures there { IfOk result (λ r. (cells : Store) → EndsThere cells r) }
+    ensures fault { IfErr result IsDeviceless }
 {
     match version_of_object(&live.objects, ob) {
         Some(version) => {
@@ -108,8 +108,8 @@ fn after_parent(job: &mut LoadJob, live: &Live, name: Name, ob: ObjId) -> Result
         → Takes r job.old (waitings.Parent name) (answers.Value v) told live.now job.new turn budget) }
     ensures same { IsSameLoad job.old job.new }
     ensures reads { IfOk result GoesReading }
-    ensures fault { IfErr result IsReadless }
     ensures there { IfOk result (λ r. (cells : Store) → EndsThere cells r) }
+    ensures fault { IfErr result IsDeviceless }
 {
     match own_object(job, live) {
         Some(o) => Ok(Fed::Ends(Answer::Value(Value::Obj(o)))),
@@ -124,8 +124,8 @@ fn parent_value(job: &mut LoadJob, live: &Live, name: Name, v: &Value) -> Result
         → Takes r job.old (waitings.Parent name) (answers.Value v.now) told live.now job.new turn budget) }
     ensures same { IsSameLoad job.old job.new }
     ensures reads { IfOk result GoesReading }
-    ensures fault { IfErr result IsReadless }
     ensures there { IfOk result (λ r. (cells : Store) → EndsThere cells r) }
+    ensures fault { IfErr result IsDeviceless }
 {
     match object_of(v) {
         Some(o) => after_parent(job, live, name, o),
@@ -148,8 +148,8 @@ pub(crate) fn take_parent(
         → Takes r job.old (waitings.Parent name) answer told live.now job.new turn budget) }
     ensures same { IsSameLoad job.old job.new }
     ensures reads { IfOk result GoesReading }
-    ensures fault { IfErr result IsReadless }
     ensures there { IfOk result (λ r. (cells : Store) → IsAnswerThere cells answer → EndsThere cells r) }
+    ensures fault { IfErr result IsDeviceless }
 {
     match answer {
         Answer::Value(v) => parent_value(job, live, name, &v),

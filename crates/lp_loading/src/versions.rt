@@ -4,7 +4,7 @@ ghost use Rattle.std.specs.Str.{IsAscii};
 ghost use Rattle.lp_meaning.specs.WorldSteps.{file_of_name};
 ghost use Rattle.lp_world.specs.Closed.{IsClosed};
 ghost use Rattle.lp_targets.specs.Brought.{StaysInMemory};
-ghost use Rattle.lp_loading.specs.Causes.{IsReadless, StandsFor};
+ghost use Rattle.lp_loading.specs.Telling.{IsReadless, StandsFor};
 ghost use Rattle.lp_loading.specs.Versions.{MakesVersion};
 
 use crate::job::LoadFault;

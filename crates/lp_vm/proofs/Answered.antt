@@ -65,14 +65,14 @@ efun_has front a e c end scene what h =
     has_of front a (plainly (efun_in e (asker_of a) c a.arguments (state_of a))) (plain_end end) (means_efun a e c scene what) (plainly_ends front (efun_in e (asker_of a) c a.arguments (state_of a)) end h)
 
 -- who calls it
-scene_so : (caller : Caller) (programs : List RawProgram) (asker : Asker) (at : Place) (e : Efun) (a : Ask) (h : AsksEfun programs asker at e a) → caller.this ≡ at.this → caller.interactive ≡ asker.interactive → caller.callers.now ≡ asker.callers.items → IsScene caller h.scene
+pub scene_so : (caller : Caller) (programs : List RawProgram) (asker : Asker) (at : Place) (e : Efun) (a : Ask) (h : AsksEfun programs asker at e a) → caller.this ≡ at.this → caller.interactive ≡ asker.interactive → caller.callers.now ≡ asker.callers.items → IsScene caller h.scene
 scene_so caller programs asker at e a h t i c = record { this = h.runs.this ∙ sym t; interactive = h.interactive ∙ sym i; callers = h.callers ∙ ap reverse (sym c) }
 
 -- the state in which it is called
 abbrev pub setting : Option Bytes → List RawProgram → List Out → Setting
 setting told programs before = record { told = told; programs = programs; before = before }
 
-at_start : (told : Option Bytes) (programs : List RawProgram) (live : Live) (stack below : List Value) (asker : Asker) (args budget : ℕ) (a : Ask) → IsAsked told programs live stack below asker args budget a → At (setting told programs live.outputs) live asker.turn budget (state_of a)
+pub at_start : (told : Option Bytes) (programs : List RawProgram) (live : Live) (stack below : List Value) (asker : Asker) (args budget : ℕ) (a : Ask) → IsAsked told programs live stack below asker args budget a → At (setting told programs live.outputs) live asker.turn budget (state_of a)
 at_start told programs live stack below asker args budget a h = record { stands = h.world.stands; left = sym h.left; outputs = sym (append-nil live.outputs); player = h.by.player; commands = h.by.commands }
 
 -- its arguments lie on top
@@ -128,7 +128,7 @@ answer_outcome told programs before live0 live1 asker budget (answers.Thrown v) 
 answer_outcome told programs before live0 live1 asker budget answers.Spent w (Gives u t) h e = absurd e
 
 -- what is answered leaves no more of the budget
-serves_spends : (told0 told1 : Option Bytes) (live0 live1 : Live) (stack0 stack1 : List Value) (asker0 asker1 : Asker) (args budget0 budget1 : ℕ) (request : Request) (e : Ending)
+pub serves_spends : (told0 told1 : Option Bytes) (live0 live1 : Live) (stack0 stack1 : List Value) (asker0 asker1 : Asker) (args budget0 budget1 : ℕ) (request : Request) (e : Ending)
     → CanServe told0 live0 stack0 asker0 budget0 request args → Served request args told0 live0 stack0 asker0 budget0 told1 live1 stack1 asker1 budget1 e → budget1 ≤ budget0
 serves_spends told0 told1 live0 live1 stack0 stack1 asker0 asker1 args budget0 budget1 request e h served =
     let sv = served h.front h.real h.programs h.ask h.below h.asked h.is in

@@ -11,6 +11,7 @@ pub mod Turning
 pub mod Askings
 pub mod Reachings
 pub mod Answered
+pub mod Lookings
 pub mod Behind
 pub mod Workings
 pub mod Cycling

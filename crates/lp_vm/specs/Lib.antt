@@ -8,6 +8,7 @@ pub mod Working
 pub mod Cycle
 pub mod Laying
 pub mod Efuns
+pub mod Looking
 pub mod Beginning
 pub mod Turns
 pub mod Making

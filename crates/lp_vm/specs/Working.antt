@@ -1,5 +1,5 @@
 -- A job of an efun works for a course of the meaning.
-use Rattle.std.specs.Prelude.{◌≡◌, ◌++◌, ⊤, ℕ, List, Option, Some, None, IsAscii, codes, length, map, reverse}
+use Rattle.std.specs.Prelude.{◌≡◌, ◌++◌, ⊤, ℕ, List, Option, Some, None, codes, length, map, reverse}
 use Rattle.lp_values.specs.declared.id.ObjId.{ObjId}
 use Rattle.lp_values.specs.declared.value.Value.{Value}
 use Rattle.lp_code.specs.declared.program.RawProgram.{RawProgram}
@@ -55,12 +55,6 @@ pub record CanReach (this : ObjId) (question : Question) (told : Option Bytes) (
 abbrev pub FindsAsked : ObjId → Question → Option Bytes → Live → Option Bytes → Live → Option Reached → Type 0
 FindsAsked this question told0 live0 told1 live1 r =
     (programs : List RawProgram) (asker : Asker) (a : Ask) → IsAskedSo question asker this a → IsWorldOf told0 programs live0 a.world → ReachesIf told1 programs live1 asker a r
-
--- the name of a function that is asked for has a letter that is not of ASCII
-abbrev pub IsUnspelled : Question → Type 0
-IsUnspelled (questions.Other ob name) = IsAscii name → ⊥
-IsUnspelled (questions.CatchTell ob) = ⊥
-IsUnspelled (questions.Load name) = ⊥
 
 -- How it works
 

@@ -17,12 +17,13 @@ ghost use Rattle.lp_vm.specs.Making.{CanMake, Makes};
 ghost use Rattle.lp_vm.specs.Working.{CanWork};
 
 use crate::cloning::{begin_clone, clone_loaded, is_clone};
-use crate::efuns::{EfunBegun, begin_efun};
+use crate::efuns::EfunBegun;
 use crate::entering::{Started, close, start};
 use crate::fault::VmFault;
 use crate::halting::{Halted, go_back, run_to_halt};
 use crate::loaded::loaded_ending;
 use crate::loading::{answer_of, begin_load, feed_load, letters_of, pop_load, step_load, unpaid};
+use crate::looking::start_efun;
 use crate::making::{ask_next, feed_on};
 use crate::request::Request;
 use crate::working::{Stepped, feed_back, step_job};
@@ -148,7 +149,7 @@ fn call_efun<W: Truthful>(
     if is_clone(efun) {
         return call_clone(alloc, live, swap, stack, asker, at, args, budget);
     }
-    match begin_efun(live, stack, asker, at, efun, args, budget)? {
+    match start_efun(live, swap, stack, asker, at, efun, args, budget)? {
         EfunBegun::Answered(ending) => Ok(ending),
         EfunBegun::Works(job) => work(alloc, live, swap, stack, asker, at, job, budget),
     }

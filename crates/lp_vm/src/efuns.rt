@@ -56,7 +56,7 @@ pub fn ending_of(answer: Answer) -> Ending
 }
 
 /// So many values on top, the topmost last.
-fn topmost(stack: &Vec<Value>, n: u32) -> &[Value]
+pub(crate) fn topmost(stack: &Vec<Value>, n: u32) -> &[Value]
     requires { n ≤ length stack.now.items }
     ensures { result.now ≡ drop (length stack.now.items - n) stack.now.items }
 {

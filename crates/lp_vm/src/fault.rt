@@ -19,8 +19,7 @@ pub enum VmFault {
     /// The swap file failed, or gave bytes of another digest.
     #[error("the swap file did not give what was written")]
     Swap(SwapCause),
-    /// An efun was called that is not carried out yet; or a file cannot be loaded yet; or the name of a function that is called is
-    /// not of ASCII.
+    /// An efun was called that is not carried out yet; or a file cannot be loaded yet.
     #[error("not carried out yet")]
     NotYet,
 }

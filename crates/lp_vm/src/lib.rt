@@ -16,6 +16,7 @@ pub mod initialising;
 mod laying;
 mod loaded;
 mod loading;
+mod looking;
 mod making;
 mod naming;
 pub mod object_loading;

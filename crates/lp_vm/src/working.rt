@@ -1,5 +1,5 @@
 //! Jobs of efuns go on by one question after another.
-ghost use Rattle.std.specs.Prelude.{◌≡◌, IfErr, IfOk, IfSome, IsAscii, IsSome, OnOk};
+ghost use Rattle.std.specs.Prelude.{◌≡◌, IfErr, IfOk, IfSome, IsSome, OnOk};
 ghost use Rattle.lp_calling.specs.declared.job.Question.TheVariants as questions;
 ghost use Rattle.lp_calling.specs.Jobs.{IsAsking, IsJobOn, IsReady, object_of};
 ghost use Rattle.lp_step.specs.Steps.{IsFit, KeepsVariables};
@@ -9,7 +9,7 @@ ghost use Rattle.lp_asking.specs.Endings.{IsEndingThere};
 ghost use Rattle.lp_vm.specs.declared.fault.VmFault.TheVariants.{NoMemory, NotYet};
 ghost use Rattle.lp_vm.specs.Causes.{Tells, read_of};
 ghost use Rattle.lp_vm.specs.Jobs.{AsksFor, FedOn, Feeds, IsStepThere, StepsTo};
-ghost use Rattle.lp_vm.specs.Working.{CanReach, CanWork, IsUnspelled};
+ghost use Rattle.lp_vm.specs.Working.{CanReach, CanWork};
 
 use crate::asking::{reach_catch_tell, reach_other};
 use crate::efuns::ending_of;
@@ -69,7 +69,7 @@ fn ask_other<W: Truthful>(
     ensures home { KeepsVariables live.old.objects live.new.objects }
     ensures cells { live.new.cells ≡ live.old.cells }
     ensures outputs { live.new.outputs ≡ live.old.outputs }
-    ensures yet { IfErr result (λ f. f ≡ NotYet → IsAscii name.now → ⊥) }
+    ensures yet { IfErr result (λ f. f ≡ NotYet → ⊥) }
     ensures tells { Tells (W.content swap.new) (W.last swap.new) (W.read_faults swap.old) (W.read_faults swap.new) (W.write_faults swap.old) (W.write_faults swap.new)
         (W.is_truthful swap.old) (W.is_truthful swap.new) (W.is_honest swap.old) (W.is_honest swap.new) live.new (read_of result) }
 {
@@ -106,7 +106,7 @@ fn ask_catch_tell<W: Truthful>(
 /// the job's efun. What is needed for a function comes into memory.
 ///
 /// # Errors
-/// `NoMemory` and `Swap` as where a running function asks; `NotYet` where a name is not of ASCII.
+/// `NoMemory` and `Swap` as where a running function asks.
 fn ask<W: Truthful>(
     live: &mut Live,
     swap: &mut W,
@@ -123,7 +123,7 @@ fn ask<W: Truthful>(
     ensures home { KeepsVariables live.old.objects live.new.objects }
     ensures cells { live.new.cells ≡ live.old.cells }
     ensures outputs { live.new.outputs ≡ live.old.outputs }
-    ensures yet { IfErr result (λ f. f ≡ NotYet → IsUnspelled question) }
+    ensures yet { IfErr result (λ f. f ≡ NotYet → ⊥) }
     ensures tells { Tells (W.content swap.new) (W.last swap.new) (W.read_faults swap.old) (W.read_faults swap.new) (W.write_faults swap.old) (W.write_faults swap.new)
         (W.is_truthful swap.old) (W.is_truthful swap.new) (W.is_honest swap.old) (W.is_honest swap.new) live.new (read_of result) }
 {
@@ -137,7 +137,7 @@ fn ask<W: Truthful>(
 /// A job goes on until it asks or ends. The function at this place called its efun.
 ///
 /// # Errors
-/// `NoMemory`, `Swap` and `NotYet` as those of what it asks.
+/// `NoMemory`, and `Swap` as that of what it asks.
 pub fn step_job<W: Truthful>(
     live: &mut Live,
     swap: &mut W,
@@ -152,6 +152,7 @@ pub fn step_job<W: Truthful>(
     requires fit { IsFit live.old stack.old.items }
     requires can { CanWork at job.old (W.content swap.old) live.old stack.old.items asker.now budget.old }
     ensures steps { IfOk result (λ r. StepsTo r at job.old (W.content swap.old) live.old stack.old.items asker.now budget.old job.new (W.content swap.new) live.new stack.new.items budget.new) }
+    ensures yet { IfErr result (λ f. f ≡ NotYet → ⊥) }
     ensures tells { Tells (W.content swap.new) (W.last swap.new) (W.read_faults swap.old) (W.read_faults swap.new) (W.write_faults swap.old) (W.write_faults swap.new)
         (W.is_truthful swap.old) (W.is_truthful swap.new) (W.is_honest swap.old) (W.is_honest swap.new) live.new (read_of result) }
 {

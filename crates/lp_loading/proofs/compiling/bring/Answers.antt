@@ -1,11 +1,11 @@
 use Rattle.std.proofs.Common.{◌∙◌, subst, sym}
 use Rattle.lp_targets.specs.Brought.{Brings}
 use Rattle.lp_targets.proofs.Memory.{stays_same}
-use Rattle.lp_loading.specs.Causes.{brought_as}
+use Rattle.lp_loading.specs.Telling.{brought_as}
 use Rattle.lp_loading.specs.declared.job.LoadFault.TheVariants as faults
 use Rattle.lp_loading.proofs.Brought.{brought_still, entered_untaken, fault_brought, if_err, none_failed, readless_untaken}
 use Rattle.std.proofs.Common.{ap}
-use Rattle.lp_loading.specs.Causes.{IsUntaken}
+use Rattle.lp_loading.specs.Telling.{IsUntaken}
 use Rattle.lp_loading.proofs.compiling.bring.Goals as goal
 
 pub returns-then-not-has_version-clause-brings : goal.returns-then-not-has_version-clause-brings

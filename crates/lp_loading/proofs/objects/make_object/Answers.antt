@@ -6,10 +6,10 @@ use Rattle.lp_loading.specs.Going.{MakesAs}
 use Rattle.lp_loading.specs.Steps.{AsksAscii, AsksInOrder, MakesFor, MakesHome}
 use Rattle.lp_loading.proofs.ObjectsMade.{begun_ascii, begun_for, begun_home, begun_order, made_leads}
 use Rattle.lp_beginning.specs.Beginning.{BringsFirst}
-use Rattle.lp_loading.specs.Causes.{brought_as}
+use Rattle.lp_loading.specs.Telling.{brought_as}
 use Rattle.lp_loading.proofs.Brought.{refusal_brought, refusal_taken}
 use Rattle.lp_beginning.specs.Beginning.{IsRefusedFor}
-use Rattle.lp_loading.specs.Causes.{IsTakenFor}
+use Rattle.lp_loading.specs.Telling.{IsTakenFor}
 use Rattle.lp_loading.proofs.objects.make_object.Goals as goal
 
 pub returns-in-Ok-clause-makes : goal.returns-in-Ok-clause-makes

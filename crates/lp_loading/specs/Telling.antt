@@ -23,7 +23,15 @@ abbrev pub brought_by : {A : Type 0} → Result A LoadFault → Result (Unit {0}
 brought_by (Ok x) = Ok tt
 brought_by (Err e) = brought_as e
 
--- no device has a part in it, nor has a name that is taken
+-- no device has a part in it
+abbrev pub IsDeviceless : LoadFault → Type 0
+IsDeviceless (faults.Swap cause) = ⊥
+IsDeviceless faults.TooLarge = ⊤
+IsDeviceless faults.NameTaken = ⊤
+IsDeviceless faults.NotYet = ⊤
+IsDeviceless faults.NoMemory = ⊤
+
+-- nor has a name that is taken
 abbrev pub IsReadless : LoadFault → Type 0
 IsReadless (faults.Swap cause) = ⊥
 IsReadless faults.TooLarge = ⊤
