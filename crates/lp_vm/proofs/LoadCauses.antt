@@ -7,8 +7,7 @@ use Rattle.lp_beginning.specs.Beginning.{BringsFirst}
 use Rattle.lp_loading.specs.declared.job.LoadFault.{LoadFault}
 use Rattle.lp_loading.specs.declared.job.LoadFault.TheVariants as load_faults
 use Rattle.lp_loading.specs.Present.{HasWorld}
-use Rattle.lp_loading.specs.Causes as load_causes
-use Rattle.lp_loading.specs.Causes.{brought_as}
+use Rattle.lp_loading.specs.Telling.{IsDeviceless, brought_as}
 use Rattle.lp_vm.specs.declared.fault.VmFault.{VmFault}
 use Rattle.lp_vm.specs.declared.fault.VmFault.TheVariants as faults
 use Rattle.lp_vm.specs.Causes.{IsReadless, Tells, read_fault}
@@ -30,9 +29,9 @@ load_tells {live1 = live1} load_faults.NameTaken h stands = tells_readless (tell
 load_tells load_faults.NoMemory h stands = tells_fault_first enter_faults.NoMemory h stands
 
 -- where no device has a part in it, it is none of a read
-pub load_readless : (x : LoadFault) (e : VmFault) → load_causes.IsReadless x → e ≡ load_fault x → IsReadless e
+pub load_readless : (x : LoadFault) (e : VmFault) → IsDeviceless x → e ≡ load_fault x → IsReadless e
 load_readless (load_faults.Swap cause) e h is = absurd h
 load_readless load_faults.TooLarge e h is = ap read_fault is
 load_readless load_faults.NotYet e h is = ap read_fault is
-load_readless load_faults.NameTaken e h is = absurd h
+load_readless load_faults.NameTaken e h is = ap read_fault is
 load_readless load_faults.NoMemory e h is = ap read_fault is

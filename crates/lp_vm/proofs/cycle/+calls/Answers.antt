@@ -486,9 +486,17 @@ pub call_clone-load_clone-requires : goal.call_clone-load_clone-requires
 call_clone-load_clone-requires g t c =
     let begins : Begins (begun.Runs c.in-Runs.cloning) (g.W.SwapFile.content c.args.swap.now) c.args.live.now c.args.stack.now.items c.args.args c.args.budget.now c.begin_clone.new.live c.begin_clone.new.stack.items c.begin_clone.new.budget = subst (λ r. Begins r (g.W.SwapFile.content c.args.swap.now) c.args.live.now c.args.stack.now.items c.args.args c.args.budget.now c.begin_clone.new.live c.begin_clone.new.stack.items c.begin_clone.new.budget) c.in-Runs.is c.in_ok-ending.ensures.begins in
     let less = c.in_ok-ending.ensures.spends in
-    λ κs within. (omega (arith, less), (within, (c.in_ok-ending.ensures.fit,
-    subst (λ x. CanClone c.args.at x (g.W.SwapFile.content c.begin_clone.new.swap) c.begin_clone.new.live c.args.asker.now c.begin_clone.new.budget) c.in-Load.is
-    (subst (λ x. CanClone c.args.at c.in-Runs.cloning x c.begin_clone.new.live c.args.asker.now c.begin_clone.new.budget) (sym c.in_ok-ending.ensures.told) (clone_can c.args.at c.args.args (g.W.SwapFile.content c.args.swap.now) c.args.live.now c.begin_clone.new.live c.args.stack.now.items c.begin_clone.new.stack.items c.args.asker.now c.args.budget.now c.begin_clone.new.budget c.in-Runs.cloning begins c.requires.can)))))
+    λ κs within. (
+      omega (arith, less),
+      (
+        within,
+        (
+          c.in_ok-ending.ensures.fit,
+          subst (λ x. CanClone c.args.at x (g.W.SwapFile.content c.begin_clone.new.swap) c.begin_clone.new.live c.args.asker.now c.begin_clone.new.budget) c.in-Load.is
+              (subst (λ x. CanClone c.args.at c.in-Runs.cloning x c.begin_clone.new.live c.args.asker.now c.begin_clone.new.budget) (sym c.in_ok-ending.ensures.told) (clone_can c.args.at c.args.args (g.W.SwapFile.content c.args.swap.now) c.args.live.now c.begin_clone.new.live c.args.stack.now.items c.begin_clone.new.stack.items c.args.asker.now c.args.budget.now c.begin_clone.new.budget c.in-Runs.cloning begins c.requires.can)),
+        ),
+      ),
+    )
 
 pub call_clone-returns-in-Load-clause-answers : goal.call_clone-returns-in-Load-clause-answers
 call_clone-returns-in-Load-clause-answers g t c =
@@ -505,10 +513,21 @@ call_clone-make-requires g t c =
     let begins : Begins (begun.Runs c.in-Runs.cloning) (g.W.SwapFile.content c.args.swap.now) c.args.live.now c.args.stack.now.items c.args.args c.args.budget.now c.begin_clone.new.live c.begin_clone.new.stack.items c.begin_clone.new.budget = subst (λ r. Begins r (g.W.SwapFile.content c.args.swap.now) c.args.live.now c.args.stack.now.items c.args.args c.args.budget.now c.begin_clone.new.live c.begin_clone.new.stack.items c.begin_clone.new.budget) c.in-Runs.is c.in_ok-ending.ensures.begins in
     let home : IsSome (variables_at c.begin_clone.new.live.objects c.in-Make.making.object) = subst (IsHome c.begin_clone.new.live.objects) c.in-Make.is (subst (IsReady c.begin_clone.new.live.objects) c.in-Runs.is c.in_ok-ending.ensures.ready).1 in
     let less = c.in_ok-ending.ensures.spends in
-    λ κs within. (omega (arith, less), (within, (home, (c.in_ok-ending.ensures.fit,
-    clone_can_make c.args.at c.in-Make.making (g.W.SwapFile.content c.begin_clone.new.swap) c.begin_clone.new.live c.begin_clone.new.stack.items c.args.asker.now c.begin_clone.new.budget home
-    (subst (λ x. CanClone c.args.at x (g.W.SwapFile.content c.begin_clone.new.swap) c.begin_clone.new.live c.args.asker.now c.begin_clone.new.budget) c.in-Make.is
-    (subst (λ x. CanClone c.args.at c.in-Runs.cloning x c.begin_clone.new.live c.args.asker.now c.begin_clone.new.budget) (sym c.in_ok-ending.ensures.told) (clone_can c.args.at c.args.args (g.W.SwapFile.content c.args.swap.now) c.args.live.now c.begin_clone.new.live c.args.stack.now.items c.begin_clone.new.stack.items c.args.asker.now c.args.budget.now c.begin_clone.new.budget c.in-Runs.cloning begins c.requires.can)))))))
+    λ κs within. (
+      omega (arith, less),
+      (
+        within,
+        (
+          home,
+          (
+            c.in_ok-ending.ensures.fit,
+            clone_can_make c.args.at c.in-Make.making (g.W.SwapFile.content c.begin_clone.new.swap) c.begin_clone.new.live c.begin_clone.new.stack.items c.args.asker.now c.begin_clone.new.budget home
+                (subst (λ x. CanClone c.args.at x (g.W.SwapFile.content c.begin_clone.new.swap) c.begin_clone.new.live c.args.asker.now c.begin_clone.new.budget) c.in-Make.is
+                (subst (λ x. CanClone c.args.at c.in-Runs.cloning x c.begin_clone.new.live c.args.asker.now c.begin_clone.new.budget) (sym c.in_ok-ending.ensures.told) (clone_can c.args.at c.args.args (g.W.SwapFile.content c.args.swap.now) c.args.live.now c.begin_clone.new.live c.args.stack.now.items c.begin_clone.new.stack.items c.args.asker.now c.args.budget.now c.begin_clone.new.budget c.in-Runs.cloning begins c.requires.can))),
+          ),
+        ),
+      ),
+    )
 
 pub call_clone-returns-in_ok-ending-in-Make-clause-answers : goal.call_clone-returns-in_ok-ending-in-Make-clause-answers
 call_clone-returns-in_ok-ending-in-Make-clause-answers g t c =
@@ -552,9 +571,20 @@ load_clone-make-requires g t c =
     let fit : IsFit c.clone_loaded.new.live c.load.new.stack.items = record { closed = c.in_ok-ending-2.ensures.closed; there = subst (λ cells. All (IsThere cells) c.load.new.stack.items) (sym c.in_ok-ending-2.ensures.cells) loads.fit.there } in
     let home : IsSome (variables_at c.clone_loaded.new.live.objects c.in-Make.making.object) = subst (IsHome c.clone_loaded.new.live.objects) c.in-Make.is (subst (IsReady c.clone_loaded.new.live.objects) c.in-Runs.is c.in_ok-ending-2.ensures.ready).1 in
     let less = loads.spends in
-    λ κs within. (omega (arith, less), (within, (home, (fit,
-    clone_can_make c.args.at c.in-Make.making (g.W.SwapFile.content c.clone_loaded.new.swap) c.clone_loaded.new.live c.load.new.stack.items c.load.new.asker c.load.new.budget home
-    (subst (λ x. CanClone c.args.at (stages.Make c.in-Make.making) x c.clone_loaded.new.live c.load.new.asker c.load.new.budget) (sym c.in_ok-ending-2.ensures.told) (clone_load_can c.args.at c.args.name (g.W.SwapFile.content c.args.swap.now) c.args.live.now c.args.stack.now.items c.args.asker.now c.args.budget.now c.law_loads_through.ensures (g.W.SwapFile.content c.load.new.swap) c.load.new.live c.load.new.stack.items c.load.new.asker c.load.new.budget c.in_ok-answer.answer loads c.in-Make.making c.clone_loaded.new.live loaded c.requires.can))))))
+    λ κs within. (
+      omega (arith, less),
+      (
+        within,
+        (
+          home,
+          (
+            fit,
+            clone_can_make c.args.at c.in-Make.making (g.W.SwapFile.content c.clone_loaded.new.swap) c.clone_loaded.new.live c.load.new.stack.items c.load.new.asker c.load.new.budget home
+                (subst (λ x. CanClone c.args.at (stages.Make c.in-Make.making) x c.clone_loaded.new.live c.load.new.asker c.load.new.budget) (sym c.in_ok-ending-2.ensures.told) (clone_load_can c.args.at c.args.name (g.W.SwapFile.content c.args.swap.now) c.args.live.now c.args.stack.now.items c.args.asker.now c.args.budget.now c.law_loads_through.ensures (g.W.SwapFile.content c.load.new.swap) c.load.new.live c.load.new.stack.items c.load.new.asker c.load.new.budget c.in_ok-answer.answer loads c.in-Make.making c.clone_loaded.new.live loaded c.requires.can)),
+          ),
+        ),
+      ),
+    )
 
 pub load_clone-returns-in-Make-clause-clones : goal.load_clone-returns-in-Make-clause-clones
 load_clone-returns-in-Make-clause-clones g t c =
