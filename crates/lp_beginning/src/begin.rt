@@ -1,5 +1,5 @@
 //! An object is made.
-ghost use Rattle.std.specs.Prelude.{◌≡◌, IfErr, IfOk, IsSome, OnErr, OnOk, Option};
+ghost use Rattle.std.specs.Prelude.{◌≡◌, IfErr, IfOk, IsSome, List, OnErr, OnOk, Option};
 ghost use Rattle.std.specs.Str.{chars};
 ghost use Rattle.lp_step.specs.Steps.{KeepsVariables};
 ghost use Rattle.lp_swapfile.specs.Device.{Bytes};

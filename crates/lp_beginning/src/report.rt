@@ -1,11 +1,14 @@
 //! What the log tells of a stop.
-ghost use Rattle.std.specs.Prelude.{◌≡◌, ◌++◌, IfOk, IsSome, OnOk, Some, codes, option_map, slice_get};
+ghost use Rattle.std.specs.Prelude.{◌≡◌, ◌++◌, IfOk, IsSome, List, OnOk, Some, codes, option_map, slice_get};
 ghost use Rattle.std.specs.Str.{chars};
+ghost use Rattle.lp_code.specs.declared.program.RawProgram.{RawProgram as Raw};
 ghost use Rattle.lp_language.specs.Resolve.{without_c};
+ghost use Rattle.lp_language.specs.World.{World};
 ghost use Rattle.lp_meaning.specs.Askers.{cause_text};
 ghost use Rattle.lp_targets.specs.Brought.{Brings, program_at};
 ghost use Rattle.lp_values.specs.Errors.{without_newline};
 ghost use Rattle.lp_world.specs.Closed.{IsClosed};
+ghost use Rattle.lp_world.specs.Stands.{Stands};
 ghost use Rattle.lp_asking.specs.Endings.{cause_of};
 ghost use Rattle.lp_beginning.specs.Beginning.{StandsStill};
 ghost use Rattle.lp_beginning.specs.Reports.{IsFunctionName, IsObjectName, IsPlaceText, IsPlaceTextIf, IsProgramName, IsStopText, place_words};

@@ -59,7 +59,7 @@ use Rattle.lp_vm.specs.Going.{IsOutcome}
 use Rattle.lp_vm.specs.Growing.{Grows}
 use Rattle.lp_vm.specs.Loaded.{loaded_ending}
 use Rattle.lp_vm.specs.Loading.{CanLoad, LoadEnds, Loads, load_course}
-use Rattle.lp_vm.specs.Making.{AsksAt, CanMake, IsBehind, Makes}
+use Rattle.lp_vm.specs.Making.{AsksAt, CanMake, IsBehind, Makes, StandsForOne}
 use Rattle.lp_vm.specs.Requests.{AsksEfun}
 use Rattle.lp_vm.specs.Working.{WorkedTo}
 use Rattle.lp_vm.proofs.Answered.{efun_has}
@@ -288,6 +288,10 @@ module _ (at : Place) (name : String _) (told : Option Bytes) (live : Live) (sta
 
       through_it : (f : End Value) → Ends front (loaded_rest by (chars (string_bytes name)) value) f → Ends front (course_of (stages.Load name) by s) f
       through_it f h = through front (chars (string_bytes name)) by s value f loaded_ends h
+
+    -- the state stands for some world then
+    pub clone_load_stands : CanClone at (stages.Load name) told live asker budget → StandsForOne told1 live1
+    clone_load_stands h = let y = given h.front h.real h.programs h.before h.by h.state h.stands in (y.programs, (state_in y.end).world, y.at.at.stands)
 
     -- that ends it, ..
     pub clone_load_ends : (answer : Ending) (live2 : Live) → LoadedAs (begun.Ends answer) (chars (string_bytes name)) (loaded_ending (chars (string_bytes name)) r) told1 live1 live2 → KeepsVariables live1.objects live2.objects → IsFit live2 stack1 → IsEndingThere live2.cells answer

@@ -54,8 +54,7 @@ use Rattle.lp_vm.specs.Answering.{Answered, CanServe, IsAsked, IsSameAsker, Serv
 use Rattle.lp_vm.specs.Cycle.{Answers}
 use Rattle.lp_vm.specs.Going.{IsOutcome}
 use Rattle.lp_vm.specs.Growing.{Grows}
-use Rattle.lp_vm.specs.Making.{AsksAt}
-use Rattle.lp_vm.specs.Making.{CanAskNext, CanMake, CanReachFor, IsAskedFor, IsMaking, MakeAsks, MakeContinues, Makes, MakesOn, StandsForOne, object_for}
+use Rattle.lp_vm.specs.Making.{AsksAt, CanAskNext, CanMake, CanReachFor, IsAskedFor, IsMaking, MakeAsks, MakeContinues, Makes, MakesOn, StandsForOne, object_for}
 use Rattle.lp_vm.proofs.Answered.{setting}
 use Rattle.lp_vm.proofs.Carried.{some_at}
 use Rattle.lp_vm.proofs.Grown.{grows_same, grows_trans, outcome_grown}

@@ -20,8 +20,7 @@ use Rattle.lp_loading.specs.declared.job.Answer.TheVariants as answers
 use Rattle.lp_loading.specs.declared.job.Purpose.TheVariants as purposes
 use Rattle.lp_loading.specs.Going.{IsAnswerOf, IsAt, setting, state_in}
 use Rattle.lp_vm.specs.Loading.{CanLoad, LoadEnds, Loads, load_course}
-use Rattle.lp_vm.specs.Making.{IsBehind}
-use Rattle.lp_vm.specs.Making.{AsksAt}
+use Rattle.lp_vm.specs.Making.{AsksAt, IsBehind}
 use Rattle.lp_vm.specs.ObjectLoading.{CanLoadObject, IsLoadAnswer, IsLoadAsked, LoadIsMeant, LoadServes}
 
 -- an end of the load as an outcome
