@@ -1,0 +1,5 @@
+pub mod Carrying
+pub mod Turning
+pub mod Starting
+pub mod Knowing
+pub mod Driving
