@@ -1,0 +1,6 @@
+pub mod Telling
+pub mod Calls
+pub mod Turns
+pub mod Starts
+pub mod Rested
+pub mod Known

@@ -217,7 +217,8 @@ fn run_texts<W: Truthful>(
     'texts: loop {
         match step {
             StartStep::Asks(call, waiting) => {
-                step = ask_on(live, swap, stack, call, waiting)?;
+                let more = ask_on(live, swap, stack, call, waiting)?;
+                step = more;
             }
             StartStep::Begins => return Ok(Started::Begins),
             StartStep::NoMaster(faults) => return Ok(Started::NoMaster(faults)),
