@@ -1,5 +1,6 @@
 -- Calls of the driver that were carried out.
-use Rattle.std.proofs.Common.{◌≡◌, ◌∙◌, ◌+◌, ◌++◌, ◌∷◌, [], ℕ, eqb, true, List, Option, None, ap, refl, sym, subst, append-nil, append_assoc, length, map, reverse}
+use Rattle.std.proofs.Common.{◌≡◌, ◌∙◌, ◌+◌, ◌++◌, ◌∷◌, [], ℕ, eqb, true, arith, List, Option, None, ap, refl, sym, subst, append-nil, append_assoc, length, map, reverse}
+use Rattle.std.proofs.lemmas.Bool.{eqb-true}
 use Rattle.lp_values.specs.declared.id.ObjId.{ObjId}
 use Rattle.lp_values.specs.declared.value.Value.{Value}
 use Rattle.lp_code.specs.declared.program.RawProgram.{RawProgram}
@@ -120,4 +121,4 @@ empty_line o player xs told live front real programs before s h =
 
 pub no_line : (o : ObjId) (line : List ℕ) (player : Option ObjId) (xs : List Value) (told : Option Bytes) (live : Live) → eqb (length line) 0 ≡ true → CarriesOut (Command o line) player xs told live told live (call_ends.Ended (endings.Value zero_value))
 no_line o [] player xs told live e = empty_line o player xs told live
-no_line o (c ∷ cs) player xs told live e = absurd cc
+no_line o (c ∷ cs) player xs told live e = let z : length (c ∷ cs) ≡ 0 = eqb-true _ _ e in absurd (omega (arith, z))

@@ -43,6 +43,9 @@ known_more live m below here n lt objects h = by (below_or n m)
     by (inl a) = below n a objects h
     by (inr a) = let e : m ≡ n = omega (arith, lt, a) in subst (λ k. names.is_known live.names objects k ≡ true) e (here objects h)
 
+pub known_less : (live : Live) (m k : ℕ) → KnownBelow live m → k ≤ m → KnownBelow live k
+known_less live m k below le n lt objects h = below n (omega (arith, le, lt)) objects h
+
 -- each object of the world has its row
 rows_reach : (told : Option Bytes) (part whole : Store) (rows : List (Option Object)) (xs : List world.Object) (n : ℕ) → AreObjects told part whole rows xs → n < length xs → n < length rows
 rows_reach told part whole rows xs n h lt = by (slice_get rows n) refl (h n)

@@ -4,3 +4,4 @@ pub mod Turns
 pub mod Starts
 pub mod Rested
 pub mod Known
+pub mod Commands

@@ -1,6 +1,6 @@
 -- The driver at rest between its turns.
 use Rattle.std.proofs.Common.{◌≡◌, ◌∙◌, [], ℕ, List, Option, Result, Ok, Err, IfOk, refl, sym, subst, ap}
-use Rattle.std.specs.Prelude.{OnOk}
+use Rattle.std.specs.Prelude.{IfErr, OnOk}
 use Rattle.lp_code.specs.declared.program.RawProgram.{RawProgram}
 use Rattle.lp_events.specs.declared.event.Event.{Event}
 use Rattle.lp_events.specs.declared.out.Out.{Out}
@@ -95,3 +95,13 @@ no_master store seed moment (ends.NoMaster fs) (faults.NoMaster gs) told0 told1 
     let s : State = at_rest (new_world files seed moment) in
     let t = ended front real [] [] s (first_rests told0 live0 files seed moment (world told0 files has) empty) in
     record { at_end = t.state; ends = subst (λ x. Ends front (starting s) (Gives (NoMaster x.items) t.state)) (sym e) t.ends }
+
+-- what follows of each fault
+pub if_err : {A E : Type 0} {P Q : E → Type 0} (r : Result A E) → ((e : E) → P e → Q e) → IfErr r P → IfErr r Q
+if_err (Ok x) f h = tt
+if_err (Err e) f h = f e h
+
+pub on_started : (store : Store) (seed moment : ℕ) (end : Started) (told0 told1 : Option Bytes) (live0 live1 live2 : Live) (outs : List Out) → ThereIsOne → (files : List File) × HasFiles store files
+    → ((told : Option Bytes) (files : List File) → HasFiles store files → IsWorldOf told [] live0 (new_world files seed moment)) → live0.outputs ≡ [] → StartEnds starting told0 live0 told1 live1 end → end ≡ ends.Begins → outs ≡ live1.outputs → live2 ≡ record live1 { outputs = [] }
+    → (w : World) × IsAtRest told1 live2 w
+on_started store seed moment end told0 told1 live0 live1 live2 outs one h world empty ended begins o e = started_rest store seed moment told1 live2 outs one h (started store seed moment end told0 told1 live0 live1 live2 outs world empty ended begins o e)

@@ -59,3 +59,9 @@ abbrev pub IsNoMasterOf : Started → StartFault → Type 0
 IsNoMasterOf started.Begins e = ⊥
 IsNoMasterOf (started.NoMaster fs) (faults.NoMaster gs) = gs ≡ fs
 IsNoMasterOf (started.NoMaster fs) (faults.Stopped e) = ⊥
+
+-- the start began so: its outputs were taken
+pub record HasBegun (end : Started) (before live : Live) (outs : List Out) : Type 0 where
+  pub begins : end ≡ started.Begins
+  pub outs_are : outs ≡ before.outputs
+  pub only : live ≡ record before { outputs = [] }

@@ -1,4 +1,5 @@
 pub mod Carrying
+pub mod Commands
 pub mod Turning
 pub mod Starting
 pub mod Knowing

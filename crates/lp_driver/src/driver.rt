@@ -4,8 +4,7 @@ ghost use Rattle.lp_first.specs.First.{HasFiles};
 ghost use Rattle.lp_language.specs.World.{File, World};
 ghost use Rattle.lp_world.specs.Closed.{IsClosed};
 ghost use Rattle.lp_vm.specs.Causes.{Tells, read_of};
-ghost use Rattle.lp_driver.specs.Driving.{HasNoMasterIf, IsAtRest, IsNoMasterOf, StartsAs, TurnsAs};
-ghost use Rattle.lp_driver.specs.declared.starting.Started.TheVariants.{Begins};
+ghost use Rattle.lp_driver.specs.Driving.{HasBegun, HasNoMasterIf, IsAtRest, IsNoMasterOf, StartsAs, TurnsAs};
 
 use crate::events::carry_out;
 use crate::starting::{Started, run_start};
@@ -64,16 +63,18 @@ pub fn turn<W: Truthful>(live: &mut Live, swap: &mut W, event: &Event) -> Result
     Ok(take_outputs(live))
 }
 
-/// How a start ended, as its outputs or as a fault.
-fn started(live: &mut Live, end: Started) -> Result<Outs, StartFault>
-    requires closed { IsClosed live.old }
-    ensures begins { IfOk result (λ outs. (end ≡ Begins) × (outs ≡ live.old.outputs)) }
+/// How a start ended: with the live state and its outputs, or with a fault.
+fn finish(mut live: Live, end: Started) -> Result<(Live, Outs), StartFault>
+    requires closed { IsClosed live }
+    ensures begins { IfOk result (λ r. HasBegun end live r.0 r.1) }
     ensures none { IfErr result (IsNoMasterOf end) }
-    ensures only { OnOk result (live.new ≡ record live.old { outputs = [] }) }
-    ensures closed { IsClosed live.new }
+    ensures closed { IfOk result (λ r. IsClosed r.0) }
 {
     match end {
-        Started::Begins => Ok(take_outputs(live)),
+        Started::Begins => {
+            let outs = take_outputs(&mut live);
+            Ok((live, outs))
+        }
         Started::NoMaster(faults) => Err(StartFault::NoMaster { faults }),
     }
 }
@@ -103,10 +104,7 @@ pub fn start<W: Truthful>(
     let mut live = first_state(alloc, store, seed, moment);
     let mut stack = Vec::new(alloc);
     match run_start(&mut live, swap, &mut stack) {
-        Ok(end) => {
-            let outs = started(&mut live, end)?;
-            Ok((live, outs))
-        }
+        Ok(end) => finish(live, end),
         Err(fault) => Err(StartFault::Stopped(fault)),
     }
 }

@@ -11,3 +11,6 @@ returns-clause-ends g c =
     IfOk-weaker c.run_texts.result _ _
     (λ r h. start_ends c.in_ok-first.first c.in_ok-last.last r (g.W.SwapFile.content c.args.swap.now) (g.W.SwapFile.content c.run_stages.new.swap) (g.W.SwapFile.content c.run_texts.new.swap) c.args.live.now c.run_stages.new.live c.run_texts.new.live c.in_ok-first.ensures.begins c.in_ok-last.ensures.steps h)
     c.run_texts.ensures.ends
+
+pub run_stages-requires-clause-values : goal.run_stages-requires-clause-values
+run_stages-requires-clause-values g c = c.in_ok-first.ensures.there c.args.live.now.cells

@@ -7,15 +7,15 @@ use Rattle.lp_driver.proofs.starting.run_texts.Goals as goal
 pub texts-preserved : goal.texts-preserved
 texts-preserved g c =
     let i = c.texts.invariant in
-    let e = c.in_ok-more.ensures in
+    let e = c.in_ok-more-in-Asks.ensures in
     record {
       closed = e.closed;
       empty = e.empty;
       rests = e.rests;
-      last = last_still c.in_ok-more.more c.in-Asks.waiting (subst (λ s. IsLastStep s) c.in-Asks.is i.last) e.less;
+      last = last_still c.in_ok-more-in-Asks.more c.in-Asks.waiting (subst (λ s. IsLastStep s) c.in-Asks.is i.last) e.less;
       object = e.object;
       values = e.values;
-      continues = continues_on c.args.step c.in-Asks.call c.in-Asks.waiting c.in_ok-more.more (g.W.SwapFile.content c.args.swap.now) (g.W.SwapFile.content c.texts.swap) (g.W.SwapFile.content c.ask_on.new.swap) c.args.live.now c.texts.live c.ask_on.new.live
+      continues = continues_on c.args.step c.in-Asks.call c.in-Asks.waiting c.in_ok-more-in-Asks.more (g.W.SwapFile.content c.args.swap.now) (g.W.SwapFile.content c.texts.swap) (g.W.SwapFile.content c.ask_on.new.swap) c.args.live.now c.texts.live c.ask_on.new.live
           (subst (λ s. StartContinues c.args.step (g.W.SwapFile.content c.args.swap.now) c.args.live.now (g.W.SwapFile.content c.texts.swap) c.texts.live s) c.in-Asks.is i.continues) e.steps;
       tells = tells_more i.tells e.tells;
     }
