@@ -58,7 +58,7 @@ fn has_no_action(live: &Live, o: ObjId, line: &[char]) -> Result<bool, AllocErro
     ensures { IfOk result (λ b. IsTrue b → HasNoAction live.now o line.now) }
 {
     let found = live.actions.matching(o, verb_of(line))?;
-    Ok(found.is_empty())
+    Ok(found.as_slice().is_empty())
 }
 
 /// A connection is told that there is no such command.
