@@ -1,5 +1,5 @@
 -- Calls of the driver that were carried out.
-use Rattle.std.proofs.Common.{◌≡◌, ◌∙◌, ◌+◌, ◌++◌, ◌∷◌, [], ℕ, eqb, true, arith, List, Option, None, ap, refl, sym, subst, append-nil, append_assoc, length, map, reverse}
+use Rattle.std.proofs.Common.{◌≡◌, ◌∙◌, ◌+◌, ◌++◌, ◌∷◌, [], ℕ, eqb, true, arith, List, Option, None, ap, refl, sym, append-nil, append_assoc, length, map, reverse}
 use Rattle.std.proofs.lemmas.Bool.{eqb-true}
 use Rattle.lp_values.specs.declared.id.ObjId.{ObjId}
 use Rattle.lp_values.specs.declared.value.Value.{Value}

@@ -1,5 +1,5 @@
 -- Commands that no action does.
-use Rattle.std.proofs.Common.{◌≡◌, ◌∙◌, ◌++◌, ◌∷◌, [], ℕ, eqb, arith, Bool, true, false, List, Option, Some, None, refl, sym, subst, ap, append-nil, append_assoc, drop, find, length, map, nat_eq, option_map, if◌then◌else◌}
+use Rattle.std.proofs.Common.{◌≡◌, ◌∙◌, ◌++◌, ◌∷◌, [], ℕ, eqb, arith, Bool, true, false, List, Option, Some, None, refl, sym, subst, ap, append-nil, append_assoc, find, length, map, nat_eq, option_map, if◌then◌else◌}
 use Rattle.std.proofs.lemmas.Bool.{eqb-true}
 use Rattle.std.specs.Prelude.{codes}
 use Rattle.std.specs.Str.{chars}

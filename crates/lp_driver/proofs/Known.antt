@@ -1,15 +1,14 @@
 -- Objects that are known by their names.
-use Rattle.std.proofs.Common.{◌≡◌, ◌∙◌, ◌<◌, ◌⊎◌, ◌+◌, ◌≤◌, inl, inr, arith, ℕ, zero, suc, Bool, true, false, List, Option, Some, None, refl, sym, subst, ap, length, map, slice_get, option_map, if◌then◌else◌}
+use Rattle.std.proofs.Common.{◌≡◌, ◌<◌, ◌⊎◌, ◌+◌, ◌≤◌, inl, inr, arith, ℕ, zero, suc, Bool, true, false, List, Option, Some, None, refl, subst, length, map, slice_get, option_map, if◌then◌else◌}
 use Rattle.std.proofs.lemmas.List.{length-map}
 use Rattle.std.proofs.lemmas.Option.{slice_get-get_or, slice_get_within}
-use Rattle.lp_code.specs.declared.program.RawProgram.{RawProgram}
 use Rattle.lp_cells.specs.Cells.{Store}
 use Rattle.lp_objects.specs.Objects.{Named, object_at}
 use Rattle.lp_objects.specs.Stands as names
 use Rattle.lp_objects.specs.declared.objects.Objects.{Objects}
 use Rattle.lp_swapfile.specs.Device.{Bytes}
 use Rattle.lp_language.specs.World as world
-use Rattle.lp_language.specs.World.{World, no_object}
+use Rattle.lp_language.specs.World.{no_object}
 use Rattle.lp_world.specs.Stands.{AreObjects, ObjectIs, Stands, named_of}
 use Rattle.lp_world.specs.declared.live.Live.{Live}
 use Rattle.lp_world.specs.declared.objects.Object.{Object}

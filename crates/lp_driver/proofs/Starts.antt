@@ -1,5 +1,5 @@
 -- The start that goes on to its end.
-use Rattle.std.proofs.Common.{◌≡◌, ◌∙◌, ◌++◌, ◌∷◌, ◌+◌, ◌<◌, ◌≤◌, ◌⊎◌, arith, [], ℕ, zero, suc, eqb, false, List, Option, refl, sym, subst, inl, inr, Vec, Global}
+use Rattle.std.proofs.Common.{◌≡◌, ◌<◌, ◌≤◌, ◌⊎◌, arith, [], ℕ, zero, suc, eqb, false, List, Option, refl, sym, subst, inl, inr, Vec, Global}
 use Rattle.lp_tree.specs.declared.fault.Fault.{Fault}
 use Rattle.lp_code.specs.declared.program.RawProgram.{RawProgram}
 use Rattle.lp_events.specs.declared.out.Out.{Out}
@@ -15,7 +15,7 @@ use Rattle.lp_turn.specs.Calls.{question_of, state_behind}
 use Rattle.lp_turn.specs.Left.{AsksLess, LeavesNoMore, stages_behind, stages_left, texts_behind, texts_left}
 use Rattle.lp_turn.specs.Resting.{Rests}
 use Rattle.lp_turn.specs.Starting.{KnowsNames, StartGoes, StartTakes, StartsWith}
-use Rattle.lp_turn.specs.Starts.{start_going, start_waiting}
+use Rattle.lp_turn.specs.Starts.{start_waiting}
 use Rattle.lp_turn.specs.declared.job.Call.{Call}
 use Rattle.lp_turn.specs.declared.job.CallEnd.{CallEnd}
 use Rattle.lp_turn.specs.declared.start_job.StartGoing.{StartGoing}

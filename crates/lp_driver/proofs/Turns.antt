@@ -1,7 +1,5 @@
 -- Turns that go on to their ends.
-use Rattle.std.proofs.Common.{◌≡◌, ◌∙◌, ◌++◌, ◌∷◌, [], ℕ, List, Option, refl, sym, subst}
-use Rattle.lp_code.specs.declared.program.RawProgram.{RawProgram}
-use Rattle.lp_events.specs.declared.out.Out.{Out}
+use Rattle.std.proofs.Common.{◌∷◌, [], Option, refl, sym, subst}
 use Rattle.lp_swapfile.specs.Device.{Bytes}
 use Rattle.lp_language.specs.Course.{Ask, Asks, Course, End, Gives, Outcome, State, after}
 use Rattle.lp_meaning.specs.Closing.{Ends, Has}
@@ -10,7 +8,7 @@ use Rattle.lp_meaning.specs.FrontEnd.{FrontEnd}
 use Rattle.lp_meaning.specs.NothingLost.{OutcomesCanBe}
 use Rattle.lp_front_end.specs.FrontEnds.{ThereIsOne}
 use Rattle.lp_world.specs.declared.live.Live.{Live}
-use Rattle.lp_turn.specs.Calls.{IsAskedThere, question_of, state_behind}
+use Rattle.lp_turn.specs.Calls.{question_of, state_behind}
 use Rattle.lp_turn.specs.Going.{BeginsAs, BeginsWith, Takes}
 use Rattle.lp_turn.specs.Turns.{going_course, waiting_course}
 use Rattle.lp_turn.specs.declared.job.Call.{Call}

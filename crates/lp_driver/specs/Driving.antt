@@ -13,8 +13,6 @@ use Rattle.lp_meaning.specs.FrontEnd.{FrontEnd}
 use Rattle.lp_front_end.specs.FrontEnds.{IsFrontEnd}
 use Rattle.lp_targets.specs.Callees.{IsWorldOf}
 use Rattle.lp_world.specs.declared.live.Live.{Live}
-use Rattle.lp_vm.specs.declared.fault.VmFault.{VmFault}
-use Rattle.lp_vm.specs.declared.fault.VmFault.TheVariants as vm_faults
 use Rattle.lp_driver.specs.declared.driver.StartFault.{StartFault}
 use Rattle.lp_driver.specs.declared.starting.Started.{Started}
 use Rattle.lp_driver.specs.declared.starting.Started.TheVariants as started

@@ -10,6 +10,6 @@ mod commanding;
 pub mod driver;
 mod events;
 mod knowing;
-mod putting;
+pub mod putting;
 pub mod starting;
 mod turning;
