@@ -18,7 +18,7 @@ use Rattle.lp_world.specs.Stands.{Stands}
 use Rattle.lp_world.specs.declared.live.Live.{Live}
 use Rattle.lp_turn.specs.Resting.{Rests}
 use Rattle.lp_driver.specs.Carrying.{RestsForOne}
-use Rattle.lp_driver.specs.Driving.{HasNoMasterIf, IsAtRest, IsNoMasterOf, StartsAs, TurnsAs}
+use Rattle.lp_driver.specs.Driving.{HasNoMasterIf, IsAtRest, IsNoMasterOf, StartsAs, TurnsAs, start_answer}
 use Rattle.lp_driver.specs.Starting.{StartEnds, start_of}
 use Rattle.lp_driver.specs.declared.driver.StartFault.{StartFault}
 use Rattle.lp_driver.specs.declared.driver.StartFault.TheVariants as faults
@@ -105,3 +105,10 @@ pub on_started : (store : Store) (seed moment : ℕ) (end : Started) (told0 told
     → ((told : Option Bytes) (files : List File) → HasFiles store files → IsWorldOf told [] live0 (new_world files seed moment)) → live0.outputs ≡ [] → StartEnds starting told0 live0 told1 live1 end → end ≡ ends.Begins → outs ≡ live1.outputs → live2 ≡ record live1 { outputs = [] }
     → (w : World) × IsAtRest told1 live2 w
 on_started store seed moment end told0 told1 live0 live1 live2 outs one h world empty ended begins o e = started_rest store seed moment told1 live2 outs one h (started store seed moment end told0 told1 live0 live1 live2 outs world empty ended begins o e)
+
+-- where the start ended, no read is the cause
+pub finished_answer : {A : Type 0} (r : Result A StartFault) (end : Started) → IfErr r (IsNoMasterOf end) → start_answer r ≡ Ok tt
+finished_answer (Ok x) end h = refl
+finished_answer (Err (faults.NoMaster fs)) end h = refl
+finished_answer (Err (faults.Stopped f)) ends.Begins h = absurd h
+finished_answer (Err (faults.Stopped f)) (ends.NoMaster fs) h = absurd h

@@ -1,18 +1,20 @@
 -- The driver between its turns: what it does is the start and the turns of the written meaning.
-use Rattle.std.specs.Prelude.{◌≡◌, ⊤, [], List, Option, ℕ}
+use Rattle.std.specs.Prelude.{◌≡◌, ⊤, [], List, Option, Result, Ok, Err, ℕ}
 use Rattle.lp_tree.specs.declared.fault.Fault.{Fault}
 use Rattle.lp_code.specs.declared.program.RawProgram.{RawProgram}
 use Rattle.lp_events.specs.declared.event.Event.{Event}
 use Rattle.lp_events.specs.declared.out.Out.{Out}
 use Rattle.lp_files.specs.declared.store.Store.{Store}
 use Rattle.lp_first.specs.First.{HasFiles}
-use Rattle.lp_swapfile.specs.Device.{Bytes}
+use Rattle.lp_swapfile.specs.Device.{Bytes, Last}
 use Rattle.lp_language.specs.World.{File, World}
 use Rattle.lp_meaning.specs.Closing.{MakesNoMaster, Starts, Turns}
 use Rattle.lp_meaning.specs.FrontEnd.{FrontEnd}
 use Rattle.lp_front_end.specs.FrontEnds.{IsFrontEnd}
 use Rattle.lp_targets.specs.Callees.{IsWorldOf}
 use Rattle.lp_world.specs.declared.live.Live.{Live}
+use Rattle.lp_residence.specs.declared.answers.EnterFault.{EnterFault}
+use Rattle.lp_vm.specs.Causes.{Tells, read_fault}
 use Rattle.lp_driver.specs.declared.driver.StartFault.{StartFault}
 use Rattle.lp_driver.specs.declared.starting.Started.{Started}
 use Rattle.lp_driver.specs.declared.starting.Started.TheVariants as started
@@ -63,3 +65,13 @@ pub record HasBegun (end : Started) (before live : Live) (outs : List Out) : Typ
   pub begins : end ≡ started.Begins
   pub outs_are : outs ≡ before.outputs
   pub only : live ≡ record before { outputs = [] }
+
+-- what a start answered, as far as the reads go
+abbrev pub start_answer : {A : Type 0} → Result A StartFault → Result (Unit {0}) EnterFault
+start_answer (Ok x) = Ok tt
+start_answer (Err (faults.NoMaster fs)) = Ok tt
+start_answer (Err (faults.Stopped e)) = Err (read_fault e)
+
+-- WHAT THE DEVICE DID in a start, by some state to which that came
+abbrev pub StartTells : Option Bytes → Last → ℕ → ℕ → ℕ → ℕ → Type 0 → Type 0 → Type 0 → Type 0 → Result (Unit {0}) EnterFault → Type 0
+StartTells told last reads0 reads1 writes0 writes1 true0 true1 honest0 honest1 answer = (live : Live) × Tells told last reads0 reads1 writes0 writes1 true0 true1 honest0 honest1 live answer

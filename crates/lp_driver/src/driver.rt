@@ -4,7 +4,7 @@ ghost use Rattle.lp_first.specs.First.{HasFiles};
 ghost use Rattle.lp_language.specs.World.{File, World};
 ghost use Rattle.lp_world.specs.Closed.{IsClosed};
 ghost use Rattle.lp_vm.specs.Causes.{Tells, read_of};
-ghost use Rattle.lp_driver.specs.Driving.{HasBegun, HasNoMasterIf, IsAtRest, IsNoMasterOf, StartsAs, TurnsAs};
+ghost use Rattle.lp_driver.specs.Driving.{HasBegun, HasNoMasterIf, IsAtRest, IsNoMasterOf, StartTells, StartsAs, TurnsAs, start_answer};
 
 use crate::events::carry_out;
 use crate::starting::{Started, run_start};
@@ -99,6 +99,8 @@ pub fn start<W: Truthful>(
     ensures none { IfErr result (HasNoMasterIf store seed moment) }
     ensures closed { IfOk result (λ r. IsClosed r.0) }
     ensures rest { IfOk result (λ r. (w : World) × IsAtRest (W.content swap.new) r.0 w) }
+    ensures tells { StartTells (W.content swap.new) (W.last swap.new) (W.read_faults swap.old) (W.read_faults swap.new) (W.write_faults swap.old) (W.write_faults swap.new)
+        (W.is_truthful swap.old) (W.is_truthful swap.new) (W.is_honest swap.old) (W.is_honest swap.new) (start_answer result) }
 {
     law_there_is_one();
     let mut live = first_state(alloc, store, seed, moment);

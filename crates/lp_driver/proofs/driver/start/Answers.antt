@@ -1,5 +1,7 @@
+use Rattle.std.proofs.Common.{subst, sym}
 use Rattle.std.proofs.lemmas.Result.{IfOk-weaker}
-use Rattle.lp_driver.proofs.Rested.{first_for_one, if_err, no_master, on_started, started}
+use Rattle.lp_driver.specs.Driving.{StartTells}
+use Rattle.lp_driver.proofs.Rested.{finished_answer, first_for_one, if_err, no_master, on_started, started}
 use Rattle.lp_driver.proofs.driver.start.Goals as goal
 
 pub run_start-requires-clause-rests : goal.run_start-requires-clause-rests
@@ -21,3 +23,9 @@ returns-in-Ok-clause-rest g c =
     IfOk-weaker c.finish.result _ _
     (λ r b. on_started c.args.store c.args.seed c.args.moment c.in-Ok.end (g.W.SwapFile.content c.args.swap.now) (g.W.SwapFile.content c.run_start.new.swap) c.first_state-live.result c.run_start.new.live r.0 r.1 c.law_there_is_one.ensures c.requires.files c.first_state-live.ensures.world c.first_state-live.ensures.outputs c.in-Ok.ensures.ends
     b.begins b.outs_are b.only) c.finish.ensures.begins
+
+pub returns-in-Ok-clause-tells : goal.returns-in-Ok-clause-tells
+returns-in-Ok-clause-tells g c = subst (StartTells (g.W.SwapFile.content c.run_start.new.swap) (g.W.SwapFile.last c.run_start.new.swap) (g.W.SwapFile.read_faults c.args.swap.now) (g.W.SwapFile.read_faults c.run_start.new.swap) (g.W.SwapFile.write_faults c.args.swap.now) (g.W.SwapFile.write_faults c.run_start.new.swap) (g.W.SwapFile.is_truthful c.args.swap.now) (g.W.SwapFile.is_truthful c.run_start.new.swap) (g.W.SwapFile.is_honest c.args.swap.now) (g.W.SwapFile.is_honest c.run_start.new.swap)) (sym (finished_answer c.finish.result c.in-Ok.end c.finish.ensures.none)) (c.run_start.new.live, c.in-Ok.ensures.tells)
+
+pub returns-in-Err-clause-tells : goal.returns-in-Err-clause-tells
+returns-in-Err-clause-tells g c = (c.run_start.new.live, c.in-Err.ensures.tells)
