@@ -41,7 +41,7 @@ pub fn begin_expression(alloc: Global, role: Role, seen: Seen) -> Result<Moved, 
 }
 
 // What was read of the statement is on the stack, and a statement comes.
-fn opens(stack: &mut Stack, frame: Frame) -> Result<Moved, AllocError>
+pub(crate) fn opens(stack: &mut Stack, frame: Frame) -> Result<Moved, AllocError>
     ensures { Steps (Some (Need (Inside (frame_of frame) (stack_of stack.old)))) (stack_of stack.new) result }
 {
     stack.push(frame)?;
