@@ -144,8 +144,13 @@ fn end_frame(alloc: Global, frame: Frame, stmt: Stmt, is_else: bool) -> Result<E
     ensures { Ends is_else (stmt_of stmt) (frame_of frame) result }
 {
     if ends(&frame, is_else) {
-        let stmt = boxed(alloc, stmt)?;
-        return Ok(end_with(frame, stmt));
+        return match boxed(alloc, stmt) {
+            Ok(stmt) => Ok(end_with(frame, stmt)),
+            Err(error) => {
+                drop(frame);
+                Err(error)
+            }
+        };
     }
     Ok(Ended::Stays(frame, stmt))
 }
@@ -163,11 +168,16 @@ fn stays(stack: &mut Stack, frame: Frame, stmt: Stmt) -> Result<Settling, AllocE
     ensures stmt { IfOk result (λ n. n.stmt ≡ stmt) }
     ensures stack { OnOk result (stack_of stack.new ≡ Inside (frame_of frame) (stack_of stack.old)) }
 {
-    stack.push(frame)?;
-    Ok(Settling {
-        stmt,
-        is_last: true,
-    })
+    match stack.push(frame) {
+        Ok(()) => Ok(Settling {
+            stmt,
+            is_last: true,
+        }),
+        Err(error) => {
+            drop(stmt);
+            Err(error)
+        }
+    }
 }
 
 // A whole statement in an open one, which was taken from the stack.

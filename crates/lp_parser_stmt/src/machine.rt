@@ -205,6 +205,7 @@ fn end_stmt(stmt: Stmt, sort: Sort) -> Moved
     if is_mark(Mark::Semicolon, &sort) {
         return Moved::Goes(Focus::Have(stmt));
     }
+    drop(stmt);
     Moved::Refuses
 }
 
