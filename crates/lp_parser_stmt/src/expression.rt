@@ -146,6 +146,8 @@ fn after(
     if ends_by(mark, &role) {
         return used(alloc, stack, role, tree);
     }
+    drop(role);
+    drop(tree);
     Ok(Moved::Refuses)
 }
 
@@ -204,6 +206,7 @@ fn skips(stack: &mut Stack, part: Optional, is_end: bool) -> Result<Moved, Alloc
     if is_end {
         return filled(stack, part, None);
     }
+    drop(part);
     Ok(Moved::Refuses)
 }
 

@@ -24,8 +24,14 @@ pub(crate) fn more_of_switch(
     ensures { OnOk result (stack_of stack.new ≡ Inside (InSwitch (with_part (switching_of switching) (part_view part))) (stack_of stack.old)) }
 {
     let mut switching = switching;
-    switching.done.push(part)?;
-    stack.push(Frame::InSwitch(switching))
+    match switching.done.push(part) {
+        Ok(()) => stack.push(Frame::InSwitch(switching)),
+        Err(refused) => {
+            drop(refused);
+            drop(switching);
+            Err(AllocError)
+        }
+    }
 }
 
 // A label up to its colon, or with it.

@@ -63,8 +63,13 @@ fn begin_else(
 ) -> Result<Moved, AllocError>
     ensures { Steps (Some (Need (Inside (IfNo line (tree_of test) (stmt_of yes)) (stack_of stack.old)))) (stack_of stack.new) result }
 {
-    let yes = boxed(alloc, yes)?;
-    opens(stack, Frame::IfNo(line, test, yes))
+    match boxed(alloc, yes) {
+        Ok(yes) => opens(stack, Frame::IfNo(line, test, yes)),
+        Err(error) => {
+            drop(test);
+            Err(error)
+        }
+    }
 }
 
 // A token behind the first statement of an `if`.
