@@ -1,5 +1,5 @@
 -- The driver loads files and calls functions.
-use Rattle.std.proofs.Common.{◌≡◌, ◌∙◌, ◌++◌, ◌+◌, ℕ, arith, List, [], Option, Some, None, refl, ap, sym, subst, map, length}
+use Rattle.std.proofs.Common.{Result, Ok, Err, IfOk, OnOk, ◌≡◌, ◌∙◌, ◌++◌, ◌+◌, ℕ, arith, List, [], Option, Some, None, refl, ap, sym, subst, map, length}
 use Rattle.std.specs.Prelude.{reverse}
 use Rattle.lp_values.specs.declared.id.ObjId.{ObjId}
 use Rattle.lp_values.specs.declared.value.Value.{Value}
@@ -21,6 +21,11 @@ use Rattle.lp_vm.specs.Answering.{IsAsked, IsSameAsker}
 use Rattle.lp_vm.specs.Applying.{CallIsMeant, CanCall}
 use Rattle.lp_vm.specs.ObjectLoading.{CanLoadObject, IsLoadAsked, LoadIsMeant}
 use Rattle.lp_load_tests.specs.Playing.{HasWorld, IsDriver, IsPlayable, IsSet}
+
+-- what is known of an answer that is one
+pub if_ok : {A E : Type 0} (r : Result A E) (M : A → Type 0) (P Q R : Type 0) → ((x : A) → M x → P → Q → R) → IfOk r M → OnOk r P → OnOk r Q → OnOk r R
+if_ok (Ok x) M P Q R f m p q = f x m p q
+if_ok (Err e) M P Q R f m p q = tt
 
 -- what the driver asks
 abbrev pub asked_by : Asked → World → Asker → ℕ → Ask

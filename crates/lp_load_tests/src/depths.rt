@@ -8,8 +8,8 @@ use std::test::Fail;
 
 const CYCLES: [File; 6] = [
     ("/a.c", "inherit \"/b\";"),
-    ("/b.c", "int x;\n\ninherit \"/c\";"),
-    ("/c.c", "int y;\ninherit \"/ok\"; inherit \"/a\";"),
+    ("/b.c", "int f();\n\ninherit \"/c\";"),
+    ("/c.c", "int f();\ninherit \"/ok\"; inherit \"/a\";"),
     ("/s.c", "inherit \"s\";"),
     ("/ok.c", "int z;"),
     (
@@ -48,7 +48,7 @@ fn heirs(rt: &impl Abort, alloc: Global, last: u64) -> Result<Game, Fail> {
     let mut game = game_of(rt, alloc, &[])?;
     for n in 0..last {
         let path = format!(in alloc; "/n{n}.c")?;
-        let text = format!(in alloc; "int own{n}() {{ return {n}; }}\ninherit \"/n{}\";", n + 1)?;
+        let text = format!(in alloc; "int own{n}();\ninherit \"/n{}\";\nint own{n}() {{ return {n}; }}", n + 1)?;
         game = add(rt, game, path.as_str(), text.as_str())?;
     }
     let path = format!(in alloc; "/n{last}.c")?;

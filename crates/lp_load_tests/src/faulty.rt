@@ -5,7 +5,7 @@ use std::test::Fail;
 
 const FAULTS: [File; 7] = [
     ("/p.c", "int logon( {"),
-    ("/c.c", "int x;\ninherit \"/p\";"),
+    ("/c.c", "inherit \"/p\"; int x;"),
     ("/k.c", "inherit \"/none\";"),
     (
         "/t.c",

@@ -1,7 +1,8 @@
 //! Games: files of LPC that the driver loads and whose functions it calls.
-ghost use Rattle.std.specs.Prelude.{◌≡◌, IfOk, OnOk};
+ghost use Rattle.std.specs.Prelude.{IsSome, OnOk};
 ghost use Rattle.std.specs.Bool.{OnTrue};
 ghost use Rattle.std.specs.Str.{IsAscii};
+ghost use Rattle.lp_world.specs.Rows.{row_at};
 ghost use Rattle.lp_load_tests.specs.Playing.{IsDriver, IsPlayable, IsSet, told_by};
 
 use crate::device::TrueSwap;
@@ -320,16 +321,14 @@ fn call_in(
     ob: ObjId,
     name: &str,
     left: &mut u64,
-) -> Result<Ending, GameFault>
-    requires { IsPlayable (told_by swap.old) live.old asker.old }
+) -> Result<Ending, VmFault>
+    requires playable { IsPlayable (told_by swap.old) live.old asker.old }
+    requires object { IsSome (row_at live.old.objects ob.0) }
     ensures { OnOk result (IsPlayable (told_by swap.new) live.new asker.new) }
 {
     law_there_is_one();
-    if live.objects.get(ob).is_none() {
-        return Err(GameFault::Absent);
-    }
     let mut stack = Vec::new(live.alloc);
-    Ok(call(live.alloc, live, swap, &mut stack, asker, None, ob, name, 0, left)?)
+    call(live.alloc, live, swap, &mut stack, asker, None, ob, name, 0, left)
 }
 
 /// The live object with a name.
@@ -361,6 +360,9 @@ pub fn call_by_name(
     let mut swap = swap;
     let mut asker = asker;
     let mut left = budget;
+    if live.objects.get(ob).is_none() {
+        return Err(GameFault::Absent);
+    }
     let mut text = String::new(live.alloc);
     let ending = call_in(&mut live, &mut swap, &mut asker, ob, function, &mut left)?;
     say_ending(&mut live, &mut swap, &mut text, &ending)?;
