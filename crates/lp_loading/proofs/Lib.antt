@@ -11,6 +11,7 @@ pub mod SimulFirst
 pub mod ParentAsked
 pub mod FaultTexts
 pub mod Growth
+pub mod Brought
 pub mod FilesRead
 pub mod FirstLines
 pub mod ObjectsMade

@@ -49,7 +49,7 @@ reply_answers programs (endings.Value v) (Stops x s) h = absurd h
 reply_answers programs (endings.Stopped stop) (Gives r s) h = absurd h
 reply_answers programs (endings.Stopped stop) (Stops x s) h = h
 
-answer_there : (cells : Store) (ending : Ending) → IsEndingThere cells ending → IsAnswerThere cells (answer_of ending)
+pub answer_there : (cells : Store) (ending : Ending) → IsEndingThere cells ending → IsAnswerThere cells (answer_of ending)
 answer_there cells (endings.Value v) h = h
 answer_there cells (endings.Stopped stop) h = h
 

@@ -1,5 +1,5 @@
 -- How loads begin, go on, and take what was answered.
-use Rattle.std.specs.Prelude.{◌≡◌, ◌<◌, ◌≤◌, ⊤, ℕ, List, [], Option}
+use Rattle.std.specs.Prelude.{◌≡◌, ◌+◌, ◌<◌, ◌≤◌, ⊤, ℕ, List, [], Option}
 use Rattle.std.specs.Str.{IsAscii}
 use Rattle.lp_values.specs.declared.id.ProgId.{ProgId}
 use Rattle.lp_cells.specs.Cells.{IsThere, Store}
@@ -152,3 +152,8 @@ HasSpent name purpose a budget = (load_call a name (kind_of purpose) ≡ course.
 abbrev pub BeginsAs : Begun → List ℕ → Purpose → List Loading → Ask → ℕ → Type 0
 BeginsAs (begun.Runs job) name purpose loads a budget = HasBegun job name purpose loads a budget
 BeginsAs begun.Spent name purpose loads a budget = HasSpent name purpose a budget
+
+-- the price was paid, or nothing is left of the budget
+abbrev pub IsPaid : Begun → ℕ → ℕ → Type 0
+IsPaid (begun.Runs job) old new = old ≡ new + 1000
+IsPaid begun.Spent old new = new ≡ 0

@@ -10,5 +10,6 @@ pub mod Lines
 pub mod Growing
 pub mod Going
 pub mod Steps
+pub mod Telling
 pub mod Parents
 pub mod Faults

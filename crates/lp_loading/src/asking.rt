@@ -1,10 +1,11 @@
 //! A load asks for the load of the simul-efun object first, where that is missing.
-ghost use Rattle.std.specs.Prelude.{◌≡◌, IfOk, IfSome, List, Option, Some, ℕ};
+ghost use Rattle.std.specs.Prelude.{◌≡◌, IfErr, IfOk, IfSome, List, Option, Some, ℕ};
 ghost use Rattle.std.specs.Str.{IsAscii};
 ghost use Rattle.lp_asking.specs.declared.asker.Loading.{Loading as Loads};
 ghost use Rattle.lp_code.specs.declared.program.RawProgram.{RawProgram as Raw};
 ghost use Rattle.lp_language.specs.World.{World};
 ghost use Rattle.lp_efuns.specs.declared.caller.Turn.{Turn};
+ghost use Rattle.lp_loading.specs.Telling.{IsReadless};
 ghost use Rattle.lp_loading.specs.Going.{Goes};
 ghost use Rattle.lp_loading.specs.Parents.{AsksParent};
 ghost use Rattle.lp_loading.specs.Loads.{loads_of};
@@ -33,6 +34,7 @@ use std::alloc::{AllocError, Global};
 fn missing_named(live: &Live, loads: &[Loading], name: &[char]) -> Result<Option<Name>, LoadFault>
     ensures asked { IfOk result (λ o. (told : Option Bytes) (programs : List Raw) (w : World) → Stands told programs live.now w → o ≡ missing_if w name.now (loads_of loads.now)) }
     ensures ascii { IfOk result (λ o. IfSome o IsAscii) }
+    ensures readless { IfErr result IsReadless }
 {
     if is_under_way(name, loads) {
         return Ok(None);
@@ -50,6 +52,7 @@ fn missing_named(live: &Live, loads: &[Loading], name: &[char]) -> Result<Option
 pub(crate) fn simul_missing(live: &Live, loads: &[Loading]) -> Result<Option<Name>, LoadFault>
     ensures asked { IfOk result (λ o. (told : Option Bytes) (programs : List Raw) (w : World) → Stands told programs live.now w → o ≡ missing w (loads_of loads.now)) }
     ensures ascii { IfOk result (λ o. IfSome o IsAscii) }
+    ensures readless { IfErr result IsReadless }
 {
     match &live.simul {
         Some(name) => missing_named(live, loads, name.as_slice()),

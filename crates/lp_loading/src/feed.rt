@@ -1,10 +1,11 @@
 //! Loads are told how a load that they asked for ended.
-ghost use Rattle.std.specs.Prelude.{IfOk, Option, ℕ};
+ghost use Rattle.std.specs.Prelude.{IfErr, IfOk, Option, ℕ};
 ghost use Rattle.std.specs.Str.{IsAscii};
 ghost use Rattle.lp_cells.specs.Cells.{Store};
 ghost use Rattle.lp_efuns.specs.declared.caller.Turn.{Turn};
 ghost use Rattle.lp_loading.specs.Going.{IsAnswerThere, Takes};
 ghost use Rattle.lp_loading.specs.Steps.{EndsThere, GoesReading, IsSameLoad};
+ghost use Rattle.lp_loading.specs.Telling.{IsDeviceless};
 ghost use Rattle.lp_swapfile.specs.Device.{Bytes};
 
 use crate::job::{Answer, Fed, LoadFault, LoadJob, Waiting};
@@ -29,6 +30,7 @@ pub fn feed(
     ensures same { IsSameLoad job.old job.new }
     ensures reads { IfOk result GoesReading }
     ensures there { IfOk result (λ r. (cells : Store) → IsAnswerThere cells answer → EndsThere cells r) }
+    ensures fault { IfErr result IsDeviceless }
 {
     match waiting {
         Waiting::Simul => Ok(take_simul(job, live, answer)),

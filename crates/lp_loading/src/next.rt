@@ -1,8 +1,10 @@
 //! What a load does next.
-ghost use Rattle.std.specs.Prelude.{◌≡◌, IfOk, List, Option, ℕ};
+ghost use Rattle.std.specs.Prelude.{◌≡◌, IfErr, IfOk, List, Option, ℕ};
 ghost use Rattle.std.specs.Str.{IsAscii};
 ghost use Rattle.lp_asking.specs.declared.asker.Loading.{Loading as Loads};
 ghost use Rattle.lp_efuns.specs.declared.caller.Turn.{Turn};
+ghost use Rattle.lp_beginning.specs.Beginning.{BringsFirst};
+ghost use Rattle.lp_loading.specs.Telling.{IsTakenIn, brought_by};
 ghost use Rattle.lp_loading.specs.Going.{Goes};
 ghost use Rattle.lp_loading.specs.Present.{HasWorld};
 ghost use Rattle.lp_loading.specs.Reads.{HasRead};
@@ -45,6 +47,9 @@ fn make_both<W: Truthful>(
     ensures closed { IsClosed live.new }
     ensures cells { live.new.cells ≡ live.old.cells }
     ensures variables { KeepsVariables live.old.objects live.new.objects }
+    ensures brings { BringsFirst (W.content swap.old) (W.content swap.new) (W.last swap.new) (W.read_faults swap.old) (W.read_faults swap.new) (W.write_faults swap.old) (W.write_faults swap.new)
+        (W.is_truthful swap.old) (W.is_truthful swap.new) (W.is_honest swap.old) (W.is_honest swap.new) live.old live.new (brought_by result) }
+    ensures taken { IfErr result (IsTakenIn (W.content swap.old) live.old job.now.name) }
 {
     law_sound_goes_on();
     match make_version(live, job.name.as_str(), program) {
@@ -72,6 +77,9 @@ fn go_on<W: Truthful>(
     ensures closed { IsClosed live.new }
     ensures cells { live.new.cells ≡ live.old.cells }
     ensures variables { KeepsVariables live.old.objects live.new.objects }
+    ensures brings { BringsFirst (W.content swap.old) (W.content swap.new) (W.last swap.new) (W.read_faults swap.old) (W.read_faults swap.new) (W.write_faults swap.old) (W.write_faults swap.new)
+        (W.is_truthful swap.old) (W.is_truthful swap.new) (W.is_honest swap.old) (W.is_honest swap.new) live.old live.new (brought_by result) }
+    ensures taken { IfErr result (IsTakenIn (W.content swap.old) live.old job.now.name) }
 {
     match read {
         Compiled::Made(program) => make_both(live, swap, job, program),
@@ -98,6 +106,9 @@ fn read_on<W: Truthful>(
     ensures closed { IsClosed live.new }
     ensures cells { live.new.cells ≡ live.old.cells }
     ensures variables { KeepsVariables live.old.objects live.new.objects }
+    ensures brings { BringsFirst (W.content swap.old) (W.content swap.new) (W.last swap.new) (W.read_faults swap.old) (W.read_faults swap.new) (W.write_faults swap.old) (W.write_faults swap.new)
+        (W.is_truthful swap.old) (W.is_truthful swap.new) (W.is_honest swap.old) (W.is_honest swap.new) live.old live.new (brought_by result) }
+    ensures taken { IfErr result (IsTakenIn (W.content swap.old) live.old job.now.name) }
 {
     match compile_own(job, live, swap, loads) {
         Ok(read) => go_on(live, swap, job, loads, read),
@@ -123,6 +134,9 @@ fn begin_on<W: Truthful>(
     ensures closed { IsClosed live.new }
     ensures cells { live.new.cells ≡ live.old.cells }
     ensures variables { KeepsVariables live.old.objects live.new.objects }
+    ensures brings { BringsFirst (W.content swap.old) (W.content swap.new) (W.last swap.new) (W.read_faults swap.old) (W.read_faults swap.new) (W.write_faults swap.old) (W.write_faults swap.new)
+        (W.is_truthful swap.old) (W.is_truthful swap.new) (W.is_honest swap.old) (W.is_honest swap.new) live.old live.new (brought_by result) }
+    ensures taken { IfErr result (IsTakenIn (W.content swap.old) live.old job.now.name) }
 {
     let missing = simul_missing(live, loads)?;
     match missing {
@@ -161,6 +175,9 @@ pub fn next<W: Truthful>(
     ensures closed { IsClosed live.new }
     ensures cells { live.new.cells ≡ live.old.cells }
     ensures variables { KeepsVariables live.old.objects live.new.objects }
+    ensures brings { BringsFirst (W.content swap.old) (W.content swap.new) (W.last swap.new) (W.read_faults swap.old) (W.read_faults swap.new) (W.write_faults swap.old) (W.write_faults swap.new)
+        (W.is_truthful swap.old) (W.is_truthful swap.new) (W.is_honest swap.old) (W.is_honest swap.new) live.old live.new (brought_by result) }
+    ensures taken { IfErr result (IsTakenIn (W.content swap.old) live.old job.now.name) }
 {
     match going {
         Going::Simul => begin_on(live, swap, job, loads),

@@ -1,10 +1,14 @@
 //! An object is made for a load, which hands it over to a job of its own.
-ghost use Rattle.std.specs.Prelude.{◌≡◌, IfOk, List};
+ghost use Rattle.std.specs.Prelude.{◌≡◌, IfErr, IfOk, List};
 ghost use Rattle.std.specs.Str.{IsAscii};
 ghost use Rattle.lp_code.specs.declared.program.RawProgram.{RawProgram as Raw};
 ghost use Rattle.lp_language.specs.Course.{End, Reply};
+ghost use Rattle.lp_asking.specs.Endings.{IsEndingThere};
 ghost use Rattle.lp_beginning.specs.Ends.{IsReplyEnd};
-ghost use Rattle.lp_loading.specs.Going.{IsAnswerOf, MakesAs};
+ghost use Rattle.lp_cells.specs.Cells.{Store};
+ghost use Rattle.lp_beginning.specs.Beginning.{BringsFirst};
+ghost use Rattle.lp_loading.specs.Telling.{IsTakenFor, brought_by};
+ghost use Rattle.lp_loading.specs.Going.{IsAnswerOf, IsAnswerThere, MakesAs};
 ghost use Rattle.lp_loading.specs.Steps.{AsksAscii, AsksInOrder, MakesFor, MakesHome, answer_of as answer_meant, fault_of as fault_meant, making_kind as kind_meant, step_of as step_meant};
 ghost use Rattle.lp_loading.specs.declared.job.Going.{Going as Stage};
 ghost use Rattle.lp_step.specs.Steps.{KeepsVariables};
@@ -33,6 +37,7 @@ fn making_kind(purpose: Purpose) -> LoadKind
 pub fn answer_of(ending: Ending) -> Answer
     ensures is { result ≡ answer_meant ending }
     ensures same { (programs : List Raw) (e : End Reply) → IsReplyEnd programs ending e → IsAnswerOf programs result e }
+    ensures there { (cells : Store) → IsEndingThere cells ending → IsAnswerThere cells result }
 {
     match ending {
         Ending::Value(v) => Answer::Value(v),
@@ -82,6 +87,9 @@ pub(crate) fn make_object<W: Truthful>(
     ensures closed { IsClosed live.new }
     ensures cells { live.new.cells ≡ live.old.cells }
     ensures variables { KeepsVariables live.old.objects live.new.objects }
+    ensures brings { BringsFirst (W.content swap.old) (W.content swap.new) (W.last swap.new) (W.read_faults swap.old) (W.read_faults swap.new) (W.write_faults swap.old) (W.write_faults swap.new)
+        (W.is_truthful swap.old) (W.is_truthful swap.new) (W.is_honest swap.old) (W.is_honest swap.new) live.old live.new (brought_by result) }
+    ensures taken { IfErr result (IsTakenFor (W.content swap.old) live.old job.now.name) }
 {
     match begin(
         live,

@@ -1,10 +1,12 @@
 //! The file of a load is read: its faults end the load, or a parent that is missing is asked for.
-ghost use Rattle.std.specs.Prelude.{◌≡◌, IfOk, List, Option, false, nat_lt, suc, ℕ};
+ghost use Rattle.std.specs.Prelude.{◌≡◌, IfErr, IfOk, List, Option, false, nat_lt, suc, ℕ};
 ghost use Rattle.std.specs.Str.{IsAscii};
 ghost use Rattle.std.specs.String.{string_bytes};
 ghost use Rattle.lp_asking.specs.declared.asker.Loading.{Loading as Loads};
 ghost use Rattle.lp_efuns.specs.declared.caller.Turn.{Turn};
 ghost use Rattle.lp_front_end.specs.Parents.{file_bytes};
+ghost use Rattle.lp_beginning.specs.Beginning.{StandsStill};
+ghost use Rattle.lp_loading.specs.Telling.{IsReadless, IsUntaken, brought_by};
 ghost use Rattle.lp_loading.specs.Going.{Goes};
 ghost use Rattle.lp_loading.specs.Present.{HasWorld};
 ghost use Rattle.lp_loading.specs.Reads.{HasRead};
@@ -16,6 +18,7 @@ ghost use Rattle.lp_loading.specs.Loads.{loads_of};
 ghost use Rattle.lp_meaning.specs.FileLoads.{is_under_way as under_way};
 ghost use Rattle.lp_meaning.specs.Limits.{max_nested};
 ghost use Rattle.lp_swapfile.specs.Device.{Bytes};
+ghost use Rattle.lp_targets.specs.Brought.{Brings};
 ghost use Rattle.lp_world.specs.Closed.{IsClosed};
 ghost use Rattle.lp_world.specs.declared.live.Live.{Live as L};
 
@@ -62,6 +65,10 @@ pub(crate) fn compile_own<W: Truthful>(
     ensures closed { IsClosed live.new }
     ensures objects { live.new.objects ≡ live.old.objects }
     ensures cells { live.new.cells ≡ live.old.cells }
+    ensures brings { Brings (W.content swap.old) (W.content swap.new) (W.last swap.new) (W.read_faults swap.old) (W.read_faults swap.new) (W.write_faults swap.old) (W.write_faults swap.new)
+        (W.is_truthful swap.old) (W.is_truthful swap.new) (W.is_honest swap.old) (W.is_honest swap.new) live.old live.new (brought_by result) }
+    ensures untaken { IfErr result IsUntaken }
+    ensures stands { W.is_truthful swap.new → StandsStill (W.content swap.old) live.old (W.content swap.new) live.new }
 {
     let simuls = simul_names(live, swap, loads)?;
     let path = file_of(live.alloc, job.name.as_str())?;
@@ -75,6 +82,7 @@ pub(crate) fn tell_faults(live: &mut Live, faults: Vec<Fault>) -> Result<Step, L
     ensures goes { IfOk result (λ r. (job : Job) (loads : List Loads) (told0 : Option Bytes) (live0 : L) (told1 : Option Bytes) (budget : ℕ) (turn : Turn) → HasRead (compiled.Faulty faults) job loads told0 live0 told1 live.old
         → Goes r job stages.Read loads told0 live0 budget told1 live.new budget turn) }
     ensures asks { IfOk result AsksOrFails }
+    ensures readless { IfErr result IsReadless }
     ensures closed { IsClosed live.new }
     ensures objects { live.new.objects ≡ live.old.objects }
     ensures cells { live.new.cells ≡ live.old.cells }
@@ -90,6 +98,7 @@ pub(crate) fn tell_faults(live: &mut Live, faults: Vec<Fault>) -> Result<Step, L
 pub(crate) fn parent_name(alloc: Global, file: &str) -> Result<Name, LoadFault>
     ensures file { IfOk result (λ n. file.now ≡ file_bytes n) }
     ensures ascii { IfOk result (λ n. IsAscii n) }
+    ensures readless { IfErr result IsReadless }
 {
     if !is_ascii(file) {
         return Err(LoadFault::NotYet);

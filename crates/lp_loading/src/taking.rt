@@ -1,5 +1,5 @@
 //! A load takes the answer of a load that it asked for: that of the simul-efun object, or of a parent.
-ghost use Rattle.std.specs.Prelude.{◌≡◌, IfOk, List, None, Option, Some, ℕ};
+ghost use Rattle.std.specs.Prelude.{◌≡◌, IfErr, IfOk, List, None, Option, Some, ℕ};
 ghost use Rattle.std.specs.Str.{IsAscii};
 ghost use Rattle.lp_code.specs.declared.program.RawProgram.{RawProgram as Raw};
 ghost use Rattle.lp_efuns.specs.declared.caller.Turn.{Turn};
@@ -7,6 +7,7 @@ ghost use Rattle.lp_language.specs.World.{World, object_named};
 ghost use Rattle.lp_cells.specs.Cells.{Store};
 ghost use Rattle.lp_loading.specs.Going.{IsAnswerThere, Takes};
 ghost use Rattle.lp_loading.specs.Steps.{EndsThere, GoesReading, IsSameLoad};
+ghost use Rattle.lp_loading.specs.Telling.{IsDeviceless};
 ghost use Rattle.lp_meaning.specs.FileLoads.{object_of_value};
 ghost use Rattle.lp_loading.specs.declared.job.Answer.TheVariants as answers;
 ghost use Rattle.lp_loading.specs.declared.job.Waiting.TheVariants as waitings;
@@ -89,6 +90,7 @@ fn note_parent(job: &mut LoadJob, live: &Live, name: Name, ob: ObjId) -> Result<
     ensures same { IsSameLoad job.old job.new }
     ensures reads { IfOk result GoesReading }
     ensures there { IfOk result (λ r. (cells : Store) → EndsThere cells r) }
+    ensures fault { IfErr result IsDeviceless }
 {
     match version_of_object(&live.objects, ob) {
         Some(version) => {
@@ -107,6 +109,7 @@ fn after_parent(job: &mut LoadJob, live: &Live, name: Name, ob: ObjId) -> Result
     ensures same { IsSameLoad job.old job.new }
     ensures reads { IfOk result GoesReading }
     ensures there { IfOk result (λ r. (cells : Store) → EndsThere cells r) }
+    ensures fault { IfErr result IsDeviceless }
 {
     match own_object(job, live) {
         Some(o) => Ok(Fed::Ends(Answer::Value(Value::Obj(o)))),
@@ -122,6 +125,7 @@ fn parent_value(job: &mut LoadJob, live: &Live, name: Name, v: &Value) -> Result
     ensures same { IsSameLoad job.old job.new }
     ensures reads { IfOk result GoesReading }
     ensures there { IfOk result (λ r. (cells : Store) → EndsThere cells r) }
+    ensures fault { IfErr result IsDeviceless }
 {
     match object_of(v) {
         Some(o) => after_parent(job, live, name, o),
@@ -145,6 +149,7 @@ pub(crate) fn take_parent(
     ensures same { IsSameLoad job.old job.new }
     ensures reads { IfOk result GoesReading }
     ensures there { IfOk result (λ r. (cells : Store) → IsAnswerThere cells answer → EndsThere cells r) }
+    ensures fault { IfErr result IsDeviceless }
 {
     match answer {
         Answer::Value(v) => parent_value(job, live, name, &v),

@@ -6,6 +6,7 @@ use Rattle.lp_loading.specs.declared.job.Going.TheVariants as goings
 use Rattle.lp_loading.proofs.NextSteps.{order_first}
 use Rattle.lp_loading.proofs.SeenNames.{if_ok}
 use Rattle.lp_loading.proofs.SimulFirst.{read_goes_first}
+use Rattle.lp_loading.proofs.Brought.{first_none, first_nothing, if_err, readless_in, readless_on}
 use Rattle.lp_loading.proofs.next.begin_on.Goals as goal
 
 pub returns-in-Some-clause-goes : goal.returns-in-Some-clause-goes
@@ -34,3 +35,13 @@ returns-in-None-clause-goes g c =
 
 pub returns-in-None-clause-order : goal.returns-in-None-clause-order
 returns-in-None-clause-order g c = if_ok c.read_on.result _ _ order_first c.read_on.ensures.order
+
+pub returns-in_err-missing-clause-brings : goal.returns-in_err-missing-clause-brings
+returns-in_err-missing-clause-brings g c = first_nothing (g.W.SwapFile.content c.args.swap.now) (g.W.SwapFile.last c.args.swap.now) (g.W.SwapFile.read_faults c.args.swap.now) (g.W.SwapFile.write_faults c.args.swap.now) (g.W.SwapFile.is_truthful c.args.swap.now) (g.W.SwapFile.is_honest c.args.swap.now) c.args.live.now c.args.live.now c.from_residual.result (readless_on c.from_residual.result c.in_err-missing.field-0.0 c.from_residual.ensures.1 c.in_err-missing.ensures.readless)
+
+pub returns-in-Some-clause-brings : goal.returns-in-Some-clause-brings
+returns-in-Some-clause-brings g c = first_none (g.W.SwapFile.content c.args.swap.now) (g.W.SwapFile.last c.args.swap.now) (g.W.SwapFile.read_faults c.args.swap.now) (g.W.SwapFile.write_faults c.args.swap.now) (g.W.SwapFile.is_truthful c.args.swap.now) (g.W.SwapFile.is_honest c.args.swap.now) c.args.live.now c.args.live.now
+
+pub returns-in_err-missing-clause-taken : goal.returns-in_err-missing-clause-taken
+returns-in_err-missing-clause-taken g c =
+    if_err c.from_residual.result _ _ (readless_in (g.W.SwapFile.content c.args.swap.now) c.args.live.now c.args.job.now.name) (readless_on c.from_residual.result c.in_err-missing.field-0.0 c.from_residual.ensures.1 c.in_err-missing.ensures.readless)

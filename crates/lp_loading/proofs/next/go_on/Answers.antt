@@ -4,6 +4,7 @@ use Rattle.lp_loading.specs.declared.compiling.Compiled.TheVariants as compiled
 use Rattle.lp_loading.specs.declared.job.Going.TheVariants as goings
 use Rattle.lp_loading.proofs.NextSteps.{fails_ascii, fails_for, fails_home, fails_order, home_same}
 use Rattle.lp_loading.proofs.SeenNames.{if_ok}
+use Rattle.lp_loading.proofs.Brought.{first_nothing, if_err, readless_in}
 use Rattle.lp_loading.proofs.next.go_on.Goals as goal
 
 pub returns-in-Made-clause-goes : goal.returns-in-Made-clause-goes
@@ -60,3 +61,15 @@ returns-in-Missing-clause-kind g c = if_ok c.go_missing.result _ _ (fails_for c.
 
 pub returns-in-Missing-clause-variables : goal.returns-in-Missing-clause-variables
 returns-in-Missing-clause-variables g c = home_same c.args.live.now.objects c.go_missing.new.live.objects c.go_missing.ensures.objects
+
+pub returns-in-Faulty-clause-brings : goal.returns-in-Faulty-clause-brings
+returns-in-Faulty-clause-brings g c = first_nothing (g.W.SwapFile.content c.args.swap.now) (g.W.SwapFile.last c.args.swap.now) (g.W.SwapFile.read_faults c.args.swap.now) (g.W.SwapFile.write_faults c.args.swap.now) (g.W.SwapFile.is_truthful c.args.swap.now) (g.W.SwapFile.is_honest c.args.swap.now) c.args.live.now c.tell_faults.new.live c.tell_faults.result c.tell_faults.ensures.readless
+
+pub returns-in-Missing-clause-brings : goal.returns-in-Missing-clause-brings
+returns-in-Missing-clause-brings g c = first_nothing (g.W.SwapFile.content c.args.swap.now) (g.W.SwapFile.last c.args.swap.now) (g.W.SwapFile.read_faults c.args.swap.now) (g.W.SwapFile.write_faults c.args.swap.now) (g.W.SwapFile.is_truthful c.args.swap.now) (g.W.SwapFile.is_honest c.args.swap.now) c.args.live.now c.go_missing.new.live c.go_missing.result c.go_missing.ensures.readless
+
+pub returns-in-Faulty-clause-taken : goal.returns-in-Faulty-clause-taken
+returns-in-Faulty-clause-taken g c = if_err c.tell_faults.result _ _ (readless_in (g.W.SwapFile.content c.args.swap.now) c.args.live.now c.args.job.now.name) c.tell_faults.ensures.readless
+
+pub returns-in-Missing-clause-taken : goal.returns-in-Missing-clause-taken
+returns-in-Missing-clause-taken g c = if_err c.go_missing.result _ _ (readless_in (g.W.SwapFile.content c.args.swap.now) c.args.live.now c.args.job.now.name) c.go_missing.ensures.readless

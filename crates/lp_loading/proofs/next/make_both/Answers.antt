@@ -4,6 +4,7 @@ use Rattle.lp_loading.specs.Versions.{MakesVersion}
 use Rattle.lp_loading.specs.declared.job.Going.TheVariants as goings
 use Rattle.lp_loading.proofs.NextSteps.{home_same, sound_leads}
 use Rattle.lp_loading.proofs.SeenNames.{if_ok}
+use Rattle.lp_loading.proofs.Brought.{first_changed, first_failed, if_err, readless_in, taken_before}
 use Rattle.lp_loading.proofs.next.make_both.Goals as goal
 
 pub returns-in-Ok-clause-goes : goal.returns-in-Ok-clause-goes
@@ -25,3 +26,16 @@ returns-in-Ok-clause-variables g c = subst (λ rows. KeepsVariables rows c.make_
 
 pub returns-in-Err-clause-variables : goal.returns-in-Err-clause-variables
 returns-in-Err-clause-variables g c = home_same c.args.live.now.objects c.make_version.new.live.objects c.make_version.ensures.objects
+
+pub returns-in-Ok-clause-brings : goal.returns-in-Ok-clause-brings
+returns-in-Ok-clause-brings g c = first_changed c.in-Ok.ensures.stays c.in-Ok.ensures.stands c.make_object.ensures.brings
+
+pub returns-in-Err-clause-brings : goal.returns-in-Err-clause-brings
+returns-in-Err-clause-brings g c = first_failed (g.W.SwapFile.content c.args.swap.now) (g.W.SwapFile.last c.args.swap.now) (g.W.SwapFile.read_faults c.args.swap.now) (g.W.SwapFile.write_faults c.args.swap.now) (g.W.SwapFile.is_truthful c.args.swap.now) (g.W.SwapFile.is_honest c.args.swap.now) c.args.live.now c.make_version.new.live c.in-Err.e c.in-Err.ensures.readless
+
+pub returns-in-Ok-clause-taken : goal.returns-in-Ok-clause-taken
+returns-in-Ok-clause-taken g c =
+    if_err c.make_object.result _ _ (λ f h. taken_before (g.W.SwapFile.content c.args.swap.now) c.args.live.now c.make_version.new.live c.args.job.now.name f c.in-Ok.ensures.stands h) c.make_object.ensures.taken
+
+pub returns-in-Err-clause-taken : goal.returns-in-Err-clause-taken
+returns-in-Err-clause-taken g c = readless_in (g.W.SwapFile.content c.args.swap.now) c.args.live.now c.args.job.now.name c.in-Err.e c.in-Err.ensures.readless
