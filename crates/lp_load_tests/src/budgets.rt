@@ -10,7 +10,10 @@ const FILES: [File; 3] = [
         "/p.c",
         "int x = f(); int f() { return 1 + 2; } void create() { x++; } int v() { return x; }",
     ),
-    ("/c.c", "inherit \"/p\"; int y = 5; int w() { return x * 10 + y; }"),
+    (
+        "/c.c",
+        "inherit \"/p\"; int y = 5; int w() { return x * 10 + y; }",
+    ),
     (
         "/m.c",
         "mixed go() { return catch(load_object(\"/c\")); }
@@ -24,11 +27,36 @@ type Budget = (u64, &'static str, &'static str, &'static str);
 // 1000 for each file. The parent's initialisers are an entry, an entry of `f`, and its sum; its `create` is an entry and a step. The
 // child's are those, its own entry, and that `create`.
 const BUDGETS: [Budget; 16] = [
-    (0, "error: Too long evaluation. Execution aborted., left 0", "no", "no"),
-    (999, "error: Too long evaluation. Execution aborted., left 0", "no", "no"),
-    (1000, "error: Too long evaluation. Execution aborted., left 0", "no", "no"),
-    (1999, "error: Too long evaluation. Execution aborted., left 0", "no", "no"),
-    (2000, "error: Too long evaluation. Execution aborted., left 0", "yes", "no"),
+    (
+        0,
+        "error: Too long evaluation. Execution aborted., left 0",
+        "no",
+        "no",
+    ),
+    (
+        999,
+        "error: Too long evaluation. Execution aborted., left 0",
+        "no",
+        "no",
+    ),
+    (
+        1000,
+        "error: Too long evaluation. Execution aborted., left 0",
+        "no",
+        "no",
+    ),
+    (
+        1999,
+        "error: Too long evaluation. Execution aborted., left 0",
+        "no",
+        "no",
+    ),
+    (
+        2000,
+        "error: Too long evaluation. Execution aborted., left 0",
+        "yes",
+        "no",
+    ),
     (
         2001,
         "error: Too long evaluation. Execution aborted. [__INIT of /p, object /p], left 0",
@@ -41,14 +69,24 @@ const BUDGETS: [Budget; 16] = [
         "yes",
         "no",
     ),
-    (2003, "error: Too long evaluation. Execution aborted., left 0", "yes", "no"),
+    (
+        2003,
+        "error: Too long evaluation. Execution aborted., left 0",
+        "yes",
+        "no",
+    ),
     (
         2004,
         "error: Too long evaluation. Execution aborted. [create of /p, object /p], left 0",
         "yes",
         "no",
     ),
-    (2005, "error: Too long evaluation. Execution aborted., left 0", "yes", "yes"),
+    (
+        2005,
+        "error: Too long evaluation. Execution aborted., left 0",
+        "yes",
+        "yes",
+    ),
     (
         2006,
         "error: Too long evaluation. Execution aborted. [__INIT of /p, object /c], left 0",
@@ -61,8 +99,18 @@ const BUDGETS: [Budget; 16] = [
         "yes",
         "yes",
     ),
-    (2008, "error: Too long evaluation. Execution aborted., left 0", "yes", "yes"),
-    (2009, "error: Too long evaluation. Execution aborted., left 0", "yes", "yes"),
+    (
+        2008,
+        "error: Too long evaluation. Execution aborted., left 0",
+        "yes",
+        "yes",
+    ),
+    (
+        2009,
+        "error: Too long evaluation. Execution aborted., left 0",
+        "yes",
+        "yes",
+    ),
     (
         2010,
         "error: Too long evaluation. Execution aborted. [create of /p, object /c], left 0",

@@ -34,10 +34,7 @@ const CLONES_ROWS: [Row; 21] = [
     (Call("/m", "again"), "'/p#3'"),
     (Call("/m", "ends"), "0"),
     (Lives("/p#1"), "no"),
-    (
-        Call("/m", "dead"),
-        "'*Bad argument 1 to clone_object\\n'",
-    ),
+    (Call("/m", "dead"), "'*Bad argument 1 to clone_object\\n'"),
     (
         Call("/m", "none"),
         "error: Not clonable [none of /m, object /m]",

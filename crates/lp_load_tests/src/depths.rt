@@ -48,11 +48,19 @@ fn heirs(rt: &impl Abort, alloc: Global, last: u64) -> Result<Game, Fail> {
     let mut game = game_of(rt, alloc, &[])?;
     for n in 0..last {
         let path = format!(in alloc; "/n{n}.c")?;
-        let text = format!(in alloc; "int own{n}();\ninherit \"/n{}\";\nint own{n}() {{ return {n}; }}", n + 1)?;
+        let text = format!(in alloc;
+            "int own{n}();\ninherit \"/n{}\";\nint own{n}() {{ return {n}; }}",
+            n + 1
+        )?;
         game = add(rt, game, path.as_str(), text.as_str())?;
     }
     let path = format!(in alloc; "/n{last}.c")?;
-    add(rt, game, path.as_str(), "int own0(); int own9();\nint v() { return own0() * 100 + own9(); }")
+    add(
+        rt,
+        game,
+        path.as_str(),
+        "int own0(); int own9();\nint v() { return own0() * 100 + own9(); }",
+    )
 }
 
 const NESTED: [Row; 4] = [
@@ -89,7 +97,12 @@ fn loaders(rt: &impl Abort, alloc: Global, last: u64) -> Result<Game, Fail> {
         game = add(rt, game, path.as_str(), text.as_str())?;
     }
     let path = format!(in alloc; "/n{last}.c")?;
-    add(rt, game, path.as_str(), "void create() { write(\"last\"); }")
+    add(
+        rt,
+        game,
+        path.as_str(),
+        "void create() { write(\"last\"); }",
+    )
 }
 
 const LOADERS: [Row; 2] = [(Load("/n1"), "/n1 | last"), (Lives("/n100"), "yes")];

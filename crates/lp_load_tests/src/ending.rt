@@ -10,7 +10,10 @@ const DYING: [File; 3] = [
     int dies() { write(\"dies\"); destruct(this_object()); return 1; }
     void create() { write(sprintf(\"create of %O with %d\", this_object(), x + y)); }",
     ),
-    ("/b.c", "void create() { destruct(this_object()); } int v() { return 8; }"),
+    (
+        "/b.c",
+        "void create() { destruct(this_object()); } int v() { return 8; }",
+    ),
     (
         "/m.c",
         "int loads() { return load_object(\"/a\") == 0; }
@@ -48,7 +51,10 @@ const MEANWHILE: [File; 7] = [
         "void create() { if (object_name() == \"/q\") destruct(this_object()); } string v() { return \"q\" + object_name(); }",
     ),
     ("/d.c", "inherit \"/q\";"),
-    ("/e.c", "inherit \"/d\"; inherit \"/q\"; inherit \"/q\"; string all() { return v() + \"/d\"::v(); }"),
+    (
+        "/e.c",
+        "inherit \"/d\"; inherit \"/q\"; inherit \"/q\"; string all() { return v() + \"/d\"::v(); }",
+    ),
     (
         "/r.c",
         "int x = ends(); int ends() { if (object_name() == \"/r\") destruct(this_object()); return 6; } int v() { return x; }",
@@ -59,10 +65,7 @@ const MEANWHILE: [File; 7] = [
 // Where an object of its name lives after a parent's load, the load ends with that one, and makes none. A parent that ends in its
 // own load has a version for the file that asked for it, however often that names it; another file's load makes it anew.
 const MEANWHILE_ROWS: [Row; 14] = [
-    (
-        Load("/c"),
-        "/c | create in /p | create in /c",
-    ),
+    (Load("/c"), "/c | create in /p | create in /c"),
     (Call("/c", "v"), "'c'"),
     (Load("/d"), "/d"),
     (Lives("/q"), "no"),

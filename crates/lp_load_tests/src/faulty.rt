@@ -77,9 +77,15 @@ const BEGINS: [File; 7] = [
         "/q.c",
         "int y = 1 / zero(); int z = 3; int zero() { return 0; } void create() { write(\"never\"); } int v() { return z; }",
     ),
-    ("/d.c", "inherit \"/q\"; int w = 4; int v() { return w * 10 + ::v(); }"),
+    (
+        "/d.c",
+        "inherit \"/q\"; int w = 4; int v() { return w * 10 + ::v(); }",
+    ),
     ("/r.c", "void create() { throw(object_name()); }"),
-    ("/e.c", "inherit \"/r\"; void create() { catch(::create()); write(\"goes on\"); }"),
+    (
+        "/e.c",
+        "inherit \"/r\"; void create() { catch(::create()); write(\"goes on\"); }",
+    ),
     (
         "/m.c",
         "mixed careful() { return catch(load_object(\"/r\")); }

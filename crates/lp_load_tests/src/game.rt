@@ -328,7 +328,9 @@ fn call_in(
 {
     law_there_is_one();
     let mut stack = Vec::new(live.alloc);
-    call(live.alloc, live, swap, &mut stack, asker, None, ob, name, 0, left)
+    call(
+        live.alloc, live, swap, &mut stack, asker, None, ob, name, 0, left,
+    )
 }
 
 /// The live object with a name.

@@ -42,7 +42,10 @@ fn old_beside_new(rt: HostRuntime) -> Result<(), Fail> {
 const PARENTS: [File; 4] = [
     ("/p.c", "string v() { return \"p1\"; }"),
     ("/k.c", "inherit \"/p\";"),
-    ("/l.c", "inherit \"/p\"; string v() { return \"l\" + ::v(); }"),
+    (
+        "/l.c",
+        "inherit \"/p\"; string v() { return \"l\" + ::v(); }",
+    ),
     (
         "/m.c",
         "string go() { return \"/k\"->v() + \"/p\"->v(); }

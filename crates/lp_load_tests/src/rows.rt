@@ -1,8 +1,6 @@
 //! Steps of games as tables.
 use crate::fault::GameFault;
-use crate::game::{
-    Game, Told, call_by_name, lives, load, name_simul, new_game, put_all, write,
-};
+use crate::game::{Game, Told, call_by_name, lives, load, name_simul, new_game, put_all, write};
 use crate::telling::say_number;
 use std::alloc::Global;
 use std::process::Abort;

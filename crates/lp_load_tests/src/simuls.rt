@@ -39,14 +39,20 @@ const SIMUL_ROWS: [Row; 17] = [
     (Call("/p", "asks"), "'/p'"),
     (Load("/kept"), "faulty 1 | /kept.c line 1: unknown function"),
     (Load("/own"), "faulty 1 | /own.c line 1: unknown function"),
-    (Load("/hidden"), "faulty 1 | /hidden.c line 1: unknown function"),
+    (
+        Load("/hidden"),
+        "faulty 1 | /hidden.c line 1: unknown function",
+    ),
     (Load("/mine"), "/mine"),
     (Call("/mine", "go"), "'mine'"),
     (Call("/p", "ends"), "0"),
     (Lives("/simul"), "no"),
     (Call("/p", "go"), "'sim992'"),
     (
-        Write("/simul.c", "string hi() { return \"new\"; } protected int strlen(string s) { return 1; }"),
+        Write(
+            "/simul.c",
+            "string hi() { return \"new\"; } protected int strlen(string s) { return 1; }",
+        ),
         "",
     ),
     (Call("/p", "go"), "'new02'"),
@@ -69,8 +75,14 @@ const UNDER_WAY: [File; 6] = [
     ("/base.c", "int based() { return strlen(\"abc\"); }"),
     ("/early.c", "int go() { return strlen(\"ab\"); }"),
     ("/late.c", "int go() { return strlen(\"ab\"); }"),
-    ("/heir.c", "inherit \"/base\"; int go() { return strlen(\"ab\") * 1000 + based(); }"),
-    ("/bad.c", "int x = 1 / 0; int strlen(string s) { return 7; }"),
+    (
+        "/heir.c",
+        "inherit \"/base\"; int go() { return strlen(\"ab\") * 1000 + based(); }",
+    ),
+    (
+        "/bad.c",
+        "int x = 1 / 0; int strlen(string s) { return 7; }",
+    ),
 ];
 
 // While its load is under way no file sees its functions: its parents, and what its `create` loads. A program that was compiled then

@@ -10,5 +10,5 @@ returns c =
     let e = c.call.ensures in
     if_ok c.call.result _ _ _ _ (λ r meant same fit.
     called (told_by c.args.swap.now) (told_by c.call.new.swap) c.args.live.now c.call.new.live c.call.new.stack.items c.args.asker.now c.call.new.asker c.args.left.now c.call.new.budget c.args.ob c.args.name.now r
-        c.law_there_is_one.ensures c.requires.playable meant same fit.closed)
+    c.law_there_is_one.ensures c.requires.playable meant same fit.closed)
     e.meant e.asker e.fit
