@@ -111,7 +111,7 @@ pub fn game_of(rt: &impl Abort, alloc: Global, files: &[File]) -> Result<Game, F
 }
 
 /// A step ends as its row says.
-fn step(rt: &impl Abort, alloc: Global, game: Game, row: &Row) -> Result<Game, Fail> {
+fn take_step(rt: &impl Abort, alloc: Global, game: Game, row: &Row) -> Result<Game, Fail> {
     match done(alloc, game, row.0) {
         Ok(told) => {
             assert!(rt; told.text.as_str() == row.1, "{} for {}", told.text, row.1);
@@ -139,7 +139,7 @@ pub fn play(
 ) -> Result<Game, Fail> {
     let mut game = game;
     for row in rows {
-        game = step(rt, alloc, game, row)?;
+        game = take_step(rt, alloc, game, row)?;
         if puts_out {
             game = without_memory(rt, game)?;
         }
