@@ -59,26 +59,26 @@ call_asked told programs live w asker budget ob name d h = record {
 applies : (w : World) (asker : Asker) (budget : ℕ) (ob : ObjId) (name : List ℕ) → IsDriver asker → Applies asker None ob name (asked_by (Apply ob name) w asker budget)
 applies w asker budget ob name d = record { callers = sym (ap (λ (cs : List ObjId). reverse (cs ++ [])) d.callers); what = refl }
 
-pub can_call : (told : Option Bytes) (live : Live) (asker : Asker) (budget : ℕ) (ob : ObjId) (name : List ℕ) → IsPlayable told live asker → CanCall None ob name 0 told live [] asker budget
-can_call told live asker budget ob name g =
+pub can_call : (told : Option Bytes) (live : Live) (stack : List Value) (asker : Asker) (budget : ℕ) (ob : ObjId) (name : List ℕ) → stack ≡ [] → IsPlayable told live asker → CanCall None ob name 0 told live stack asker budget
+can_call told live stack asker budget ob name nil g =
     let h = g.set.world in
-    record {
+    subst (λ xs. CanCall None ob name 0 told live xs asker budget) (sym nil) (record {
       programs = h.programs;
       ask = asked_by (Apply ob name) h.world asker budget;
       below = [];
       asked = call_asked told h.programs live h.world asker budget ob name g.driver h.is;
       applies = applies h.world asker budget ob name g.driver;
-    }
+    })
 
 still_driver : (was asker : Asker) → IsSameAsker was asker → IsDriver was → IsDriver asker
 still_driver was asker same d = record { callers = same.callers ∙ d.callers; depth = same.depth ∙ d.depth }
 
-pub called : (told0 told1 : Option Bytes) (old new : Live) (rest : List Value) (was asker : Asker) (budget left : ℕ) (ob : ObjId) (name : List ℕ) (e : Ending) → ThereIsOne → IsPlayable told0 old was
-    → CallIsMeant None ob name 0 told0 old [] was budget told1 new rest asker left e → IsSameAsker was asker → IsClosed new → IsPlayable told1 new asker
-called told0 told1 old new rest was asker budget left ob name e one g meant same closed =
+pub called : (told0 told1 : Option Bytes) (old new : Live) (stack rest : List Value) (was asker : Asker) (budget left : ℕ) (ob : ObjId) (name : List ℕ) (e : Ending) → stack ≡ [] → ThereIsOne → IsPlayable told0 old was
+    → CallIsMeant None ob name 0 told0 old stack was budget told1 new rest asker left e → IsSameAsker was asker → IsClosed new → IsPlayable told1 new asker
+called told0 told1 old new stack rest was asker budget left ob name e nil one g meant same closed =
     let h = g.set.world in
     let a = asked_by (Apply ob name) h.world was budget in
-    let served = meant one.0 one.1 h.programs a [] (call_asked told0 h.programs old h.world was budget ob name g.driver h.is) (applies h.world was budget ob name g.driver) in
+    let served = subst (λ xs. CallIsMeant None ob name 0 told0 old xs was budget told1 new rest asker left e) nil meant one.0 one.1 h.programs a [] (call_asked told0 h.programs old h.world was budget ob name g.driver h.is) (applies h.world was budget ob name g.driver) in
     record {
       set = record { world = record { programs = served.is.programs; world = served.outcome.world; is = served.is.world }; closed = closed };
       driver = still_driver was asker same g.driver;
@@ -106,9 +106,9 @@ can_load told live asker budget name g =
       asked = load_asked told h.programs live h.world asker budget name g.driver h.is;
     }
 
-pub loaded : (told0 told1 : Option Bytes) (old new : Live) (rest : List Value) (was asker : Asker) (budget left : ℕ) (name : List ℕ) (r : Answer) → ThereIsOne → IsPlayable told0 old was
-    → LoadIsMeant name told0 old [] was budget told1 new rest asker left r → IsSameAsker was asker → IsClosed new → IsPlayable told1 new asker
-loaded told0 told1 old new rest was asker budget left name r one g meant same closed =
+pub loaded : (told0 told1 : Option Bytes) (old new : Live) (stack rest : List Value) (was asker : Asker) (budget left : ℕ) (name : List ℕ) (r : Answer) → ThereIsOne → IsPlayable told0 old was
+    → LoadIsMeant name told0 old stack was budget told1 new rest asker left r → IsSameAsker was asker → IsClosed new → IsPlayable told1 new asker
+loaded told0 told1 old new stack rest was asker budget left name r one g meant same closed =
     let h = g.set.world in
     let served = meant one.0 one.1 h.programs (asked_by (Load name Wanted) h.world was budget) (load_asked told0 h.programs old h.world was budget name g.driver h.is) in
     record {
