@@ -23,3 +23,4 @@ pub mod MakingBegins
 pub mod Loads
 pub mod LoadCauses
 pub mod ObjectLoads
+pub mod Clones

@@ -34,7 +34,6 @@ use Rattle.lp_asking.specs.Asking.{loading_of}
 use Rattle.lp_asking.specs.Endings.{IsAnswer, IsEndingThere}
 use Rattle.lp_asking.proofs.Courses.{asks_ends, has_of, over_ends}
 use Rattle.lp_beginning.specs.declared.job.Making.{Making}
-use Rattle.lp_beginning.proofs.Staying.{parts_stay}
 use Rattle.lp_loading.specs.declared.job.Answer.{Answer}
 use Rattle.lp_loading.specs.declared.job.Answer.TheVariants as answers
 use Rattle.lp_loading.specs.declared.job.Fed.{Fed}
@@ -58,13 +57,14 @@ use Rattle.lp_vm.specs.Growing.{Grows}
 use Rattle.lp_vm.specs.Loading.{BeginsLoad, CanLoad, CanLoadOn, CannotPay, IsLoading, IsPaidFor, LeadsOn, LoadContinues, LoadEnds, LoadGoesOn, Loads, LoadsOn, load_course}
 use Rattle.lp_vm.specs.Making.{CanMake, IsBehind, IsMaking, Makes}
 use Rattle.lp_vm.proofs.Grown.{grows_same, grows_trans}
+use Rattle.lp_vm.proofs.MakingBegins.{begins_making}
 use Rattle.lp_vm.proofs.Places.{asks_still}
 use Rattle.lp_vm.proofs.Startings.{asker_too, same_asker, same_later}
 
 -- Ends, as they are in the state of who asked
 
 -- an outcome's state is one for which the live state stands
-is_at : (told : Option Bytes) (old : List RawProgram) (before : List Out) (live : Live) (asker : Asker) (budget : ℕ) (e : Ending) (x : End Reply) (i : IsOutcome told old before live asker budget e (outcome_of x))
+pub is_at : (told : Option Bytes) (old : List RawProgram) (before : List Out) (live : Live) (asker : Asker) (budget : ℕ) (e : Ending) (x : End Reply) (i : IsOutcome told old before live asker budget e (outcome_of x))
     → IsAt (setting told i.programs before) live asker.turn budget (state_in x)
 is_at told old before live asker budget e (Gives r s) i = record { at = record { stands = i.world.stands; left = sym i.left; outputs = i.outputs; player = i.player; commands = i.commands }; world = i.world }
 is_at told old before live asker budget e (Stops x s) i = record { at = record { stands = i.world.stands; left = sym i.left; outputs = i.outputs; player = i.player; commands = i.commands }; world = i.world }
@@ -84,10 +84,10 @@ answer_there cells (endings.Value v) h = h
 answer_there cells (endings.Stopped stop) h = h
 
 -- the end of a question, in the state of who asked
-abbrev end_after : State → End Reply → End Reply
+abbrev pub end_after : State → End Reply → End Reply
 end_after s x = end_of_reply (outcome_of x).answer (after s (outcome_of x))
 
-answer_after : (programs : List RawProgram) (r : Answer) (s : State) (x : End Reply) → IsAnswerOf programs r x → IsAnswerOf programs r (end_after s x)
+pub answer_after : (programs : List RawProgram) (r : Answer) (s : State) (x : End Reply) → IsAnswerOf programs r x → IsAnswerOf programs r (end_after s x)
 answer_after programs (answers.Value v) s (Gives (Plain u) t) h = h
 answer_after programs (answers.Value v) s (Gives (WasRead items pragmas) t) h = absurd h
 answer_after programs (answers.Value v) s (Gives IsSound t) h = absurd h
@@ -101,7 +101,7 @@ answer_after programs (answers.Faulty fs) s (Stops x t) h = absurd h
 answer_after programs (answers.Stopped stop) s (Gives r t) h = absurd h
 answer_after programs (answers.Stopped stop) s (Stops x t) h = h
 
-at_after : (told : Option Bytes) (programs : List RawProgram) (before : List Out) (live1 live2 : Live) (turn : Turn) (budget : ℕ) (s : State) (x : End Reply) → live1.outputs ≡ before ++ s.outputs → IsAt (setting told programs live1.outputs) live2 turn budget (state_in x)
+pub at_after : (told : Option Bytes) (programs : List RawProgram) (before : List Out) (live1 live2 : Live) (turn : Turn) (budget : ℕ) (s : State) (x : End Reply) → live1.outputs ≡ before ++ s.outputs → IsAt (setting told programs live1.outputs) live2 turn budget (state_in x)
     → IsAt (setting told programs before) live2 turn budget (state_in (end_after s x))
 at_after told programs before live1 live2 turn budget s (Gives r t) o h = record {
   at = record { stands = h.at.stands; left = h.at.left; outputs = h.at.outputs ∙ ap (λ l. l ++ t.outputs) o ∙ append_assoc before s.outputs t.outputs; player = h.at.player; commands = h.at.commands };
@@ -157,7 +157,7 @@ under_still job0 job1 loads0 loads1 by name nested same h =
     (h.0, h.1 ∙ sym (ap (λ n. under_way h.0 n job1.nested) name ∙ ap (λ n. under_way h.0 job0.name n) nested), h.2 ∙ sym (ap loads_of same))
 
 -- who asks is behind something in a later state, ..
-behind_later : (caller : Option ObjId) (at : Option Place) (told0 told1 : Option Bytes) (old new : List RawProgram) (before : List Out) (live0 live1 : Live) (asker0 asker1 : Asker) (budget0 budget1 : ℕ) (by : meaning.Asker) (s t : State)
+pub behind_later : (caller : Option ObjId) (at : Option Place) (told0 told1 : Option Bytes) (old new : List RawProgram) (before : List Out) (live0 live1 : Live) (asker0 asker1 : Asker) (budget0 budget1 : ℕ) (by : meaning.Asker) (s t : State)
     → IsBehind caller at told0 old before live0 asker0 budget0 by s → IsAt (setting told1 new before) live1 asker1.turn budget1 t → Grows old new → IsSameAsker asker0 asker1 → IsBehind caller at told1 new before live1 asker1 budget1 by t
 behind_later caller at told0 told1 old new before live0 live1 asker0 asker1 budget0 budget1 by s t h i grown same = record {
   fits = i;
@@ -195,10 +195,9 @@ module _ (caller : Option ObjId) (at : Option Place) (job : LoadJob) (going : Go
       made_by = leads budget asker.turn front programs before by s turns real w.behind.fits w.under w.enough
 
       is_making : IsMaking caller at making told1 made_by.programs before live1 asker budget by made_by.state
-      is_making = record {
-        behind = behind_later caller at told0 told1 programs made_by.programs before live0 live1 asker asker budget budget by s made_by.state w.behind made_by.at made_by.grown (same_asker asker);
-        parts = λ u k. parts_stay told1 made_by.programs live1 made_by.state.world u making made_by.at.world home made_by.parts k;
-      }
+      is_making =
+          begins_making caller at making told1 made_by.programs before live1 asker budget by made_by.state
+          (behind_later caller at told0 told1 programs made_by.programs before live0 live1 asker asker budget budget by s made_by.state w.behind made_by.at made_by.grown (same_asker asker)) made_by.parts home
 
     pub load_can_make : CanLoadOn caller at job told0 live0 asker budget → CanMake caller at making told1 live1 asker budget
     load_can_make h =

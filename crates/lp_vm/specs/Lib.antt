@@ -18,4 +18,5 @@ pub mod Jobs
 pub mod Applying
 pub mod Initialising
 pub mod LoadFaults
+pub mod Cloning
 pub mod ObjectLoading

@@ -1,18 +1,22 @@
 //! What is asked is answered: functions run, efuns work, and files are loaded.
 ghost use Rattle.std.specs.Prelude.{IfOk, IsAscii, IsSome};
 ghost use Rattle.lp_calling.specs.Jobs.{IsJobOn, IsReady};
+ghost use Rattle.lp_cloning.specs.declared.job.Cloning.TheVariants as stages;
+ghost use Rattle.lp_instr.specs.declared.efun.Efun.TheVariants as efuns;
 ghost use Rattle.lp_loading.specs.declared.job.Going.TheVariants as goings;
 ghost use Rattle.lp_step.specs.Steps.{IsFit};
 ghost use Rattle.lp_world.specs.Rows.{variables_at};
 ghost use Rattle.lp_vm.specs.declared.request.Request.TheVariants as requests;
 ghost use Rattle.lp_vm.specs.Answering.{CanServe};
 ghost use Rattle.lp_vm.specs.Causes.{Tells, read_of};
+ghost use Rattle.lp_vm.specs.Cloning.{CanClone, Clones};
 ghost use Rattle.lp_vm.specs.Cycle.{Answers, Finishes, Works};
 ghost use Rattle.lp_vm.specs.Going.{CanGo};
 ghost use Rattle.lp_vm.specs.Loading.{CanLoad, CanLoadOn, Loads, LoadsOn};
 ghost use Rattle.lp_vm.specs.Making.{CanMake, Makes};
 ghost use Rattle.lp_vm.specs.Working.{CanWork};
 
+use crate::cloning::{begin_clone, clone_loaded, is_clone};
 use crate::efuns::EfunBegun;
 use crate::entering::{Started, close, start};
 use crate::fault::VmFault;
@@ -28,10 +32,14 @@ use lp_asking::ending::{Ending, Place};
 use lp_asking::truth::Truthful;
 use lp_beginning::job::{Fed as Made, Making};
 use lp_calling::job::Job;
+use lp_cloning::feed::cloned;
+use lp_cloning::job::{Begun as CloneBegun, Cloning};
+use lp_cloning::laws::law_loads_through;
 use lp_instr::efun::Efun;
 use lp_loading::job::{Answer, Begun, Fed, Going, LoadJob, Purpose, Step};
 use lp_reaching::reached::Reached;
 use lp_values::id::ObjId;
+use lp_values::text::Text;
 use lp_values::value::Value;
 use lp_world::frame::Frame;
 use lp_world::live::Live;
@@ -138,6 +146,9 @@ fn call_efun<W: Truthful>(
     ensures tells { Tells (W.content swap.new) (W.last swap.new) (W.read_faults swap.old) (W.read_faults swap.new) (W.write_faults swap.old) (W.write_faults swap.new)
         (W.is_truthful swap.old) (W.is_truthful swap.new) (W.is_honest swap.old) (W.is_honest swap.new) live.new (read_of result) }
 {
+    if is_clone(efun) {
+        return call_clone(alloc, live, swap, stack, asker, at, args, budget);
+    }
     match start_efun(live, swap, stack, asker, at, efun, args, budget)? {
         EfunBegun::Answered(ending) => Ok(ending),
         EfunBegun::Works(job) => work(alloc, live, swap, stack, asker, at, job, budget),
@@ -317,5 +328,100 @@ pub fn load<W: Truthful>(
             pop_load(asker);
             Ok(answer)
         }
+    }
+}
+
+/// `clone_object` goes on with the load of its blueprint, and with what that gave.
+#[cycle(calls)]
+fn load_clone<W: Truthful>(
+    alloc: Global,
+    live: &mut Live,
+    swap: &mut W,
+    stack: &mut Vec<Value>,
+    asker: &mut Asker,
+    at: Place,
+    name: String,
+    budget: &mut u64,
+) -> Result<Ending, VmFault>
+    requires fit { IsFit live.old stack.old.items }
+    requires can { CanClone at (stages.Load name) (W.content swap.old) live.old asker.old budget.old }
+    ensures clones { IfOk result (λ e. Clones at (stages.Load name) (W.content swap.old) live.old stack.old.items asker.old budget.old (W.content swap.new) live.new stack.new.items asker.new budget.new e) }
+    ensures tells { Tells (W.content swap.new) (W.last swap.new) (W.read_faults swap.old) (W.read_faults swap.new) (W.write_faults swap.old) (W.write_faults swap.new)
+        (W.is_truthful swap.old) (W.is_truthful swap.new) (W.is_honest swap.old) (W.is_honest swap.new) live.new (read_of result) }
+{
+    law_loads_through();
+    let text = Text::from_str(alloc, name.as_str())?;
+    let answer = load(
+        alloc,
+        live,
+        swap,
+        stack,
+        asker,
+        Some(at.this),
+        Some(at),
+        text.as_slice(),
+        Purpose::Wanted,
+        budget,
+    )?;
+    let ending = loaded_ending(alloc, &text, answer)?;
+    match clone_loaded(live, swap, name, ending)? {
+        CloneBegun::Ends(ending) => Ok(ending),
+        CloneBegun::Runs(cloning) => match cloning {
+            Cloning::Make(making) => {
+                let ending = make(
+                    alloc,
+                    live,
+                    swap,
+                    stack,
+                    asker,
+                    Some(at.this),
+                    Some(at),
+                    making,
+                    budget,
+                )?;
+                Ok(cloned(ending))
+            }
+            Cloning::Load(_) => Err(VmFault::NoMemory),
+        },
+    }
+}
+
+/// `clone_object`, which the function at a place calls, is carried out, with so many arguments on top of the stack, which are taken.
+#[cycle(calls)]
+fn call_clone<W: Truthful>(
+    alloc: Global,
+    live: &mut Live,
+    swap: &mut W,
+    stack: &mut Vec<Value>,
+    asker: &mut Asker,
+    at: Place,
+    args: u32,
+    budget: &mut u64,
+) -> Result<Ending, VmFault>
+    requires fit { IsFit live.old stack.old.items }
+    requires can { CanServe (W.content swap.old) live.old stack.old.items asker.old budget.old (requests.Efun at efuns.CloneObject) args }
+    ensures answers { IfOk result (λ e. Answers (requests.Efun at efuns.CloneObject) args (W.content swap.old) live.old stack.old.items asker.old budget.old (W.content swap.new) live.new stack.new.items asker.new budget.new e) }
+    ensures tells { Tells (W.content swap.new) (W.last swap.new) (W.read_faults swap.old) (W.read_faults swap.new) (W.write_faults swap.old) (W.write_faults swap.new)
+        (W.is_truthful swap.old) (W.is_truthful swap.new) (W.is_honest swap.old) (W.is_honest swap.new) live.new (read_of result) }
+{
+    match begin_clone(live, swap, stack, args, budget)? {
+        CloneBegun::Ends(ending) => Ok(ending),
+        CloneBegun::Runs(cloning) => match cloning {
+            Cloning::Load(name) => load_clone(alloc, live, swap, stack, asker, at, name, budget),
+            Cloning::Make(making) => {
+                let ending = make(
+                    alloc,
+                    live,
+                    swap,
+                    stack,
+                    asker,
+                    Some(at.this),
+                    Some(at),
+                    making,
+                    budget,
+                )?;
+                Ok(cloned(ending))
+            }
+        },
     }
 }

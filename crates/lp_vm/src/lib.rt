@@ -6,6 +6,7 @@
 
 mod asking;
 pub mod calling;
+mod cloning;
 pub mod cycle;
 mod efuns;
 mod entering;

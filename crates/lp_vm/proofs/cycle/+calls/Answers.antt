@@ -39,6 +39,18 @@ use Rattle.lp_vm.specs.Causes.{Tells}
 use Rattle.lp_vm.specs.Making.{MakeContinues}
 use Rattle.lp_vm.proofs.Makings.{can_make_on, make_can, make_ends, make_goes, make_lies, make_stands, makes_later, makes_more, still_there}
 use Rattle.lp_beginning.specs.Feeding as feeding
+use Rattle.std.specs.Str.{chars}
+use Rattle.std.specs.String.{string_bytes}
+use Rattle.lp_instr.specs.declared.efun.Efun.TheVariants as efuns
+use Rattle.lp_cloning.specs.declared.job.Begun.TheVariants as begun
+use Rattle.lp_cloning.specs.declared.job.Cloning.TheVariants as stages
+use Rattle.lp_cloning.specs.Beginning.{Begins, IsHome, IsReady}
+use Rattle.lp_cloning.specs.Feeding.{LoadedAs}
+use Rattle.lp_vm.specs.declared.request.Request.TheVariants as requests
+use Rattle.lp_vm.specs.Cloning.{CanClone, Clones, IsBegunThere}
+use Rattle.lp_vm.specs.Cycle.{Answers}
+use Rattle.lp_vm.specs.Loaded.{loaded_ending}
+use Rattle.lp_vm.proofs.Clones.{clone_answered, clone_answers, clone_can, clone_can_make, clone_load_can, clone_load_ends, clone_load_goes, clone_load_stands, clone_made}
 use Rattle.lp_vm.proofs.cycle.+calls.Goals as goal
 
 pub answer-start-requires-clause-can : goal.answer-start-requires-clause-can
@@ -461,3 +473,130 @@ load_on-loads-preserved g t c =
       tells = tells_more c.loads.invariant.tells (tells_more c.in_ok-answer.ensures.tells c.in_ok-answer-in-Asks.ensures.tells);
       goes = loads_more c.args.caller c.args.at c.args.job c.loads.job c.feed_load.new.job goings.Simul c.loads.going c.in-Goes.next (g.W.SwapFile.content c.args.swap.now) (g.W.SwapFile.content c.loads.swap) (g.W.SwapFile.content c.load.new.swap) c.args.live.now c.loads.live c.load.new.live c.args.asker.now c.loads.asker c.load.new.asker c.args.budget.now c.loads.budget c.load.new.budget c.loads.invariant.goes more;
     }
+
+-- Clones
+
+pub call_clone-returns-in-Ends-clause-answers : goal.call_clone-returns-in-Ends-clause-answers
+call_clone-returns-in-Ends-clause-answers g t c =
+    let begins : Begins (begun.Ends c.in-Ends.ending) (g.W.SwapFile.content c.args.swap.now) c.args.live.now c.args.stack.now.items c.args.args c.args.budget.now c.begin_clone.new.live c.begin_clone.new.stack.items c.begin_clone.new.budget = subst (λ r. Begins r (g.W.SwapFile.content c.args.swap.now) c.args.live.now c.args.stack.now.items c.args.args c.args.budget.now c.begin_clone.new.live c.begin_clone.new.stack.items c.begin_clone.new.budget) c.in-Ends.is c.in_ok-ending.ensures.begins in
+    subst (λ x. Answers (requests.Efun c.args.at efuns.CloneObject) c.args.args (g.W.SwapFile.content c.args.swap.now) c.args.live.now c.args.stack.now.items c.args.asker.now c.args.budget.now x c.begin_clone.new.live c.begin_clone.new.stack.items c.args.asker.now c.begin_clone.new.budget c.in-Ends.ending) (sym c.in_ok-ending.ensures.told)
+    (clone_answered c.args.at c.args.args (g.W.SwapFile.content c.args.swap.now) c.args.live.now c.begin_clone.new.live c.args.stack.now.items c.begin_clone.new.stack.items c.args.asker.now c.args.budget.now c.begin_clone.new.budget c.in-Ends.ending begins c.in_ok-ending.ensures.fit c.in_ok-ending.ensures.home c.in_ok-ending.ensures.spends (subst (IsBegunThere c.begin_clone.new.live.cells) c.in-Ends.is (c.in_ok-ending.ensures.there c.begin_clone.new.live.cells)))
+
+pub call_clone-load_clone-requires : goal.call_clone-load_clone-requires
+call_clone-load_clone-requires g t c =
+    let begins : Begins (begun.Runs c.in-Runs.cloning) (g.W.SwapFile.content c.args.swap.now) c.args.live.now c.args.stack.now.items c.args.args c.args.budget.now c.begin_clone.new.live c.begin_clone.new.stack.items c.begin_clone.new.budget = subst (λ r. Begins r (g.W.SwapFile.content c.args.swap.now) c.args.live.now c.args.stack.now.items c.args.args c.args.budget.now c.begin_clone.new.live c.begin_clone.new.stack.items c.begin_clone.new.budget) c.in-Runs.is c.in_ok-ending.ensures.begins in
+    let less = c.in_ok-ending.ensures.spends in
+    λ κs within. (
+      omega (arith, less),
+      (
+        within,
+        (
+          c.in_ok-ending.ensures.fit,
+          subst (λ x. CanClone c.args.at x (g.W.SwapFile.content c.begin_clone.new.swap) c.begin_clone.new.live c.args.asker.now c.begin_clone.new.budget) c.in-Load.is
+              (subst (λ x. CanClone c.args.at c.in-Runs.cloning x c.begin_clone.new.live c.args.asker.now c.begin_clone.new.budget) (sym c.in_ok-ending.ensures.told) (clone_can c.args.at c.args.args (g.W.SwapFile.content c.args.swap.now) c.args.live.now c.begin_clone.new.live c.args.stack.now.items c.begin_clone.new.stack.items c.args.asker.now c.args.budget.now c.begin_clone.new.budget c.in-Runs.cloning begins c.requires.can)),
+        ),
+      ),
+    )
+
+pub call_clone-returns-in-Load-clause-answers : goal.call_clone-returns-in-Load-clause-answers
+call_clone-returns-in-Load-clause-answers g t c =
+    let begins : Begins (begun.Runs c.in-Runs.cloning) (g.W.SwapFile.content c.args.swap.now) c.args.live.now c.args.stack.now.items c.args.args c.args.budget.now c.begin_clone.new.live c.begin_clone.new.stack.items c.begin_clone.new.budget = subst (λ r. Begins r (g.W.SwapFile.content c.args.swap.now) c.args.live.now c.args.stack.now.items c.args.args c.args.budget.now c.begin_clone.new.live c.begin_clone.new.stack.items c.begin_clone.new.budget) c.in-Runs.is c.in_ok-ending.ensures.begins in
+    if_ok c.load_clone.result
+    (λ e h. clone_answers c.args.at c.args.args (g.W.SwapFile.content c.args.swap.now) c.args.live.now c.begin_clone.new.live c.args.stack.now.items c.begin_clone.new.stack.items c.args.asker.now c.args.budget.now c.begin_clone.new.budget c.in-Runs.cloning begins (g.W.SwapFile.content c.load_clone.new.swap) c.load_clone.new.live c.load_clone.new.stack.items c.load_clone.new.asker c.load_clone.new.budget e
+    (subst (λ x. Clones c.args.at c.in-Runs.cloning x c.begin_clone.new.live c.begin_clone.new.stack.items c.args.asker.now c.begin_clone.new.budget (g.W.SwapFile.content c.load_clone.new.swap) c.load_clone.new.live c.load_clone.new.stack.items c.load_clone.new.asker c.load_clone.new.budget e) c.in_ok-ending.ensures.told
+    (subst (λ x. Clones c.args.at x (g.W.SwapFile.content c.begin_clone.new.swap) c.begin_clone.new.live c.begin_clone.new.stack.items c.args.asker.now c.begin_clone.new.budget (g.W.SwapFile.content c.load_clone.new.swap) c.load_clone.new.live c.load_clone.new.stack.items c.load_clone.new.asker c.load_clone.new.budget e) (sym c.in-Load.is) h))
+    c.in_ok-ending.ensures.home c.in_ok-ending.ensures.spends)
+    c.load_clone.ensures.clones
+
+pub call_clone-make-requires : goal.call_clone-make-requires
+call_clone-make-requires g t c =
+    let begins : Begins (begun.Runs c.in-Runs.cloning) (g.W.SwapFile.content c.args.swap.now) c.args.live.now c.args.stack.now.items c.args.args c.args.budget.now c.begin_clone.new.live c.begin_clone.new.stack.items c.begin_clone.new.budget = subst (λ r. Begins r (g.W.SwapFile.content c.args.swap.now) c.args.live.now c.args.stack.now.items c.args.args c.args.budget.now c.begin_clone.new.live c.begin_clone.new.stack.items c.begin_clone.new.budget) c.in-Runs.is c.in_ok-ending.ensures.begins in
+    let home : IsSome (variables_at c.begin_clone.new.live.objects c.in-Make.making.object) = subst (IsHome c.begin_clone.new.live.objects) c.in-Make.is (subst (IsReady c.begin_clone.new.live.objects) c.in-Runs.is c.in_ok-ending.ensures.ready).1 in
+    let less = c.in_ok-ending.ensures.spends in
+    λ κs within. (
+      omega (arith, less),
+      (
+        within,
+        (
+          home,
+          (
+            c.in_ok-ending.ensures.fit,
+            clone_can_make c.args.at c.in-Make.making (g.W.SwapFile.content c.begin_clone.new.swap) c.begin_clone.new.live c.begin_clone.new.stack.items c.args.asker.now c.begin_clone.new.budget home
+                (subst (λ x. CanClone c.args.at x (g.W.SwapFile.content c.begin_clone.new.swap) c.begin_clone.new.live c.args.asker.now c.begin_clone.new.budget) c.in-Make.is
+                (subst (λ x. CanClone c.args.at c.in-Runs.cloning x c.begin_clone.new.live c.args.asker.now c.begin_clone.new.budget) (sym c.in_ok-ending.ensures.told) (clone_can c.args.at c.args.args (g.W.SwapFile.content c.args.swap.now) c.args.live.now c.begin_clone.new.live c.args.stack.now.items c.begin_clone.new.stack.items c.args.asker.now c.args.budget.now c.begin_clone.new.budget c.in-Runs.cloning begins c.requires.can))),
+          ),
+        ),
+      ),
+    )
+
+pub call_clone-returns-in_ok-ending-in-Make-clause-answers : goal.call_clone-returns-in_ok-ending-in-Make-clause-answers
+call_clone-returns-in_ok-ending-in-Make-clause-answers g t c =
+    let begins : Begins (begun.Runs c.in-Runs.cloning) (g.W.SwapFile.content c.args.swap.now) c.args.live.now c.args.stack.now.items c.args.args c.args.budget.now c.begin_clone.new.live c.begin_clone.new.stack.items c.begin_clone.new.budget = subst (λ r. Begins r (g.W.SwapFile.content c.args.swap.now) c.args.live.now c.args.stack.now.items c.args.args c.args.budget.now c.begin_clone.new.live c.begin_clone.new.stack.items c.begin_clone.new.budget) c.in-Runs.is c.in_ok-ending.ensures.begins in
+    let home : IsSome (variables_at c.begin_clone.new.live.objects c.in-Make.making.object) = subst (IsHome c.begin_clone.new.live.objects) c.in-Make.is (subst (IsReady c.begin_clone.new.live.objects) c.in-Runs.is c.in_ok-ending.ensures.ready).1 in
+    clone_answers c.args.at c.args.args (g.W.SwapFile.content c.args.swap.now) c.args.live.now c.begin_clone.new.live c.args.stack.now.items c.begin_clone.new.stack.items c.args.asker.now c.args.budget.now c.begin_clone.new.budget c.in-Runs.cloning begins (g.W.SwapFile.content c.make.new.swap) c.make.new.live c.make.new.stack.items c.make.new.asker c.make.new.budget c.cloned.result
+    (subst (λ x. Clones c.args.at c.in-Runs.cloning x c.begin_clone.new.live c.begin_clone.new.stack.items c.args.asker.now c.begin_clone.new.budget (g.W.SwapFile.content c.make.new.swap) c.make.new.live c.make.new.stack.items c.make.new.asker c.make.new.budget c.cloned.result) c.in_ok-ending.ensures.told
+    (subst (λ x. Clones c.args.at x (g.W.SwapFile.content c.begin_clone.new.swap) c.begin_clone.new.live c.begin_clone.new.stack.items c.args.asker.now c.begin_clone.new.budget (g.W.SwapFile.content c.make.new.swap) c.make.new.live c.make.new.stack.items c.make.new.asker c.make.new.budget c.cloned.result) (sym c.in-Make.is)
+    (clone_made c.args.at c.in-Make.making (g.W.SwapFile.content c.begin_clone.new.swap) c.begin_clone.new.live c.begin_clone.new.stack.items c.args.asker.now c.begin_clone.new.budget home (g.W.SwapFile.content c.make.new.swap) c.make.new.live c.make.new.stack.items c.make.new.asker c.make.new.budget c.in_ok-ending-in-Make.ending c.cloned.result
+    c.in_ok-ending-in-Make.ensures.makes c.cloned.ensures.cloned c.cloned.ensures.same)))
+    c.in_ok-ending.ensures.home c.in_ok-ending.ensures.spends
+
+pub load_clone-clone_loaded-requires-clause-stands : goal.load_clone-clone_loaded-requires-clause-stands
+load_clone-clone_loaded-requires-clause-stands g t c =
+    let text : c.in_ok-text.text ≡ chars (string_bytes c.args.name) = c.in_ok-text.ensures ∙ ap chars c.as_str.ensures.value in
+    let loads : Loads (Some c.args.at.this) (Some c.args.at) (chars (string_bytes c.args.name)) purposes.Wanted (g.W.SwapFile.content c.args.swap.now) c.args.live.now c.args.stack.now.items c.args.asker.now c.args.budget.now (g.W.SwapFile.content c.load.new.swap) c.load.new.live c.load.new.stack.items c.load.new.asker c.load.new.budget c.in_ok-answer.answer =
+    subst (λ n. Loads (Some c.args.at.this) (Some c.args.at) n purposes.Wanted (g.W.SwapFile.content c.args.swap.now) c.args.live.now c.args.stack.now.items c.args.asker.now c.args.budget.now (g.W.SwapFile.content c.load.new.swap) c.load.new.live c.load.new.stack.items c.load.new.asker c.load.new.budget c.in_ok-answer.answer) (c.as_slice.ensures ∙ text) c.in_ok-answer.ensures.loads in
+    clone_load_stands c.args.at c.args.name (g.W.SwapFile.content c.args.swap.now) c.args.live.now c.args.stack.now.items c.args.asker.now c.args.budget.now c.law_loads_through.ensures (g.W.SwapFile.content c.load.new.swap) c.load.new.live c.load.new.stack.items c.load.new.asker c.load.new.budget c.in_ok-answer.answer loads c.requires.can
+
+pub load_clone-returns-in-Ends-clause-clones : goal.load_clone-returns-in-Ends-clause-clones
+load_clone-returns-in-Ends-clause-clones g t c =
+    let text : c.in_ok-text.text ≡ chars (string_bytes c.args.name) = c.in_ok-text.ensures ∙ ap chars c.as_str.ensures.value in
+    let loads : Loads (Some c.args.at.this) (Some c.args.at) (chars (string_bytes c.args.name)) purposes.Wanted (g.W.SwapFile.content c.args.swap.now) c.args.live.now c.args.stack.now.items c.args.asker.now c.args.budget.now (g.W.SwapFile.content c.load.new.swap) c.load.new.live c.load.new.stack.items c.load.new.asker c.load.new.budget c.in_ok-answer.answer =
+    subst (λ n. Loads (Some c.args.at.this) (Some c.args.at) n purposes.Wanted (g.W.SwapFile.content c.args.swap.now) c.args.live.now c.args.stack.now.items c.args.asker.now c.args.budget.now (g.W.SwapFile.content c.load.new.swap) c.load.new.live c.load.new.stack.items c.load.new.asker c.load.new.budget c.in_ok-answer.answer) (c.as_slice.ensures ∙ text) c.in_ok-answer.ensures.loads in
+    let ending : c.in_ok-ending.ending ≡ loaded_ending (chars (string_bytes c.args.name)) c.in_ok-answer.answer = c.in_ok-ending.ensures.ending ∙ ap (λ n. loaded_ending n c.in_ok-answer.answer) text in
+    let loaded : LoadedAs (begun.Ends c.in-Ends.ending) (chars (string_bytes c.args.name)) (loaded_ending (chars (string_bytes c.args.name)) c.in_ok-answer.answer) (g.W.SwapFile.content c.load.new.swap) c.load.new.live c.clone_loaded.new.live =
+    subst (λ e. LoadedAs (begun.Ends c.in-Ends.ending) (chars (string_bytes c.args.name)) e (g.W.SwapFile.content c.load.new.swap) c.load.new.live c.clone_loaded.new.live) ending (subst (λ r. LoadedAs r (chars (string_bytes c.args.name)) c.in_ok-ending.ending (g.W.SwapFile.content c.load.new.swap) c.load.new.live c.clone_loaded.new.live) c.in-Ends.is c.in_ok-ending-2.ensures.loaded) in
+    let fit : IsFit c.clone_loaded.new.live c.load.new.stack.items = record { closed = c.in_ok-ending-2.ensures.closed; there = subst (λ cells. All (IsThere cells) c.load.new.stack.items) (sym c.in_ok-ending-2.ensures.cells) loads.fit.there } in
+    subst (λ x. Clones c.args.at (stages.Load c.args.name) (g.W.SwapFile.content c.args.swap.now) c.args.live.now c.args.stack.now.items c.args.asker.now c.args.budget.now x c.clone_loaded.new.live c.load.new.stack.items c.load.new.asker c.load.new.budget c.in-Ends.ending) (sym c.in_ok-ending-2.ensures.told)
+    (clone_load_ends c.args.at c.args.name (g.W.SwapFile.content c.args.swap.now) c.args.live.now c.args.stack.now.items c.args.asker.now c.args.budget.now c.law_loads_through.ensures (g.W.SwapFile.content c.load.new.swap) c.load.new.live c.load.new.stack.items c.load.new.asker c.load.new.budget c.in_ok-answer.answer loads c.in-Ends.ending c.clone_loaded.new.live loaded c.in_ok-ending-2.ensures.home fit
+    (subst (λ cells. IsEndingThere cells c.in-Ends.ending) (sym c.in_ok-ending-2.ensures.cells) (subst (IsBegunThere c.load.new.live.cells) c.in-Ends.is (c.in_ok-ending-2.ensures.there c.load.new.live.cells (c.in_ok-ending.ensures.there c.load.new.live.cells loads.there)))))
+
+pub load_clone-make-requires : goal.load_clone-make-requires
+load_clone-make-requires g t c =
+    let text : c.in_ok-text.text ≡ chars (string_bytes c.args.name) = c.in_ok-text.ensures ∙ ap chars c.as_str.ensures.value in
+    let loads : Loads (Some c.args.at.this) (Some c.args.at) (chars (string_bytes c.args.name)) purposes.Wanted (g.W.SwapFile.content c.args.swap.now) c.args.live.now c.args.stack.now.items c.args.asker.now c.args.budget.now (g.W.SwapFile.content c.load.new.swap) c.load.new.live c.load.new.stack.items c.load.new.asker c.load.new.budget c.in_ok-answer.answer =
+    subst (λ n. Loads (Some c.args.at.this) (Some c.args.at) n purposes.Wanted (g.W.SwapFile.content c.args.swap.now) c.args.live.now c.args.stack.now.items c.args.asker.now c.args.budget.now (g.W.SwapFile.content c.load.new.swap) c.load.new.live c.load.new.stack.items c.load.new.asker c.load.new.budget c.in_ok-answer.answer) (c.as_slice.ensures ∙ text) c.in_ok-answer.ensures.loads in
+    let ending : c.in_ok-ending.ending ≡ loaded_ending (chars (string_bytes c.args.name)) c.in_ok-answer.answer = c.in_ok-ending.ensures.ending ∙ ap (λ n. loaded_ending n c.in_ok-answer.answer) text in
+    let loaded : LoadedAs (begun.Runs (stages.Make c.in-Make.making)) (chars (string_bytes c.args.name)) (loaded_ending (chars (string_bytes c.args.name)) c.in_ok-answer.answer) (g.W.SwapFile.content c.load.new.swap) c.load.new.live c.clone_loaded.new.live =
+    subst (λ e. LoadedAs (begun.Runs (stages.Make c.in-Make.making)) (chars (string_bytes c.args.name)) e (g.W.SwapFile.content c.load.new.swap) c.load.new.live c.clone_loaded.new.live) ending (subst (λ x. LoadedAs (begun.Runs x) (chars (string_bytes c.args.name)) c.in_ok-ending.ending (g.W.SwapFile.content c.load.new.swap) c.load.new.live c.clone_loaded.new.live) c.in-Make.is (subst (λ r. LoadedAs r (chars (string_bytes c.args.name)) c.in_ok-ending.ending (g.W.SwapFile.content c.load.new.swap) c.load.new.live c.clone_loaded.new.live) c.in-Runs.is c.in_ok-ending-2.ensures.loaded)) in
+    let fit : IsFit c.clone_loaded.new.live c.load.new.stack.items = record { closed = c.in_ok-ending-2.ensures.closed; there = subst (λ cells. All (IsThere cells) c.load.new.stack.items) (sym c.in_ok-ending-2.ensures.cells) loads.fit.there } in
+    let home : IsSome (variables_at c.clone_loaded.new.live.objects c.in-Make.making.object) = subst (IsHome c.clone_loaded.new.live.objects) c.in-Make.is (subst (IsReady c.clone_loaded.new.live.objects) c.in-Runs.is c.in_ok-ending-2.ensures.ready).1 in
+    let less = loads.spends in
+    λ κs within. (
+      omega (arith, less),
+      (
+        within,
+        (
+          home,
+          (
+            fit,
+            clone_can_make c.args.at c.in-Make.making (g.W.SwapFile.content c.clone_loaded.new.swap) c.clone_loaded.new.live c.load.new.stack.items c.load.new.asker c.load.new.budget home
+                (subst (λ x. CanClone c.args.at (stages.Make c.in-Make.making) x c.clone_loaded.new.live c.load.new.asker c.load.new.budget) (sym c.in_ok-ending-2.ensures.told) (clone_load_can c.args.at c.args.name (g.W.SwapFile.content c.args.swap.now) c.args.live.now c.args.stack.now.items c.args.asker.now c.args.budget.now c.law_loads_through.ensures (g.W.SwapFile.content c.load.new.swap) c.load.new.live c.load.new.stack.items c.load.new.asker c.load.new.budget c.in_ok-answer.answer loads c.in-Make.making c.clone_loaded.new.live loaded c.requires.can)),
+          ),
+        ),
+      ),
+    )
+
+pub load_clone-returns-in-Make-clause-clones : goal.load_clone-returns-in-Make-clause-clones
+load_clone-returns-in-Make-clause-clones g t c =
+    let text : c.in_ok-text.text ≡ chars (string_bytes c.args.name) = c.in_ok-text.ensures ∙ ap chars c.as_str.ensures.value in
+    let loads : Loads (Some c.args.at.this) (Some c.args.at) (chars (string_bytes c.args.name)) purposes.Wanted (g.W.SwapFile.content c.args.swap.now) c.args.live.now c.args.stack.now.items c.args.asker.now c.args.budget.now (g.W.SwapFile.content c.load.new.swap) c.load.new.live c.load.new.stack.items c.load.new.asker c.load.new.budget c.in_ok-answer.answer =
+    subst (λ n. Loads (Some c.args.at.this) (Some c.args.at) n purposes.Wanted (g.W.SwapFile.content c.args.swap.now) c.args.live.now c.args.stack.now.items c.args.asker.now c.args.budget.now (g.W.SwapFile.content c.load.new.swap) c.load.new.live c.load.new.stack.items c.load.new.asker c.load.new.budget c.in_ok-answer.answer) (c.as_slice.ensures ∙ text) c.in_ok-answer.ensures.loads in
+    let ending : c.in_ok-ending.ending ≡ loaded_ending (chars (string_bytes c.args.name)) c.in_ok-answer.answer = c.in_ok-ending.ensures.ending ∙ ap (λ n. loaded_ending n c.in_ok-answer.answer) text in
+    let loaded : LoadedAs (begun.Runs (stages.Make c.in-Make.making)) (chars (string_bytes c.args.name)) (loaded_ending (chars (string_bytes c.args.name)) c.in_ok-answer.answer) (g.W.SwapFile.content c.load.new.swap) c.load.new.live c.clone_loaded.new.live =
+    subst (λ e. LoadedAs (begun.Runs (stages.Make c.in-Make.making)) (chars (string_bytes c.args.name)) e (g.W.SwapFile.content c.load.new.swap) c.load.new.live c.clone_loaded.new.live) ending (subst (λ x. LoadedAs (begun.Runs x) (chars (string_bytes c.args.name)) c.in_ok-ending.ending (g.W.SwapFile.content c.load.new.swap) c.load.new.live c.clone_loaded.new.live) c.in-Make.is (subst (λ r. LoadedAs r (chars (string_bytes c.args.name)) c.in_ok-ending.ending (g.W.SwapFile.content c.load.new.swap) c.load.new.live c.clone_loaded.new.live) c.in-Runs.is c.in_ok-ending-2.ensures.loaded)) in
+    let home : IsSome (variables_at c.clone_loaded.new.live.objects c.in-Make.making.object) = subst (IsHome c.clone_loaded.new.live.objects) c.in-Make.is (subst (IsReady c.clone_loaded.new.live.objects) c.in-Runs.is c.in_ok-ending-2.ensures.ready).1 in
+    clone_load_goes c.args.at c.args.name (g.W.SwapFile.content c.args.swap.now) c.args.live.now c.args.stack.now.items c.args.asker.now c.args.budget.now c.law_loads_through.ensures (g.W.SwapFile.content c.load.new.swap) c.load.new.live c.load.new.stack.items c.load.new.asker c.load.new.budget c.in_ok-answer.answer loads c.in-Make.making c.clone_loaded.new.live loaded (g.W.SwapFile.content c.make.new.swap) c.make.new.live c.make.new.stack.items c.make.new.asker c.make.new.budget c.cloned.result
+    (subst (λ x. Clones c.args.at (stages.Make c.in-Make.making) x c.clone_loaded.new.live c.load.new.stack.items c.load.new.asker c.load.new.budget (g.W.SwapFile.content c.make.new.swap) c.make.new.live c.make.new.stack.items c.make.new.asker c.make.new.budget c.cloned.result) c.in_ok-ending-2.ensures.told
+    (clone_made c.args.at c.in-Make.making (g.W.SwapFile.content c.clone_loaded.new.swap) c.clone_loaded.new.live c.load.new.stack.items c.load.new.asker c.load.new.budget home (g.W.SwapFile.content c.make.new.swap) c.make.new.live c.make.new.stack.items c.make.new.asker c.make.new.budget c.in_ok-ending-in-Make.ending c.cloned.result
+    c.in_ok-ending-in-Make.ensures.makes c.cloned.ensures.cloned c.cloned.ensures.same))
+    c.in_ok-ending-2.ensures.home

@@ -18,28 +18,34 @@ use Rattle.lp_vm.proofs.cycle.+calls.Given as goal
 
 -- 1 is paid before a function runs, and 1000 before a load; else each calls those that stand before it
 abbrev pub decreases-answer : goal.decreases-answer
-decreases-answer g l = 6 * l.budget.now
+decreases-answer g l = 7 * l.budget.now
 
 abbrev pub decreases-load : goal.decreases-load
-decreases-load g l = 6 * l.budget.now
+decreases-load g l = 7 * l.budget.now
 
 abbrev pub decreases-make : goal.decreases-make
-decreases-make g l = 6 * l.budget.now + 1
+decreases-make g l = 7 * l.budget.now + 1
 
 abbrev pub decreases-work : goal.decreases-work
-decreases-work g l = 6 * l.budget.now + 1
+decreases-work g l = 7 * l.budget.now + 1
 
 abbrev pub decreases-load_on : goal.decreases-load_on
-decreases-load_on g l = 6 * l.budget.now + 2
+decreases-load_on g l = 7 * l.budget.now + 2
+
+abbrev pub decreases-load_clone : goal.decreases-load_clone
+decreases-load_clone g l = 7 * l.budget.now + 2
+
+abbrev pub decreases-call_clone : goal.decreases-call_clone
+decreases-call_clone g l = 7 * l.budget.now + 3
 
 abbrev pub decreases-call_efun : goal.decreases-call_efun
-decreases-call_efun g l = 6 * l.budget.now + 3
+decreases-call_efun g l = 7 * l.budget.now + 4
 
 abbrev pub decreases-serve : goal.decreases-serve
-decreases-serve g l = 6 * l.budget.now + 4
+decreases-serve g l = 7 * l.budget.now + 5
 
 abbrev pub decreases-go : goal.decreases-go
-decreases-go g l = 6 * l.budget.now + 5
+decreases-go g l = 7 * l.budget.now + 6
 
 -- what the rest of the run ends with is what all of it ends with
 abbrev pub invariant-go-turns : goal.invariant-go-turns
