@@ -1,5 +1,5 @@
 -- Starting the driver, and what a replay has written before that.
-use Rattle.std.proofs.Common.{subst, ◌≡◌, ◌∙◌, ◌≤◌, ◌^◌, ℕ, List, [], ◌∷◌, ◌++◌, length, true, false, Option, Some, refl, sym, ap}
+use Rattle.std.proofs.Common.{subst, ◌≡◌, ◌∙◌, ◌≤◌, ◌^◌, ℕ, List, [], ◌∷◌, ◌++◌, length, Bool, true, false, Option, Some, refl, sym, ap, inr}
 use Rattle.std.proofs.lemmas.List.{append-nil}
 use Rattle.lp_tree.specs.declared.fault.Fault.{Fault}
 use Rattle.lp_swapfile.specs.Device.{Bytes}
@@ -116,3 +116,13 @@ replays-unstarted b r told from opening faults.NotYet at a h p = record {
 -- reading ended before `start`
 pub replays-early : (b : List ℕ) (from : Option (List ℕ)) (s : Status) (xs : List Item) → has_started xs ≡ false → Ends b xs s → IsReadingEnd s → Replays b s from from
 replays-early b from s xs n e k = record { read = xs; ends = e; wrote = λ old f. ([], nothing-more from old f, wrote-reading b xs [] s k (before n)) }
+
+abbrev is_done : Status → Bool
+is_done ends.Done = true
+is_done s = false
+
+-- what was not carried out is not done
+pub stop-not-done : (at : ℕ) (e : VmFault) → stop_status at e ≡ ends.Done → ⊥
+stop-not-done at faults.NoMemory e = let h : false ≡ true = ap is_done e in absurd cc
+stop-not-done at (faults.Swap cause) e = let h : false ≡ true = ap is_done e in absurd cc
+stop-not-done at faults.NotYet e = let h : false ≡ true = ap is_done e in absurd cc

@@ -123,7 +123,7 @@ made-not-none : OneEnd Start → ThereIsOne → (xs : List Item) (fs : List Faul
 made-not-none one there xs fs made none =
     let t = made there.0 there.1 in
     let m = none there.0 there.1 in
-    let h = ap begins_so (one there.0 _ _ _ t.2.ends m.ends) in
+    let h : true ≡ false = ap begins_so (one there.0 _ _ _ t.2.ends m.ends) in
     absurd cc
 
 -- the master of a script is that of the items before its start

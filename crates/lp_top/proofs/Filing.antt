@@ -3,6 +3,7 @@ use Rattle.std.proofs.Common.{subst, ◌≡◌, ◌∙◌, ◌≤◌, ◌^◌, �
 use Rattle.std.specs.Prelude.{if◌then◌else◌, Ok, option_map, find}
 use Rattle.std.specs.Str.{bytes_eq}
 use Rattle.std.proofs.lemmas.List.{append-nil, map-append}
+use Rattle.lp_io.specs.Told.{before_giving}
 use Rattle.lp_events.specs.declared.event.Event.{Event}
 use Rattle.lp_events.specs.declared.event.Event.TheVariants.{Connect, Line, Gone, Tick, Reload, Swap}
 use Rattle.lp_events.specs.declared.item.Item.{Item}
@@ -38,6 +39,11 @@ filing-fresh opening f s m = record {
   not_started = refl;
   noted = record { files = f; seed = s; moment = m };
 }
+
+-- nothing was taken before
+pub nothing-before : (told : Option (List ℕ)) (b : List ℕ) → told ≡ Some b → before_giving [] told ≡ Some b
+nothing-before None b h = h
+nothing-before (Some rest) b h = h
 
 -- before `start` a script is in its beginning or its files
 abbrev pub is_early : Stage → Bool
@@ -168,7 +174,7 @@ head-first (items.End ∷ xs) seed moment f = absurd (stages-apart Running Begin
 -- the moment of a head is one that the driver may start at
 pub moment-small : (xs : List Item) → AllFit beginning xs → moment_of xs ≤ 10 ^ 12
 moment-small [] f = omega arith
-moment-small (items.Head seed moment ∷ xs) f = f.0.2
+moment-small (items.Head seed moment ∷ xs) f = let l : moment ≤ 1000000000000 = f.0.2 in omega (arith, l)
 moment-small (items.File path bytes ∷ xs) f = omega arith
 moment-small (items.Start ∷ xs) f = omega arith
 moment-small (items.Event event ∷ xs) f = omega arith

@@ -25,16 +25,9 @@ use Rattle.lp_script.specs.declared.phase.Ending.TheVariants.{Whole}
 use Rattle.lp_top.specs.declared.status.Status.{Status}
 use Rattle.lp_top.specs.declared.status.Status.TheVariants as ends
 use Rattle.lp_top.specs.Items.{Holds, StopsAt, IsRunOf, Blocks, before, started, has_started, has_turn, moment_of, world_files}
-use Rattle.lp_top.specs.Replay.{AreOf, IsDone, IsGoing, HasRun, EndsReading, IsReadingEnd, Wrote, Replays, Interrupts, Finishes, IsReplayEnd}
+use Rattle.lp_top.specs.Replay.{AreOf, IsDone, IsGoing, HasRun, IsRunning, EndsReading, IsReadingEnd, Wrote, Replays, Interrupts, Finishes, IsReplayEnd}
 use Rattle.lp_top.proofs.Reading.{begins_with, at_phase, cut_is, spellings-append}
 use Rattle.lp_top.proofs.Filing.{world_files-same, last-fits, seed-same, moment-same, is_head}
-
--- Items were carried out with these outputs: the state stands for the world after them, and their blocks are written.
-pub record IsRunning (r : Reading) (told : Option Bytes) (live : Live) (from now : Option (List ℕ)) : Type 0 where
-  pub read : List Item
-  pub outputs : List (List Out)
-  pub going : IsGoing r told live read outputs
-  pub written : now ≡ after_adding from (blocks outputs)
 
 pub events-append : (xs ys : List Item) → events_of (xs ++ ys) ≡ events_of xs ++ events_of ys
 events-append [] ys = refl
@@ -276,9 +269,9 @@ blocks-event r told told1 live live1 xs outputs e outs g t =
     (started (outputs ++ outs ∷ []) (started-push xs (items.Event e) g.started) (λ front real. let h = has_run-more front real xs outputs told told1 live live1 e outs (g.runs front real) t in (h.last, h.run)))
 
 -- an event was not carried out whole
-pub replays-stopped : (b : List ℕ) (r new : Reading) (told told1 : Option Bytes) (live : Live) (next_told from now next : Option (List ℕ)) (s : Status) (e : Event) (at : ℕ) (h : IsRunning r told live from now)
+pub replays-stopped : (b : List ℕ) (r new : Reading) (told : Option Bytes) (live : Live) (next_told from now next : Option (List ℕ)) (s : Status) (e : Event) (at : ℕ) (h : IsRunning r told live from now)
     → Reads b new next_told → HasGiven new (h.read ++ items.Event e ∷ []) → IsAfter (Ok (items.Event e)) new.phase → at ≡ r.cut → Interrupts (AreOf e told live) at now next s → Replays b s from next
-replays-stopped b r new told told1 live next_told from now next s e at h n v p place i =
+replays-stopped b r new told live next_told from now next s e at h n v p place i =
     replays-interrupted b h.read (items.Event e) (blocks h.outputs) (AreOf e told live) at from now next s
     (begins_with b new next_told (h.read ++ items.Event e ∷ []) n (subst GoesOn (sym p) tt) v) refl
     (blocks-running r told live h.read h.outputs h.going) (λ outs u. blocks-event r told u.0 live u.1 h.read h.outputs e outs h.going u.2)

@@ -1,5 +1,5 @@
 -- What the swap file did, step by step.
-use Rattle.std.proofs.Common.{subst, ◌≡◌, ℕ, Bool, true, false, Option, refl}
+use Rattle.std.proofs.Common.{subst, ◌≡◌, ℕ, List, Bool, true, false, Option, refl}
 use Rattle.std.specs.Prelude.{Ok, Err}
 use Rattle.lp_swapfile.specs.Counts.{Counts, Rose}
 use Rattle.lp_swapfile.specs.Device.{Bytes, Last}
@@ -11,6 +11,9 @@ use Rattle.lp_vm.specs.declared.fault.VmFault.{VmFault}
 use Rattle.lp_vm.specs.declared.fault.VmFault.TheVariants as faults
 use Rattle.lp_top.specs.declared.status.Status.{Status}
 use Rattle.lp_top.specs.declared.status.Status.TheVariants as ends
+use Rattle.lp_top.specs.Check.{IsCheckEnd}
+use Rattle.lp_top.specs.Make.{IsMakeEnd}
+use Rattle.lp_top.specs.Replay.{Finishes, IsReadingEnd}
 use Rattle.lp_top.specs.Causes.{SwapTells, IsHonestEnd, is_read_end, stop_status}
 
 abbrev pub is_swap : Status → Bool
@@ -65,3 +68,48 @@ stop-tells at (faults.Swap (Changed owner found)) told last r0 r1 w0 w1 t0 t1 h0
 pub never-blamed : (s : Status) (told : Option Bytes) (last : Last) (r0 r1 : ℕ) (t0 t1 h0 h1 : Type 0) → SwapTells s told last r0 r1 t0 t1 h0 h1 → h1 → t1 → (Rose r0 r1 → ⊥) → (cause : SwapCause) → s ≡ ends.SwapFault cause → ⊥
 never-blamed s told last r0 r1 t0 t1 h0 h1 a h t n Read e = n (subst (λ x. Counts (is_read_end x) r0 r1) e a.faults)
 never-blamed s told last r0 r1 t0 t1 h0 h1 a h t n (Changed owner found) e = subst IsHonestEnd e ((a.honest h).1 t)
+
+-- these ends are no faults of the device
+pub reading-calm : (s : Status) → IsReadingEnd s → is_swap s ≡ false
+reading-calm (ends.BadScript at) k = refl
+reading-calm ends.TooLarge k = refl
+reading-calm ends.InputFault k = refl
+reading-calm ends.NoMemory k = refl
+reading-calm ends.Done k = absurd k
+reading-calm ends.BadWords k = absurd k
+reading-calm (ends.NoMaster fs) k = absurd k
+reading-calm ends.OutputFault k = absurd k
+reading-calm (ends.SwapFault cause) k = absurd k
+
+pub finish-calm : (last : List ℕ) (before after : Option (List ℕ)) (s : Status) → Finishes last before after s → is_swap s ≡ false
+finish-calm last before after ends.Done i = refl
+finish-calm last before after ends.OutputFault i = refl
+finish-calm last before after ends.BadWords i = absurd i
+finish-calm last before after (ends.BadScript at) i = absurd i
+finish-calm last before after (ends.NoMaster fs) i = absurd i
+finish-calm last before after ends.TooLarge i = absurd i
+finish-calm last before after ends.InputFault i = absurd i
+finish-calm last before after (ends.SwapFault cause) i = absurd i
+finish-calm last before after ends.NoMemory i = absurd i
+
+pub check-calm : (s : Status) → IsCheckEnd s → is_swap s ≡ false
+check-calm ends.Done i = refl
+check-calm ends.OutputFault i = refl
+check-calm ends.BadWords i = absurd i
+check-calm (ends.BadScript at) i = refl
+check-calm (ends.NoMaster fs) i = absurd i
+check-calm ends.TooLarge i = refl
+check-calm ends.InputFault i = refl
+check-calm (ends.SwapFault cause) i = absurd i
+check-calm ends.NoMemory i = refl
+
+pub make-calm : (s : Status) → IsMakeEnd s → is_swap s ≡ false
+make-calm ends.Done i = refl
+make-calm ends.OutputFault i = refl
+make-calm ends.NoMemory i = refl
+make-calm ends.BadWords i = absurd i
+make-calm (ends.BadScript at) i = absurd i
+make-calm (ends.NoMaster fs) i = absurd i
+make-calm ends.TooLarge i = absurd i
+make-calm ends.InputFault i = absurd i
+make-calm (ends.SwapFault cause) i = absurd i

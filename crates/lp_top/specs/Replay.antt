@@ -6,7 +6,7 @@ use Rattle.lp_events.specs.declared.item.Item.{Item}
 use Rattle.lp_events.specs.declared.item.Item.TheVariants as items
 use Rattle.lp_events.specs.declared.out.Out.{Out}
 use Rattle.lp_events.specs.Script.{IsScript, IsBadScript, IsTooLarge, seed_of, events_of, spellings, longest_input}
-use Rattle.lp_events.specs.Transcript.{block, transcript}
+use Rattle.lp_events.specs.Transcript.{block, blocks, transcript}
 use Rattle.lp_swapfile.specs.Device.{Bytes}
 use Rattle.lp_language.specs.World.{World}
 use Rattle.lp_meaning.specs.FrontEnd.{FrontEnd}
@@ -90,6 +90,13 @@ pub record IsGoing (r : Reading) (told : Option Bytes) (live : Live) (xs : List 
   pub runs : (front : FrontEnd) → IsFrontEnd front → HasRun front xs outputs told live
   pub closed : IsClosed live
   pub rest : (w : World) × IsAtRest told live w
+
+-- Items were carried out with these outputs: the state stands for the world after them, and their blocks are written.
+pub record IsRunning (r : Reading) (told : Option Bytes) (live : Live) (from now : Option (List ℕ)) : Type 0 where
+  pub read : List Item
+  pub outputs : List (List Out)
+  pub going : IsGoing r told live read outputs
+  pub written : now ≡ after_adding from (blocks outputs)
 
 -- the ends that reading may give
 abbrev pub IsReadingEnd : Status → Type 0

@@ -1,5 +1,5 @@
 //! The command `replay`: reads a script, and writes its transcript.
-ghost use Rattle.std.specs.Prelude.{◌≡◌, ℕ, ◌≤◌, List, [], ◌∷◌, ◌++◌, Some, IfErr, OnOk};
+ghost use Rattle.std.specs.Prelude.{◌≡◌, ℕ, ◌≤◌, List, [], ◌∷◌, ◌++◌, Some, IfErr, OnOk, Option};
 ghost use Rattle.lp_events.specs.declared.item.Item.{Item as I};
 ghost use Rattle.lp_events.specs.declared.out.Out.{Out as O};
 ghost use Rattle.lp_io.specs.Told.{IsPassedOn};
@@ -8,7 +8,7 @@ ghost use Rattle.lp_world.specs.Closed.{IsClosed};
 ghost use Rattle.lp_driver.specs.Driving.{IsAtRest};
 ghost use Rattle.lp_script.specs.Reader.{GoneAtMost, Reads};
 ghost use Rattle.lp_top.specs.Causes.{BlamesInput, BlamesOutput, SwapTells, end_in, stop_status};
-ghost use Rattle.lp_top.specs.Replay.{AreOf, Interrupts, IsAtStart, IsDone, IsGoing, IsReplayEnd, Replays};
+ghost use Rattle.lp_top.specs.Replay.{AreOf, Interrupts, IsAtStart, IsDone, IsGoing, IsReplayEnd, IsRunning, Replays};
 
 use crate::finish::finish;
 use crate::opening::{Opening, next_item, open};
@@ -63,8 +63,67 @@ fn carry_out<K: Sink, W: Truthful>(
     }
 }
 
-// Writes the block of the start, and carries out the events up to the end.
+// The same with an event that is used up.
+fn carry<K: Sink, W: Truthful>(
+    live: &mut Live,
+    event: Event,
+    at: u64,
+    out: &mut K,
+    swap: &mut W,
+) -> Result<(), Status>
+    requires closed { IsClosed live.old }
+    requires rest { (w : World) × IsAtRest (W.content swap.old) live.old w }
+    ensures done { OnOk result (IsDone event (W.content swap.old) live.old (W.content swap.new) live.new (K.written out.old) (K.written out.new)) }
+    ensures end { IfErr result (Interrupts (AreOf event (W.content swap.old) live.old) at (K.written out.old) (K.written out.new)) }
+    ensures cause { IfErr result (λ s. BlamesOutput s (K.faults out.old) (K.faults out.new) (K.zeros out.old) (K.zeros out.new)) }
+    ensures no_fall { K.faults out.old ≤ K.faults out.new }
+    ensures zeros_no_fall { K.zeros out.old ≤ K.zeros out.new }
+    ensures swap { SwapTells (end_in result) (W.content swap.new) (W.last swap.new) (W.read_faults swap.old) (W.read_faults swap.new)
+        (W.is_truthful swap.old) (W.is_truthful swap.new) (W.is_honest swap.old) (W.is_honest swap.new) }
+{
+    carry_out(live, &event, at, out, swap)
+}
+
+// Carries out the events up to the end.
 fn events<S: Source, K: Sink, W: Truthful>(
+    reader: &mut Reader,
+    input: &mut S,
+    out: &mut K,
+    swap: &mut W,
+    live: Live,
+) -> Status
+    requires { (from : Option (List ℕ)) × IsRunning reader.old (W.content swap.old) live from (K.written out.old) }
+    ensures replays { (b : List ℕ) (from : Option (List ℕ)) → IsRunning reader.old (W.content swap.old) live from (K.written out.old) → Reads b reader.old (S.remaining input.old) → Replays b result from (K.written out.new) }
+    ensures whole { result ≡ Status.Done → (b : List ℕ) → Reads b reader.old (S.remaining input.old) → S.remaining input.new ≡ Some [] }
+    ensures most { (b : List ℕ) → Reads b reader.old (S.remaining input.old) → GoneAtMost b (S.remaining input.new) }
+    ensures passed { result ≡ Status.Done → IsPassedOn (K.passed out.new) }
+    ensures kind { IsReplayEnd result }
+    ensures input_cause { BlamesInput result (S.faults input.old) (S.faults input.new) }
+    ensures output_cause { BlamesOutput result (K.faults out.old) (K.faults out.new) (K.zeros out.old) (K.zeros out.new) }
+    ensures swap { SwapTells result (W.content swap.new) (W.last swap.new) (W.read_faults swap.old) (W.read_faults swap.new)
+        (W.is_truthful swap.old) (W.is_truthful swap.new) (W.is_honest swap.old) (W.is_honest swap.new) }
+{
+    let mut live = live;
+    loop {
+        let item = match next_item(reader, input) {
+            Ok(item) => item,
+            Err(status) => return status,
+        };
+        match item {
+            Item::Event(event) => match carry(&mut live, event, reader.at(), out, swap) {
+                Ok(()) => {}
+                Err(status) => return status,
+            },
+            Item::End => return finish(out, b"end\n"),
+            Item::Head(_, _) => unreachable!(),
+            Item::File(_path, _bytes) => unreachable!(),
+            Item::Start => unreachable!(),
+        }
+    }
+}
+
+// Writes the block of the start, and carries out the events.
+fn begun<S: Source, K: Sink, W: Truthful>(
     reader: &mut Reader,
     input: &mut S,
     out: &mut K,
@@ -84,25 +143,8 @@ fn events<S: Source, K: Sink, W: Truthful>(
         (W.is_truthful swap.old) (W.is_truthful swap.new) (W.is_honest swap.old) (W.is_honest swap.new) }
 {
     match write_outs(out, outs) {
-        Ok(()) => {}
-        Err(_) => return Status::OutputFault,
-    }
-    let mut live = live;
-    loop {
-        let item = match next_item(reader, input) {
-            Ok(item) => item,
-            Err(status) => return status,
-        };
-        match item {
-            Item::Event(event) => match carry_out(&mut live, &event, reader.at(), out, swap) {
-                Ok(()) => {}
-                Err(status) => return status,
-            },
-            Item::End => return finish(out, b"end\n"),
-            Item::Head(_, _) => unreachable!(),
-            Item::File(_path, _bytes) => unreachable!(),
-            Item::Start => unreachable!(),
-        }
+        Ok(()) => events(reader, input, out, swap, live),
+        Err(_) => Status::OutputFault,
     }
 }
 
@@ -133,7 +175,7 @@ fn begin<S: Source, K: Sink, W: Truthful>(
         moment,
     } = opening;
     match start(alloc, store, seed, moment, swap) {
-        Ok((live, outs)) => events(reader, input, out, swap, live, &outs),
+        Ok((live, outs)) => begun(reader, input, out, swap, live, &outs),
         Err(StartFault::NoMaster { faults }) => Status::NoMaster {
             faults: Faults::from_vec(faults),
         },

@@ -3,7 +3,7 @@ use Rattle.std.proofs.Math.Nat.{le_trans}
 use Rattle.lp_events.specs.Script.{longest_input}
 use Rattle.lp_script.specs.Reader.{HasGiven}
 use Rattle.lp_top.proofs.Reading.{begins_with, goes_on, cut_within}
-use Rattle.lp_top.proofs.Filing.{filing-more, filing-start, filing-ends, end-not-early, end-is, inner-is, inner-goes, inner-not_started, not_started-push, start-is}
+use Rattle.lp_top.proofs.Filing.{IsFiling, filing-fresh, filing-more, filing-start, filing-ends, end-not-early, end-is, inner-is, inner-goes, inner-not_started, not_started-push, nothing-before, start-is}
 use Rattle.lp_top.proofs.opening.open.Goals as goal
 
 pub loop-item-smaller : goal.loop-item-smaller
@@ -14,6 +14,13 @@ loop-item-smaller g c =
     let within : c.next_item.new.reader.cut ≤ longest_input = cut_within c.next_item.new.reader _ v in
     omega arith
 
+
+pub loop-item-init : goal.loop-item-init
+loop-item-init g c = record {
+  filing = subst (λ r. IsFiling r c.no_opening-opening.result) (sym c.requires) (filing-fresh c.no_opening-opening.result c.no_opening-opening.ensures.files c.no_opening-opening.ensures.seed c.no_opening-opening.ensures.moment);
+  reads = λ b h. rw c.requires (nothing-before _ b h);
+  no_fall = omega arith;
+}
 
 pub loop-item-preserved : goal.loop-item-preserved
 loop-item-preserved g c =
