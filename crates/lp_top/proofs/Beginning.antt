@@ -1,12 +1,12 @@
 -- Starting the driver, and what a replay has written before that.
-use Rattle.std.proofs.Common.{subst, ◌≡◌, ◌∙◌, ◌≤◌, ◌^◌, ℕ, List, [], ◌∷◌, ◌++◌, length, Bool, true, false, Option, Some, refl, sym, ap, inr}
+use Rattle.std.proofs.Common.{subst, ◌≡◌, ◌∙◌, ◌≤◌, ◌^◌, ℕ, List, [], ◌∷◌, ◌++◌, Bool, true, false, Option, Some, refl, sym, ap, inr}
 use Rattle.std.proofs.lemmas.List.{append-nil}
 use Rattle.lp_tree.specs.declared.fault.Fault.{Fault}
 use Rattle.lp_swapfile.specs.Device.{Bytes}
 use Rattle.lp_events.specs.declared.item.Item.{Item}
 use Rattle.lp_events.specs.declared.item.Item.TheVariants as items
 use Rattle.lp_events.specs.declared.out.Out.{Out}
-use Rattle.lp_events.specs.Script.{beginning, after_item, AllFit, Context, spellings, seed_of, events_of}
+use Rattle.lp_events.specs.Script.{beginning, after_item, AllFit, Context, seed_of, events_of}
 use Rattle.lp_language.specs.World.{World}
 use Rattle.lp_meaning.specs.FrontEnd.{FrontEnd}
 use Rattle.lp_meaning.specs.Closing.{MakesNoMaster, over}
@@ -70,7 +70,7 @@ going-start r opening told live outs a s closed rest = record {
   phase = a.phase;
   started = started-last a.files;
   runs = λ front real. has_run-start front a.files outs told live (events-none r opening a)
-  (of-items r opening a (λ seed moment. HasStarted front (world_files a.files) seed moment told live outs) (s front (world_files a.files) real a.noted.files));
+      (of-items r opening a (λ seed moment. HasStarted front (world_files a.files) seed moment told live outs) (s front (world_files a.files) real a.noted.files));
   closed = closed;
   rest = rest;
 }

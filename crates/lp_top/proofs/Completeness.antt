@@ -1,5 +1,5 @@
 -- A script of whose files a master is made is never refused.
-use Rattle.std.proofs.Common.{subst, ◌≡◌, ◌∙◌, ◌<◌, ◌≤◌, ◌+◌, ℕ, List, [], ◌∷◌, ◌++◌, length, map, take, drop, Bool, true, false, refl, sym, ap, arith, append_assoc, ◌⊎◌, inl, inr}
+use Rattle.std.proofs.Common.{subst, ◌≡◌, ◌∙◌, ◌<◌, ◌≤◌, ℕ, List, [], ◌∷◌, ◌++◌, length, map, take, drop, Bool, true, false, refl, sym, ap, arith, append_assoc, ◌⊎◌, inl, inr}
 use Rattle.std.proofs.lemmas.Bool.{cases_lt}
 use Rattle.std.proofs.lemmas.List.{append-nil, take_all, take-append-drop}
 use Rattle.lp_tree.specs.declared.fault.Fault.{Fault}
@@ -8,8 +8,9 @@ use Rattle.lp_events.specs.declared.item.Item.{Item}
 use Rattle.lp_events.specs.declared.item.Item.TheVariants as items
 use Rattle.lp_events.specs.Script.{beginning, after_item, after_items, AllFit, Fits, Context, Stage, Beginning, Filing, Running, Over, spelling, spellings, files_of, seed_of, longest_input, IsScript, IsBadScript}
 use Rattle.lp_language.specs.Course.{End, Gives, Stops}
+use Rattle.lp_language.specs.World.{new_world}
 use Rattle.lp_meaning.specs.ClosingLaws.{OneEnd}
-use Rattle.lp_meaning.specs.EventTurns.{Begins, NoMaster, Start}
+use Rattle.lp_meaning.specs.EventTurns.{Begins, NoMaster, Start, starting, at_rest}
 use Rattle.lp_meaning.specs.Closing.{Starts}
 use Rattle.lp_front_end.specs.FrontEnds.{ThereIsOne}
 use Rattle.lp_top.specs.declared.status.Status.{Status}
@@ -123,7 +124,7 @@ made-not-none : OneEnd Start → ThereIsOne → (xs : List Item) (fs : List Faul
 made-not-none one there xs fs made none =
     let t = made there.0 there.1 in
     let m = none there.0 there.1 in
-    let h : true ≡ false = ap begins_so (one there.0 _ _ _ t.2.ends m.ends) in
+    let h : true ≡ false = ap begins_so (one there.0 (starting (at_rest (new_world (world_files xs) (seed_of xs) (moment_of xs)))) (Gives Begins t.2.at_end) (Gives (NoMaster fs) m.at_end) t.2.ends m.ends) in
     absurd cc
 
 -- the master of a script is that of the items before its start
@@ -132,12 +133,11 @@ master-before xs zs ys e f m front real =
     let w = m front real in
     let fs : world_files ys ≡ world_files xs = ap (map world_file) (ap files_of e ∙ files-before beginning xs zs (subst (AllFit beginning) e f)) in
     let s : seed_of ys ≡ seed_of xs = ap seed_of e ∙ seed-before xs zs in
-    let n : moment_of ys ≡ moment_of xs = ap moment_of e ∙ moment-before xs zs in
-    (
+    let n : moment_of ys ≡ moment_of xs = ap moment_of e ∙ moment-before xs zs in (
       w.0,
       w.1,
       subst (λ gs. Starts front gs (seed_of xs) (moment_of xs) w.0 w.1) fs
-      (subst (λ k. Starts front (world_files ys) k (moment_of xs) w.0 w.1) s (subst (λ k. Starts front (world_files ys) (seed_of ys) k w.0 w.1) n w.2)),
+          (subst (λ k. Starts front (world_files ys) k (moment_of xs) w.0 w.1) s (subst (λ k. Starts front (world_files ys) (seed_of ys) k w.0 w.1) n w.2)),
     )
 
 -- a script of whose files a master is made is carried out, to its end or up to an item that is not carried out yet, or memory runs out

@@ -1,6 +1,6 @@
 -- Reading the items of a script before `start`.
-use Rattle.std.proofs.Common.{subst, ◌≡◌, ◌∙◌, ◌≤◌, ◌^◌, ℕ, List, [], ◌∷◌, ◌++◌, length, map, Bool, true, false, Option, Some, None, nat_eq, refl, sym, ap, arith, ◌⊎◌, inl, inr}
-use Rattle.std.specs.Prelude.{if◌then◌else◌, Ok, option_map, find}
+use Rattle.std.proofs.Common.{subst, ◌≡◌, ◌∙◌, ◌≤◌, ◌^◌, ℕ, List, [], ◌∷◌, ◌++◌, map, Bool, true, false, Option, Some, None, nat_eq, refl, sym, ap, arith, ◌⊎◌, inl, inr}
+use Rattle.std.specs.Prelude.{if◌then◌else◌, Ok, option_map}
 use Rattle.std.specs.Str.{bytes_eq}
 use Rattle.std.proofs.lemmas.List.{append-nil, map-append}
 use Rattle.lp_io.specs.Told.{before_giving}
@@ -8,14 +8,14 @@ use Rattle.lp_events.specs.declared.event.Event.{Event}
 use Rattle.lp_events.specs.declared.event.Event.TheVariants.{Connect, Line, Gone, Tick, Reload, Swap}
 use Rattle.lp_events.specs.declared.item.Item.{Item}
 use Rattle.lp_events.specs.declared.item.Item.TheVariants as items
-use Rattle.lp_events.specs.Script.{beginning, after_items, after_item, after_event, AllFit, Fits, Context, Stage, Beginning, Filing, Running, Over, files_of, seed_of, spellings}
+use Rattle.lp_events.specs.Script.{beginning, after_items, after_item, after_event, AllFit, Fits, Context, Stage, Beginning, Filing, Running, Over, files_of, seed_of}
 use Rattle.lp_files.specs.declared.store.Store.{Store}
 use Rattle.lp_files.specs.Store.{file_at}
 use Rattle.lp_first.specs.First.{HasFiles}
 use Rattle.std.specs.Cmp.Lexicographic.{pointwise}
 use Rattle.lp_language.specs.World.{File}
 use Rattle.lp_meaning.specs.WorldSteps as steps
-use Rattle.lp_script.specs.Reader.{Reading, GoesOn, HasGiven, IsAfter, fresh}
+use Rattle.lp_script.specs.Reader.{Reading, GoesOn, HasGiven, IsAfter, Reads, fresh}
 use Rattle.lp_top.specs.declared.opening.Opening.{Opening}
 use Rattle.lp_top.specs.declared.status.Status.{Status}
 use Rattle.lp_top.specs.Items.{has_started, moment_of, world_file, world_files}
@@ -41,9 +41,12 @@ filing-fresh opening f s m = record {
 }
 
 -- nothing was taken before
-pub nothing-before : (told : Option (List ℕ)) (b : List ℕ) → told ≡ Some b → before_giving [] told ≡ Some b
+nothing-before : (told : Option (List ℕ)) (b : List ℕ) → told ≡ Some b → before_giving [] told ≡ Some b
 nothing-before None b h = h
 nothing-before (Some rest) b h = h
+
+pub first-reads : (r : Reading) (told : Option (List ℕ)) (b : List ℕ) → r ≡ fresh → told ≡ Some b → Reads b r told
+first-reads r told b e h = subst (λ x. Reads b x told) (sym e) (nothing-before told b h)
 
 -- before `start` a script is in its beginning or its files
 abbrev pub is_early : Stage → Bool

@@ -11,7 +11,7 @@ use Rattle.lp_events.specs.declared.item.Item.{Item}
 use Rattle.lp_events.specs.declared.item.Item.TheVariants as items
 use Rattle.lp_events.specs.declared.out.Out.{Out}
 use Rattle.lp_events.specs.Script.{beginning, after_items, after_item, after_event, AllFit, Fits, Context, Stage, Beginning, Filing, Running, Over, files_of, seed_of, events_of, spellings, IsScript, longest_input}
-use Rattle.lp_events.specs.Transcript.{block, blocks, transcript}
+use Rattle.lp_events.specs.Transcript.{block, blocks}
 use Rattle.lp_language.specs.World.{File, World}
 use Rattle.lp_meaning.specs.FrontEnd.{FrontEnd}
 use Rattle.lp_meaning.specs.Closing.{Run, RunsFrom, Turns, over, then}
@@ -24,7 +24,7 @@ use Rattle.lp_script.specs.declared.phase.Phase.TheVariants as phases
 use Rattle.lp_script.specs.declared.phase.Ending.TheVariants.{Whole}
 use Rattle.lp_top.specs.declared.status.Status.{Status}
 use Rattle.lp_top.specs.declared.status.Status.TheVariants as ends
-use Rattle.lp_top.specs.Items.{Holds, StopsAt, IsRunOf, Blocks, before, started, has_started, has_turn, moment_of, world_files}
+use Rattle.lp_top.specs.Items.{Holds, StopsAt, IsRunOf, Blocks, started, has_started, has_turn, moment_of, world_files}
 use Rattle.lp_top.specs.Replay.{AreOf, IsDone, IsGoing, HasRun, IsRunning, EndsReading, IsReadingEnd, Wrote, Replays, Interrupts, Finishes, IsReplayEnd}
 use Rattle.lp_top.proofs.Reading.{begins_with, at_phase, cut_is, spellings-append}
 use Rattle.lp_top.proofs.Filing.{world_files-same, last-fits, seed-same, moment-same, is_head}

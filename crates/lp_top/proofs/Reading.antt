@@ -1,5 +1,5 @@
 -- What a reader that has given items says of its input.
-use Rattle.std.proofs.Common.{subst, ◌≡◌, ◌∙◌, ◌<◌, ◌≤◌, ◌+◌, ℕ, zero, suc, List, [], ◌∷◌, ◌++◌, length, take, drop, Bool, true, false, Option, Some, None, refl, sym, ap, arith, append_assoc, length-append, inl, inr}
+use Rattle.std.proofs.Common.{subst, ◌≡◌, ◌∙◌, ◌<◌, ◌≤◌, ◌+◌, ℕ, zero, suc, List, [], ◌∷◌, ◌++◌, length, take, drop, false, Option, Some, None, refl, sym, ap, arith, append_assoc, length-append, inl, inr}
 use Rattle.std.proofs.Math.Seq.{drop-append_seam}
 use Rattle.std.proofs.lemmas.List.{length-take, length-take-le, take-append-le, take-append-drop}
 use Rattle.std.specs.Prelude.{Ok, Err}
@@ -15,7 +15,6 @@ use Rattle.lp_script.specs.declared.phase.Ending.TheVariants.{Whole, Bad, Large,
 use Rattle.lp_script.specs.Reader.{Reading, GoesOn, GoneAtMost, HasGiven, IsInput, Reads, IsAfter, Says}
 use Rattle.lp_script.specs.declared.fault.ScriptFault.{ScriptFault}
 use Rattle.lp_script.specs.declared.fault.ScriptFault.TheVariants as script
-use Rattle.lp_top.specs.declared.status.Status.TheVariants as ends
 use Rattle.lp_top.specs.Replay.{EndsReading, is_end, status_of_fault}
 
 -- a front of a front

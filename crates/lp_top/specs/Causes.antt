@@ -1,5 +1,5 @@
 -- Which device an end blames: only one whose count of faults rose, or the swap file where it gave other bytes.
-use Rattle.std.specs.Prelude.{◌≡◌, ℕ, List, ◌⊎◌, Bool, true, false, Option, Result, Ok, Err, ⊤}
+use Rattle.std.specs.Prelude.{◌≡◌, ℕ, ◌⊎◌, Bool, true, false, Option, Result, Ok, Err, ⊤}
 use Rattle.lp_io.specs.Counts.{Rose}
 use Rattle.lp_swapfile.specs.Counts as swap
 use Rattle.lp_swapfile.specs.Device.{Bytes, Last}

@@ -3,7 +3,7 @@ use Rattle.std.proofs.Math.Nat.{le_trans}
 use Rattle.lp_events.specs.Script.{longest_input}
 use Rattle.lp_script.specs.Reader.{HasGiven}
 use Rattle.lp_top.proofs.Reading.{begins_with, goes_on, cut_within}
-use Rattle.lp_top.proofs.Filing.{IsFiling, filing-fresh, filing-more, filing-start, filing-ends, end-not-early, end-is, inner-is, inner-goes, inner-not_started, not_started-push, nothing-before, start-is}
+use Rattle.lp_top.proofs.Filing.{IsFiling, filing-fresh, filing-more, filing-start, filing-ends, end-not-early, end-is, inner-is, inner-goes, inner-not_started, not_started-push, first-reads, start-is}
 use Rattle.lp_top.proofs.opening.open.Goals as goal
 
 pub loop-item-smaller : goal.loop-item-smaller
@@ -14,11 +14,10 @@ loop-item-smaller g c =
     let within : c.next_item.new.reader.cut ≤ longest_input = cut_within c.next_item.new.reader _ v in
     omega arith
 
-
 pub loop-item-init : goal.loop-item-init
 loop-item-init g c = record {
   filing = subst (λ r. IsFiling r c.no_opening-opening.result) (sym c.requires) (filing-fresh c.no_opening-opening.result c.no_opening-opening.ensures.files c.no_opening-opening.ensures.seed c.no_opening-opening.ensures.moment);
-  reads = λ b h. rw c.requires (nothing-before _ b h);
+  reads = λ b h. first-reads c.args.reader.now _ b c.requires h;
   no_fall = omega arith;
 }
 
@@ -56,8 +55,7 @@ pub returns-in-Err-note-clause-end : goal.returns-in-Err-note-clause-end
 returns-in-Err-note-clause-end g c = λ b h.
     let f = c.loop-item.invariant.filing in
     let v = c.in-Ok.ensures.given f.read f.goes f.given in
-    let i = inner-is c.in-Ok.item (sym c.is_start.ensures ∙ c.if-is_start.false) (sym c.is_end.ensures ∙ c.if-is_end.false) in
-    (
+    let i = inner-is c.in-Ok.item (sym c.is_start.ensures ∙ c.if-is_start.false) (sym c.is_end.ensures ∙ c.if-is_end.false) in (
       f.read ++ c.in-Ok.item ∷ [],
       not_started-push f.read c.in-Ok.item f.not_started (inner-not_started c.in-Ok.item i),
       begins_with b c.next_item.new.reader _ (f.read ++ c.in-Ok.item ∷ []) (c.in-Ok.ensures.reads b (c.loop-item.invariant.reads b h)) (inner-goes c.in-Ok.item c.next_item.new.reader i c.in-Ok.ensures.phase) v,

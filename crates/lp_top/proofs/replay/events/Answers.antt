@@ -1,4 +1,4 @@
-use Rattle.std.proofs.Common.{◌≡◌, ◌∙◌, ◌<◌, ◌≤◌, ◌++◌, ◌∷◌, [], subst, refl, arith}
+use Rattle.std.proofs.Common.{◌∙◌, ◌<◌, ◌≤◌, ◌++◌, ◌∷◌, [], subst, refl, arith}
 use Rattle.std.proofs.Math.Nat.{le_trans}
 use Rattle.std.specs.Prelude.{Ok}
 use Rattle.lp_events.specs.Script.{longest_input, IsScript}
@@ -77,11 +77,11 @@ pub loop-item-preserved : goal.loop-item-preserved
 loop-item-preserved g c =
     record {
       running = λ from h.
-      let j = c.loop-item.invariant.running from h in
-      let go = goes-running c.loop-item.reader _ c.loop-item.live _ _ j in
-      running-more c.loop-item.reader c.next_item.new.reader _ _ c.loop-item.live c.carry.new.live _ _ _ c.in-Event.event j
-      (subst (λ x. HasGiven c.next_item.new.reader (j.read ++ x ∷ [])) c.in-Event.is (c.in-Ok.ensures.given j.read go j.going.given))
-      (subst (λ x. IsAfter (Ok x) c.next_item.new.reader.phase) c.in-Event.is c.in-Ok.ensures.phase) c.in-Ok-carry.ensures.done;
+          let j = c.loop-item.invariant.running from h in
+          let go = goes-running c.loop-item.reader _ c.loop-item.live _ _ j in
+          running-more c.loop-item.reader c.next_item.new.reader _ _ c.loop-item.live c.carry.new.live _ _ _ c.in-Event.event j
+          (subst (λ x. HasGiven c.next_item.new.reader (j.read ++ x ∷ [])) c.in-Event.is (c.in-Ok.ensures.given j.read go j.going.given))
+          (subst (λ x. IsAfter (Ok x) c.next_item.new.reader.phase) c.in-Event.is c.in-Ok.ensures.phase) c.in-Ok-carry.ensures.done;
       reads = λ b h. c.in-Ok.ensures.reads b (c.loop-item.invariant.reads b h);
       source_faults = le_trans c.loop-item.invariant.source_faults c.in-Ok.ensures.no_fall;
       sink_faults = le_trans c.loop-item.invariant.sink_faults c.carry.ensures.no_fall;
