@@ -38,7 +38,8 @@ use Rattle.lp_making.specs.Trees.{HasTables}
 use Rattle.lp_efuns.specs.declared.caller.Turn.{Turn}
 use Rattle.lp_efuns.specs.Turns.{Setting}
 use Rattle.lp_beginning.specs.declared.job.LoadKind.{LoadKind}
-use Rattle.lp_beginning.specs.Beginning.{Fits, IsRefusedFor, refusal_of}
+use Rattle.lp_beginning.specs.declared.job.Making.{Making}
+use Rattle.lp_beginning.specs.Beginning.{Fits, HasItsParts, IsRefusedFor, refusal_of}
 use Rattle.lp_beginning.specs.Jobs.{kind_of, made_from}
 
 -- Serials
@@ -96,6 +97,18 @@ fits_with g old new turn budget s name v vs after stands f =
 
 -- The course
 
+-- the serial of the new object
+next_is : (told : Option Bytes) (programs : List RawProgram) (old : Live) (o : ObjId) (w : World) → Stands told programs old w → o.0 ≡ length old.objects → next_object w ≡ o
+next_is told programs old o w h serial = ap (λ (n : ℕ). record { 0 = n }) (sym (same_serials told programs old w h) ∙ sym serial)
+
+-- its parts with initialisers, in the world with it
+pub parts_made : (told : Option Bytes) (programs : List RawProgram) (old : Live) (w : World) (name : List ℕ) (v : ProgId) (job : Making)
+    → Stands told programs old w → job.object.0 ≡ length old.objects → job.parts.items ≡ initialised_parts (heritage_in w.versions v) → job.done ≡ 0 → HasItsParts (steps.with_new_object w name v) job
+parts_made told programs old w name v job h serial e done = record {
+  parts = e ∙ ap initialised_parts (sym (new_tree w name v)) ∙ ap (λ o. initialised_parts (heritage_of (steps.with_new_object w name v) o)) (next_is told programs old job.object w h serial);
+  done = done;
+}
+
 -- the course of the new object, whose parts with initialisers are known
 pub made_course : (told : Option Bytes) (programs : List RawProgram) (old : Live) (kind : LoadKind) (o : ObjId) (found : List ℕ) (by : Asker) (s : State) (name : List ℕ) (v : ProgId)
     → Stands told programs old s.world → o.0 ≡ length old.objects → found ≡ initialised_parts (heritage_in s.world.versions v) → has_room s.world ≡ true
@@ -103,7 +116,7 @@ pub made_course : (told : Option Bytes) (programs : List RawProgram) (old : Live
 made_course told programs old kind o found by s name v h serial e room =
     let w = s.world in
     let t : State = record s { world = steps.with_new_object w name v } in
-    let same : next_object w ≡ o = ap (λ (n : ℕ). record { 0 = n }) (sym (same_serials told programs old w h) ∙ sym serial) in
+    let same : next_object w ≡ o = next_is told programs old o w h serial in
     let parts : initialised_parts (heritage_of t.world (next_object w)) ≡ found = ap initialised_parts (new_tree w name v) ∙ sym e in
     ap (λ (b : Bool). if b then in_any_case (beginning by (next_object w) t) (λ e. Over (begun_end (kind_of kind) by (next_object w) e)) else making_stop s) room
     ∙ ap (λ ns. in_any_case (from by (next_object w) ns t) (λ e. Over (begun_end (kind_of kind) by (next_object w) e))) parts

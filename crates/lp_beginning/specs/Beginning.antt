@@ -1,11 +1,12 @@
 -- How an object is made and begins.
-use Rattle.std.specs.Prelude.{◌≡◌, ◌++◌, ◌∷◌, [], if◌then◌else◌, ℕ, ⊤, List, Bool, Option, Some, None, Result, Ok, Err, IsSome, take}
+use Rattle.std.specs.Prelude.{◌≡◌, ◌++◌, ◌∷◌, [], if◌then◌else◌, ℕ, ⊤, All, List, Bool, true, Option, Some, None, Result, Ok, Err, IsSome, take}
+use Rattle.lp_values.specs.declared.id.ObjId.{ObjId}
 use Rattle.lp_values.specs.declared.id.ProgId.{ProgId}
 use Rattle.lp_code.specs.declared.program.RawProgram.{RawProgram}
 use Rattle.lp_swapfile.specs.Device.{Bytes, Last}
-use Rattle.lp_language.specs.World.{Version, World, object_named}
+use Rattle.lp_language.specs.World.{Keeps, Version, World, object_named}
 use Rattle.lp_language.specs.Course.{Course, End, Over, Reply, State}
-use Rattle.lp_language.specs.Resolve.{Part, part_at, parts}
+use Rattle.lp_language.specs.Resolve.{Part, heritage_of, part_at, parts}
 use Rattle.lp_meaning.specs.Askers.{Asker}
 use Rattle.lp_meaning.specs.FileLoads.{initialised_from, initialised_parts, making}
 use Rattle.lp_world.specs.declared.live.Live.{Live}
@@ -19,6 +20,7 @@ use Rattle.lp_targets.specs.Brought.{Brings}
 use Rattle.lp_targets.specs.Callees.{IsWorldOf}
 use Rattle.lp_efuns.specs.declared.caller.Turn.{Turn}
 use Rattle.lp_efuns.specs.Turns.{At, Setting}
+use Rattle.lp_initialisers.specs.Rows.{has_initialisers}
 use Rattle.lp_asking.specs.declared.ending.Cause.TheVariants as causes
 use Rattle.lp_asking.specs.declared.ending.Ending.{Ending}
 use Rattle.lp_asking.specs.declared.ending.Ending.TheVariants as endings
@@ -33,8 +35,7 @@ use Rattle.lp_beginning.specs.declared.job.Begun.TheVariants as begun
 use Rattle.lp_beginning.specs.declared.job.LoadKind.{LoadKind}
 use Rattle.lp_beginning.specs.declared.job.Making.{Making}
 use Rattle.lp_beginning.specs.Ends.{IsReplyEnd, state_at}
-use Rattle.lp_beginning.specs.Jobs.{course_of, kind_of}
-use Rattle.lp_beginning.specs.Rows.{has_initialisers}
+use Rattle.lp_beginning.specs.Jobs.{course_of, kind_of, parts_left}
 
 -- Parts with initialisers
 
@@ -63,6 +64,17 @@ ArePartsBelow told live v end found =
 abbrev pub ArePartsOf : Option Bytes → Live → ProgId → List ℕ → Type 0
 ArePartsOf told live v found = (programs : List RawProgram) (w : World) → Stands told programs live w → AreCompiled programs w.versions → found ≡ initialised_parts (heritage_in w.versions v)
 
+-- a part of an object's program is there, and has initialisers
+pub record IsInitialised (w : World) (o : ObjId) (part : ℕ) : Type 0 where
+  pub place : Part
+  pub at : part_at (heritage_of w o) part ≡ Some place
+  pub has : has_initialisers place.tree ≡ true
+
+-- The job of a new object has all parts of the object's program that have initialisers, in order, and none of them is done.
+pub record HasItsParts (w : World) (job : Making) : Type 0 where
+  pub parts : job.parts.items ≡ initialised_parts (heritage_of w job.object)
+  pub done : job.done ≡ 0
+
 -- Beginning
 
 -- The live state stands for a state of the meaning, whose programs fit their versions, and whose shadows are live.
@@ -71,17 +83,18 @@ pub record Fits (g : Setting) (live : Live) (turn : Turn) (budget : ℕ) (s : St
   pub world : IsWorldOf g.told g.programs live s.world
 
 -- The object is made, and what is to be done for it is a job: from each state for which the live state stands the course is
--- that of the job, in a state for which the live state stands.
+-- that of the job, in a state for which the live state stands, and in whose world the job has the parts of the object's program
+-- that have initialisers.
 abbrev pub HasBegun : Making → LoadKind → List ℕ → ProgId → Option Bytes → Live → Live → Type 0
 HasBegun job kind name v told live0 live1 =
     (g : Setting) (by : Asker) (turn : Turn) (budget : ℕ) (s : State) → g.told ≡ told → Fits g live0 turn budget s
-    → (t : State) × Fits g live1 turn budget t × (making (kind_of kind) by name v s ≡ course_of job by t)
+    → (t : State) × Fits g live1 turn budget t × (making (kind_of kind) by name v s ≡ course_of job by t) × HasItsParts t.world job
 
 -- the same, where these parts have initialisers
 abbrev pub HasMade : Making → LoadKind → List ℕ → ProgId → List ℕ → Live → Live → Type 0
 HasMade job kind name v found live0 live1 =
     (g : Setting) (by : Asker) (turn : Turn) (budget : ℕ) (s : State) → Fits g live0 turn budget s → found ≡ initialised_parts (heritage_in s.world.versions v)
-    → (t : State) × Fits g live1 turn budget t × (making (kind_of kind) by name v s ≡ course_of job by t)
+    → (t : State) × Fits g live1 turn budget t × (making (kind_of kind) by name v s ≡ course_of job by t) × HasItsParts t.world job
 
 -- a course is over with this, in the same world, and the live state stands for the state then
 pub record IsOverWith (g : Setting) (live : Live) (turn : Turn) (budget : ℕ) (s : State) (ending : Ending) (c : Course Reply) : Type 0 where
@@ -109,6 +122,12 @@ IsBegunHome objects (begun.Runs job) = IsSome (variables_at objects job.object)
 abbrev pub IsBegunFor : LoadKind → Begun → Type 0
 IsBegunFor kind (begun.Ends e) = ⊤
 IsBegunFor kind (begun.Runs job) = job.kind ≡ kind
+
+-- So its parts have initialisers in each later world too: versions and objects stay, but for clocks.
+abbrev pub PartsStay : Type 0
+PartsStay =
+    (told : Option Bytes) (programs : List RawProgram) (live : Live) (w u : World) (job : Making) → IsWorldOf told programs live w → IsSome (variables_at live.objects job.object) → HasItsParts w job → Keeps w u
+    → All (IsInitialised u job.object) (parts_left job)
 
 -- Refusals
 

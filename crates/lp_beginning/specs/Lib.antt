@@ -1,4 +1,3 @@
-pub mod Rows
 pub mod Ends
 pub mod Jobs
 pub mod Beginning

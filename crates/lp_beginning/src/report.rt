@@ -13,12 +13,12 @@ ghost use Rattle.lp_asking.specs.Endings.{cause_of};
 ghost use Rattle.lp_beginning.specs.Beginning.{StandsStill};
 ghost use Rattle.lp_beginning.specs.Reports.{IsFunctionName, IsObjectName, IsPlaceText, IsPlaceTextIf, IsProgramName, IsStopText, place_words};
 
-use crate::looking::program_of;
-use crate::parts::bring_program;
 use lp_asking::ending::{Cause, Place};
 use lp_asking::truth::Truthful;
 use lp_code::program::RawProgram;
 use lp_efuns::names::ends_in_c;
+use lp_initialisers::bringing::bring_program;
+use lp_initialisers::looking::program_of;
 use lp_residence::answers::EnterFault;
 use lp_types_expr::names::letters;
 use lp_values::id::{ObjId, ProgId};

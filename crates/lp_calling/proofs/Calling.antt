@@ -41,7 +41,7 @@ use Rattle.lp_calling.specs.declared.target.CallTarget.TheVariants as targets
 use Rattle.lp_calling.specs.Beginning.{Starts, acts}
 use Rattle.lp_calling.specs.Going.{StageGoes, StageTakes}
 use Rattle.lp_calling.specs.Jobs.{ended, stage_rest}
-use Rattle.lp_calling.specs.Targets.{IsNamed, IsTarget, IsUnnamed, IsUnnamedTarget, NeedsLoad, Targeted, target_of}
+use Rattle.lp_calling.specs.Targets.{IsNamed, IsTarget, IsUnnamedTarget, MeansName, Targeted, target_of}
 use Rattle.lp_calling.proofs.Ending.{cut_to}
 use Rattle.lp_calling.proofs.Settled.{settled_here}
 
@@ -121,10 +121,6 @@ text_led by t s go r e =
 abbrev pub FoundBy : Live → List ℕ → Option ObjId → Type 0
 FoundBy live name r = (objects : List names.Named) → named.Stands live.names objects → r ≡ names.object_named objects name
 
--- the text that the first argument is means this name
-abbrev pub MeansName : List Value → List ℕ → Type 0
-MeansName vs name = (l : ObjId → Bool) (cells : Store) → name ≡ as_name (text_arg (map (operand l cells) vs) 0)
-
 named_first : (live : Live) (t : List ℕ) (ws : List Value) (name : List ℕ) (o : ObjId) → name ≡ as_name t → FoundBy live name (Some o) → IsNamed live (values.Str t ∷ ws) o
 named_first live t ws name o e f g turn b by s go h = text_led by t s go (Some o) (sym (found_same g live turn b s (as_name t) name (Some o) h f e))
 
@@ -153,14 +149,21 @@ clone_unnamed live (values.Arr d ∷ vs) name u c g turn b by s go h = absurd u
 clone_unnamed live (values.Map d ∷ vs) name u c g turn b by s go h = absurd u
 clone_unnamed live (values.Obj o ∷ vs) name u c g turn b by s go h = absurd u
 
--- another object would be loaded
-pub unnamed_loads : (live : Live) (vs : List Value) (name : List ℕ) → IsUnnamedTarget live vs name → is_clone_name name ≡ false → NeedsLoad live efuns.CallOther vs
-unnamed_loads live [] name u c = absurd u
-unnamed_loads live (values.Str t ∷ vs) name u c = (subst (λ n. IsUnnamed live n) u.0 u.1, ap is_clone_name (sym u.0) ∙ c)
-unnamed_loads live (values.Int n ∷ vs) name u c = absurd u
-unnamed_loads live (values.Arr d ∷ vs) name u c = absurd u
-unnamed_loads live (values.Map d ∷ vs) name u c = absurd u
-unnamed_loads live (values.Obj o ∷ vs) name u c = absurd u
+-- In each state for which the live state stands the object of another name is loaded, and is the target where it lives then.
+abbrev IsLoaded : Live → List Value → List ℕ → Type 0
+IsLoaded live vs name = (g : Setting) (turn : Turn) (budget : ℕ) (by : Asker) (s : State) (go : Targeted) → At g live turn budget s
+    → with_target by (arg (opened_args s vs) 0) s go ≡ and_then (load_value by name s) (λ v s. as_target v s go)
+
+unnamed_loads : (live : Live) (vs : List Value) (name : List ℕ) → IsUnnamedTarget live vs name → is_clone_name name ≡ false → IsLoaded live vs name
+unnamed_loads live [] name u c g turn b by s go h = absurd u
+unnamed_loads live (values.Str t ∷ vs) name u c g turn b by s go h =
+    text_led by t s go None (ap (object_named s.world) (sym u.0) ∙ u.1 g turn b s h)
+    ∙ ap (λ x. and_then (if x then stops (Failed (plain BadTarget)) s else load_value by (as_name t) s) (λ v s. as_target v s go)) (ap is_clone_name (sym u.0) ∙ c)
+    ∙ ap (λ n. and_then (load_value by n s) (λ v s. as_target v s go)) (sym u.0)
+unnamed_loads live (values.Int n ∷ vs) name u c g turn b by s go h = absurd u
+unnamed_loads live (values.Arr d ∷ vs) name u c g turn b by s go h = absurd u
+unnamed_loads live (values.Map d ∷ vs) name u c g turn b by s go h = absurd u
+unnamed_loads live (values.Obj o ∷ vs) name u c g turn b by s go h = absurd u
 
 -- Beginning
 
@@ -195,6 +198,26 @@ call_starts caller live n stack o name le t f turn b low vs q k =
       );
     }
 
+pub target_starts : (caller : Caller) (live : Live) (n : ℕ) (stack : List Value) (name fun : List ℕ) → n ≤ length stack → IsUnnamedTarget live (drop n stack) name → is_clone_name name ≡ false
+    → ((l : ObjId → Bool) (cells : Store) → fun ≡ text_arg (map (operand l cells) (drop n stack)) 1)
+    → Starts (begun.Runs (record { efun = efuns.CallOther; low = n; stage = stages.Target name fun })) efuns.CallOther caller live n stack stack
+unfolding calls
+target_starts caller live n stack name fun le u o f turn b low vs q k =
+    let same : drop n stack ≡ vs = ap (drop n) q ∙ drop_at low vs n k in
+    let loads : IsLoaded live vs name = subst (λ ws. IsLoaded live ws name) same (unnamed_loads live (drop n stack) name u o) in
+    record {
+      own = vs;
+      stack = q;
+      height = k;
+      fits = le;
+      course = λ g by c s sc h. (
+        s,
+        settled_here g live turn b s h,
+        ap (λ c. and_then c (ended efuns.CallOther)) (loads g turn b by s (λ o t. ask_value (Other o (text_arg (opened_args s vs) 1)) (drop 2 vs) by t) h)
+            ∙ ap (λ m. and_then (and_then (load_value by name s) (λ v s. as_target v s (λ o t. ask_value (Other o m) (drop 2 vs) by t))) (ended efuns.CallOther)) (ap (λ ws. text_arg (map (operand (living s) (cells_of s)) ws) 1) (sym same) ∙ sym (f (living s) (cells_of s))),
+      );
+    }
+
 pub no_call_starts : (caller : Caller) (live : Live) (n : ℕ) (stack0 stack1 : List Value) → stack1 ≡ take n stack0 → HasNoTarget live (drop n stack0)
     → Starts (begun.Ends (answers.Error (plain BadTarget))) efuns.CallOther caller live n stack0 stack1
 unfolding calls
@@ -217,6 +240,7 @@ call_asks e o name below n stack live turn budget c low own q k =
       height = refl;
       fits = omega (arith, length-append low (take 2 own), k);
       is_asking = tt;
+      with_these = tt;
       course = λ g by s h. (s, settled_here g live turn budget s h, refl);
     }
 

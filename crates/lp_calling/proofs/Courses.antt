@@ -1,19 +1,15 @@
 -- Courses that go on.
-use Rattle.std.proofs.Common.{◌≡◌, ◌∙◌, ◌-◌, false, List, refl, ap, nat_lt, arith, if◌then◌else◌}
+use Rattle.std.proofs.Common.{◌≡◌, ◌∙◌, ◌-◌, false, refl, ap, nat_lt, arith, if◌then◌else◌}
 use mathlib.Core.Path.{fun_ext}
 use Rattle.std.proofs.lemmas.Bool.{le-ltb}
 use Rattle.lp_values.specs.declared.value.Value.{Value}
-use Rattle.lp_language.specs.Course.{Asked, Asks, Course, End, Gives, Stops, Over, State, and_then, end_of_outcome, pay, here, Spent}
-use Rattle.lp_meaning.specs.Askers.{Asker, ask_value, question}
+use Rattle.lp_language.specs.Course.{Asks, Course, End, Gives, Stops, Over, State, and_then, pay, here, Spent}
 
--- what goes on behind what goes on behind a question
-pub asked_on : (what : Asked) (xs : List Value) (by : Asker) (s : State) (k f : Value → State → Course Value)
-    → and_then (and_then (ask_value what xs by s) k) f ≡ and_then (ask_value what xs by s) (λ v t. and_then (k v t) f)
-asked_on what xs by s k f = ap (λ h. Asks (question what xs by s) h) (fun_ext (λ o. by_end (end_of_outcome s o)))
-  where
-    by_end : (e : End Value) → and_then (and_then (Over e) k) f ≡ and_then (Over e) (λ v t. and_then (k v t) f)
-    by_end (Gives v t) = refl
-    by_end (Stops x t) = refl
+-- what goes on behind what goes on behind a course
+pub then_on : (c : Course Value) (k f : Value → State → Course Value) → and_then (and_then c k) f ≡ and_then c (λ v t. and_then (k v t) f)
+then_on (Over (Gives v s)) k f = refl
+then_on (Over (Stops x s)) k f = refl
+then_on (Asks a h) k f = ap (λ h. Asks a h) (fun_ext (λ o. then_on (h o) k f))
 
 -- what goes on alike
 pub goes_alike : (c : Course Value) (f g : Value → State → Course Value) → ((v : Value) (s : State) → f v s ≡ g v s) → and_then c f ≡ and_then c g

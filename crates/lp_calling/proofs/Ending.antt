@@ -3,7 +3,9 @@ use Rattle.std.proofs.Common.{◌≡◌, ◌∙◌, ◌+◌, ◌-◌, ◌≤◌,
 use Rattle.std.proofs.lemmas.List.{take_at}
 use Rattle.std.proofs.lemmas.List.Elements.{All-head, All-tail, All-take}
 use Rattle.lp_values.specs.declared.id.ObjId.{ObjId}
+use Rattle.lp_values.specs.declared.error.ErrorKind.{ErrorKind}
 use Rattle.lp_values.specs.declared.error.RunError.{RunError}
+use Rattle.lp_values.specs.Errors.{plain}
 use Rattle.lp_values.specs.declared.value.Value.{Value}
 use Rattle.lp_cells.specs.Cells.{IsThere, Store}
 use Rattle.lp_instr.specs.declared.efun.Efun.{Efun}
@@ -69,6 +71,14 @@ pub zero_goes : (e : Efun) (live : Live) (turn : Turn) (below : ℕ) (stack0 sta
 zero_goes e live turn below stack0 stack1 old new a t f low own q k = record {
   stack = cut_to stack0 stack1 low own below t q k;
   course = λ g by s h. value_over g live turn old new e zero_value a s h tt f;
+}
+
+-- an error
+pub error_goes : (e : Efun) (kind : ErrorKind) (below : ℕ) (stack0 stack1 : List Value) (live : Live) (turn : Turn) (budget : ℕ) → stack1 ≡ take below stack0
+    → StageGoes (steps.Ends (answers.Error (plain kind))) e (stages.Error kind) below live turn stack0 budget live stack1 budget
+error_goes e kind below stack0 stack1 live turn budget t low own q k = record {
+  stack = cut_to stack0 stack1 low own below t q k;
+  course = λ g by s h. error_over g live turn budget (plain kind) s h;
 }
 
 -- what is left of the budget

@@ -3,6 +3,7 @@ pub mod Courses
 pub mod Settled
 pub mod Ending
 pub mod Calling
+pub mod Loading
 pub mod Rounds
 pub mod Telling
 pub mod Writing

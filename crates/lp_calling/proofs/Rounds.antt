@@ -52,7 +52,7 @@ use Rattle.lp_calling.specs.Beginning.{Starts, acts}
 use Rattle.lp_calling.specs.Going.{StageGoes, StageTakes}
 use Rattle.lp_calling.specs.Jobs.{added, answered, ended, further, going, items_left, round_efun, taken, taken_by}
 use Rattle.lp_calling.proofs.Calling.{error_starts}
-use Rattle.lp_calling.proofs.Courses.{asked_on, pays_nothing}
+use Rattle.lp_calling.proofs.Courses.{pays_nothing, then_on}
 use Rattle.lp_calling.proofs.Ending.{cut_to}
 use Rattle.lp_calling.proofs.Settled.{end_settled, settled_here, value_settles}
 use Rattle.lp_calling.proofs.Lists.{further_is, get_above, item_first, item_got, left_behind, left_split, part_at, part_kept, taken_grown}
@@ -149,7 +149,7 @@ item_asked e r own xs x by s l q =
     ap (λ ls. and_then (going r (further r own) (taken r own) ls by s) (ended e)) q
     ∙ ap (λ b. and_then (if b then and_then (ask_value (Other r.object r.function) (x ∷ further r own) by s) (λ v t. per_item by r.object r.function (further r own) (taken_by r.is_filter) (taken r own ++ taken_by r.is_filter t x v) xs t)
     else stops (Failed (plain BadTarget)) s) (ended e)) l
-    ∙ asked_on (Other r.object r.function) (x ∷ further r own) by s (λ v t. per_item by r.object r.function (further r own) (taken_by r.is_filter) (taken r own ++ taken_by r.is_filter t x v) xs t) (ended e)
+    ∙ then_on (ask_value (Other r.object r.function) (x ∷ further r own) by s) (λ v t. per_item by r.object r.function (further r own) (taken_by r.is_filter) (taken r own ++ taken_by r.is_filter t x v) xs t) (ended e)
     ∙ ap (λ ls. and_then (ask_value (Other r.object r.function) (x ∷ further r own) by s) (λ v t. and_then (answered r (further r own) (taken r own) ls by v t) (ended e))) (sym q)
 
 item_dead : (e : Efun) (r : Round) (own xs : List Value) (x : Value) (by : Asker) (s : State) → is_live s.world r.object ≡ false → items_left r own ≡ x ∷ xs
@@ -189,6 +189,7 @@ item_asks e r below n stack0 stack1 live turn budget room d l c t low own q k =
       height = refl;
       fits = (omega (arith, length-append low own), omega arith);
       is_asking = d;
+      with_these = tt;
       course = λ g by s h. (
         s,
         settled_here g live turn budget s h,

@@ -38,7 +38,7 @@ use Rattle.lp_calling.specs.Beginning.{Settled, Starts}
 use Rattle.lp_calling.specs.Going.{StageGoes}
 use Rattle.lp_calling.specs.Jobs.{IsStageOn, IsStageReady, ended, stage_course}
 use Rattle.lp_calling.specs.Targets.{reader, told_stage}
-use Rattle.lp_calling.proofs.Courses.{asked_on}
+use Rattle.lp_calling.proofs.Courses.{then_on}
 use Rattle.lp_calling.proofs.Settled.{over_onward, settled_here}
 
 differ : false ≡ true → ⊥
@@ -131,11 +131,12 @@ tell_asks e o text below stack0 stack1 live turn budget le l c t low own q k = r
   height = refl;
   fits = omega (arith, length-append low own, k);
   is_asking = tt;
+  with_these = tt;
   course = λ g by s h. (
     s,
     settled_here g live turn budget s h,
     ap (λ c. and_then c (ended e)) (telling by o text s true None (live_at g live turn budget s o true h l) (connection_same g live turn budget s o h ∙ sym c))
-        ∙ asked_on (Apply o (codes "catch_tell")) (values.Str text ∷ []) by s (λ v s. gives zero_value s) (ended e),
+        ∙ then_on (ask_value (Apply o (codes "catch_tell")) (values.Str text ∷ []) by s) (λ v s. gives zero_value s) (ended e),
   );
 }
 
@@ -184,6 +185,7 @@ writes_as (steps.Asks c n) e o t below live0 live1 turn stack0 stack1 b0 b1 is z
       height = i.height;
       fits = i.fits;
       is_asking = tt;
+      with_these = i.with_these;
       course = λ g by s h. let j = i.course g by s h in
           (j.0, j.1, ap (λ c. and_then c (ended e)) (written_to by s.player o t s (h.player ∙ p.0) (live_at g live0 turn b0 s o true h p.1)) ∙ j.2);
     }

@@ -15,11 +15,14 @@ use Rattle.lp_calling.specs.Jobs.{IsJobOn, IsStageOn}
 -- a job's values lie on the stack
 low_on : (stage : Stage) (low n : ℕ) → IsStageOn stage low n → low ≤ n
 low_on (stages.Call o name) low n h = h
+low_on (stages.Target name fun) low n h = h
+low_on (stages.Load name) low n h = h
 low_on (stages.Items r) low n h = omega (arith, h.0)
 low_on (stages.Tell o t) low n h = h
 low_on (stages.Write t) low n h = h
 low_on stages.Value low n h = omega (arith, h)
 low_on stages.Zero low n h = h
+low_on (stages.Error kind) low n h = h
 
 -- by how it goes on from what lies on the stack
 pub waits_so : (r : Step) (job0 job1 : Job) (live0 live1 : Live) (turn : Turn) (stack0 stack1 : List Value) (b0 b1 : ℕ) → IsJobOn job0 stack0 → Goes r job0 live0 turn stack0 b0 job1 live1 stack1 b1 → Waits r job1 stack1

@@ -1,12 +1,12 @@
 -- How jobs go on.
-use Rattle.std.specs.Prelude.{◌≡◌, ℕ, ◌-◌, ◌≤◌, ⊤, List, ◌++◌, Bool, Option, IsSome, length, take}
+use Rattle.std.specs.Prelude.{◌≡◌, ℕ, ◌-◌, ◌≤◌, ⊤, List, ◌++◌, Bool, Option, IfSome, IsSome, length, take}
 use Rattle.lp_values.specs.declared.id.ObjId.{ObjId}
 use Rattle.lp_values.specs.declared.value.Value.{Value}
 use Rattle.lp_cells.specs.Cells.{Store}
 use Rattle.lp_instr.specs.declared.efun.Efun.{Efun}
 use Rattle.lp_language.specs.Course.{State, and_then}
 use Rattle.lp_language.specs.Operations.{living}
-use Rattle.lp_meaning.specs.Askers.{Asker, ask_value}
+use Rattle.lp_meaning.specs.Askers.{Asker}
 use Rattle.lp_world.specs.declared.live.Live.{Live}
 use Rattle.lp_world.specs.declared.objects.Object.{Object}
 use Rattle.lp_world.specs.Rows.{row_at}
@@ -20,7 +20,7 @@ use Rattle.lp_calling.specs.declared.job.Stage.{Stage}
 use Rattle.lp_calling.specs.declared.job.Step.{Step}
 use Rattle.lp_calling.specs.declared.job.Step.TheVariants as steps
 use Rattle.lp_calling.specs.Beginning.{IsOver, Settled}
-use Rattle.lp_calling.specs.Jobs.{IsAsking, IsJobOn, asked_of, course_of, object_of, rest_of, stage_course, stage_rest}
+use Rattle.lp_calling.specs.Jobs.{IsAskedWith, IsAsking, IsJobOn, course_of, object_of, question_course, rest_of, stage_course, stage_rest}
 
 -- It asks, with the topmost values as arguments; the job's own lie below them and above what lay below the job: from each state
 -- for which the live state stands its course asks so, in a state for which the live state stands afterwards and whose world settles
@@ -33,8 +33,9 @@ pub record HasAsked (q : Question) (n : ℕ) (job0 : Job) (own0 : List Value) (l
   pub height : job1.low ≡ job0.low
   pub fits : IsJobOn job1 (low ++ own)
   pub is_asking : IsAsking job1
+  pub with_these : IsAskedWith q arguments
   pub course : (g : Setting) (by : Asker) (s : State) → At g live0 turn budget0 s
-      → (t : State) × Settled s.world g live1 turn budget1 t × (course_of job0 own0 by s ≡ and_then (ask_value (asked_of q) arguments by t) (rest_of job1 own by))
+      → (t : State) × Settled s.world g live1 turn budget1 t × (course_of job0 own0 by s ≡ and_then (question_course q arguments by t) (rest_of job1 own by))
 
 -- It ends with this answer, and nothing is left of it on the stack: from each such state its course asks nothing and ends so.
 pub record HasStopped (a : Answer) (job : Job) (own : List Value) (live0 : Live) (turn : Turn) (budget0 : ℕ) (low stack1 : List Value) (live1 : Live) (budget1 : ℕ) : Type 0 where
@@ -84,7 +85,7 @@ abbrev pub IsStepThere : Store → Step → Type 0
 IsStepThere cells (steps.Ends a) = IsAnswerThere cells a
 IsStepThere cells (steps.Asks q n) = Unit {0}
 
--- the object that is asked has its row
+-- the object that is asked, where one is, has its row
 abbrev pub IsAskedThere : List (Option Object) → Step → Type 0
 IsAskedThere objects (steps.Ends a) = ⊤
-IsAskedThere objects (steps.Asks q n) = IsSome (row_at objects (object_of q).0)
+IsAskedThere objects (steps.Asks q n) = IfSome (object_of q) (λ o. IsSome (row_at objects o.0))

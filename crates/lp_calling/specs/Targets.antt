@@ -1,21 +1,20 @@
 -- What the arguments of efuns that call LPC tell.
-use Rattle.std.specs.Prelude.{⊤, ℕ, List, ◌∷◌, Bool, true, false, Option, Some, None, Result, Ok, Err, ◌≡◌, if◌then◌else◌}
+use Rattle.std.specs.Prelude.{⊤, ℕ, List, ◌∷◌, Bool, true, Option, Some, None, Result, Ok, Err, ◌≡◌, if◌then◌else◌, map}
 use Rattle.lp_values.specs.declared.id.ObjId.{ObjId}
 use Rattle.lp_values.specs.declared.value.Value.{Value}
 use Rattle.lp_values.specs.declared.value.Value.TheVariants.{Obj, Str}
 use Rattle.lp_values.specs.declared.error.RunError.{RunError}
 use Rattle.lp_ops.specs.declared.effect.Effect.{Effect}
 use Rattle.lp_ops.specs.declared.effect.Effect.TheVariants.{Fault, Gives}
-use Rattle.lp_ops.specs.Operands.{Opened, Chars, Object}
-use Rattle.lp_instr.specs.declared.efun.Efun.{Efun}
-use Rattle.lp_instr.specs.declared.efun.Efun.TheVariants as efuns
+use Rattle.lp_cells.specs.Cells.{Store}
+use Rattle.lp_ops.specs.Operands.{Opened, Chars, Object, operand}
 use Rattle.lp_language.specs.World.{object_named}
-use Rattle.lp_language.specs.Course.{Course, State}
+use Rattle.lp_language.specs.Course.{Course, State, gives}
 use Rattle.lp_meaning.specs.Askers.{Asker}
 use Rattle.lp_meaning.specs.CallingEfuns.{with_target}
-use Rattle.lp_meaning.specs.EfunArguments.{arg, opened_args}
-use Rattle.lp_meaning.specs.FileLoads.{as_target}
-use Rattle.lp_meaning.specs.WorldSteps.{as_name, is_clone_name}
+use Rattle.lp_meaning.specs.EfunArguments.{arg, opened_args, text_arg}
+use Rattle.lp_meaning.specs.FileLoads.{as_target, text_target}
+use Rattle.lp_meaning.specs.WorldSteps.{as_name}
 use Rattle.lp_world.specs.declared.live.Live.{Live}
 use Rattle.lp_efuns.specs.declared.caller.Turn.{Turn}
 use Rattle.lp_efuns.specs.Turns.{At, Setting}
@@ -40,11 +39,9 @@ IsTargetLive live targets.Nothing = ⊤
 abbrev pub IsUnnamed : Live → List ℕ → Type 0
 IsUnnamed live name = (g : Setting) (turn : Turn) (budget : ℕ) (s : State) → At g live turn budget s → object_named s.world name ≡ None
 
--- The target of `call_other` is a text whose object would have to be loaded: no live object has the name that it means, and that
--- is no clone's.
-abbrev pub NeedsLoad : Live → Efun → List Value → Type 0
-NeedsLoad live efuns.CallOther (Str t ∷ vs) = IsUnnamed live (as_name t) × (is_clone_name (as_name t) ≡ false)
-NeedsLoad live _ _ = ⊥
+-- the text that the first argument is, or the empty one, means this name
+abbrev pub MeansName : List Value → List ℕ → Type 0
+MeansName vs name = (l : ObjId → Bool) (cells : Store) → name ≡ as_name (text_arg (map (operand l cells) vs) 0)
 
 -- The target is a text that means this name, which no live object has.
 abbrev pub IsUnnamedTarget : Live → List Value → List ℕ → Type 0
@@ -62,6 +59,10 @@ IsNamed live vs o = (g : Setting) (turn : Turn) (budget : ℕ) (by : Asker) (s :
 -- In each such state it is this object.
 abbrev pub IsTarget : Live → List Value → ObjId → Type 0
 IsTarget live vs o = (g : Setting) (turn : Turn) (budget : ℕ) (by : Asker) (s : State) (go : Targeted) → At g live turn budget s → with_target by (arg (opened_args s vs) 0) s go ≡ go o s
+
+-- In each such state it is the object that `load_object` gives.
+abbrev pub IsLoadable : Live → List Value → ObjId → Type 0
+IsLoadable live vs o = (g : Setting) (turn : Turn) (budget : ℕ) (by : Asker) (s : State) → At g live turn budget s → text_target by (text_arg (opened_args s vs) 0) s ≡ gives (Obj o) s
 
 -- a text goes to an object, or to none
 abbrev pub told_stage : Option ObjId → List ℕ → Stage

@@ -1,5 +1,5 @@
 //! Efuns that call LPC begin.
-ghost use Rattle.std.specs.Prelude.{◌≡◌, ◌-◌, ◌≤◌, All, IfErr, IfOk, OnOk, drop, length, map, true};
+ghost use Rattle.std.specs.Prelude.{◌≡◌, ◌≤◌, All, IfOk, OnOk, drop, length, map, true};
 ghost use Rattle.lp_cells.specs.Cells.{IsThere, Store};
 ghost use Rattle.lp_instr.specs.EfunKinds.{kinds};
 ghost use Rattle.lp_language.specs.Course.{State};
@@ -10,13 +10,13 @@ ghost use Rattle.lp_world.specs.Rows.{live_in};
 ghost use Rattle.lp_step.specs.Steps.{IsFit};
 ghost use Rattle.lp_efuns.specs.Names.{AreNamed};
 ghost use Rattle.lp_calling.specs.Beginning.{Begins, IsBegunReady, IsBegunThere, Starts, is_calling};
-ghost use Rattle.lp_calling.specs.Targets.{NeedsLoad};
 
 use crate::call::begin_call;
 use crate::ends::{begin_bad, begin_end};
 use crate::items::begin_items;
 use crate::job::{Begun, CallingFault};
 use crate::laying::above;
+use crate::load::begin_load;
 use crate::messages::{begin_printf, begin_tell, begin_write};
 use lp_cells::cells::Cells;
 use lp_efuns::answer::Answer;
@@ -29,12 +29,13 @@ use lp_values::value::Value;
 use lp_world::live::Live;
 use lp_world::objects::ObjectTable;
 
-/// Whether an efun is carried out by a job: `call_other`, `filter`, `map`, `tell_object`, `write` and `printf` are.
+/// Whether an efun is carried out by a job: `call_other`, `load_object`, `filter`, `map`, `tell_object`, `write` and `printf` are.
 pub fn is_calling(efun: Efun) -> bool
     ensures { result ≡ is_calling efun }
 {
     match efun {
         Efun::CallOther
+        | Efun::LoadObject
         | Efun::Filter
         | Efun::Map
         | Efun::TellObject
@@ -60,10 +61,10 @@ fn start(
     ensures fit { OnOk result (IsFit live.now stack.new.items) }
     ensures there { IfOk result (λ r. (cells : Store) → IsBegunThere cells r) }
     ensures ready { IfOk result (IsBegunReady live.now.objects) }
-    ensures yet { IfErr result (λ f. f ≡ CallingFault.NotYet → NeedsLoad live.now efun (drop low stack.old.items)) }
 {
     match efun {
         Efun::CallOther => begin_call(live, stack, low),
+        Efun::LoadObject => begin_load(live, stack, low),
         Efun::Filter => begin_items(live, caller, stack, low, true),
         Efun::Map => begin_items(live, caller, stack, low, false),
         Efun::TellObject => begin_tell(live, stack, low),
@@ -102,8 +103,7 @@ fn bad_above(efun: Efun, stack: &Vec<Value>, low: usize, objects: &ObjectTable) 
 /// on as a job, or ends. Where it ends its arguments are gone from the stack. The job's values lie above what lay below them.
 ///
 /// # Errors
-/// `NotYet` where the target of `call_other` is a text whose object would be loaded: no live object has the name, and it is no
-/// clone's. `NoMemory`.
+/// `NoMemory`.
 pub fn begin(
     live: &Live,
     caller: &Caller<'_>,
@@ -121,7 +121,6 @@ pub fn begin(
     ensures there { IfOk result (IsBegunThere live.now.cells) }
     ensures spends { budget.new ≤ budget.old }
     ensures ready { IfOk result (IsBegunReady live.now.objects) }
-    ensures yet { IfErr result (λ f. f ≡ CallingFault.NotYet → NeedsLoad live.now efun (drop (length stack.old.items - args) stack.old.items)) }
 {
     let low = stack.len() - args;
     let before = price_above(efun, stack, low, &live.cells, &live.objects);

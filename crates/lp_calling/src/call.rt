@@ -1,15 +1,16 @@
 //! `call_other`.
-ghost use Rattle.std.specs.Prelude.{◌≡◌, ◌≤◌, IfErr, IfOk, IsSome, OnOk, drop, length, map, true};
+ghost use Rattle.std.specs.Prelude.{◌≡◌, ◌≤◌, IfOk, IsSome, OnOk, drop, false, length, map, true};
 ghost use Rattle.std.specs.Str.{chars};
 ghost use Rattle.lp_cells.specs.Cells.{Store};
 ghost use Rattle.lp_ops.specs.Operands.{operand};
 ghost use Rattle.lp_meaning.specs.EfunArguments.{arg};
+ghost use Rattle.lp_meaning.specs.WorldSteps.{is_clone_name};
 ghost use Rattle.lp_world.specs.Rows.{live_in, row_at};
 ghost use Rattle.lp_efuns.specs.declared.caller.Turn.{Turn};
 ghost use Rattle.lp_step.specs.Steps.{IsFit};
 ghost use Rattle.lp_calling.specs.Beginning.{IsBegunReady, IsBegunThere, Starts};
 ghost use Rattle.lp_calling.specs.Going.{IsAskedThere, IsStepThere, StageGoes};
-ghost use Rattle.lp_calling.specs.Targets.{IsNamed, IsTarget, IsUnnamedTarget, NeedsLoad, target_of};
+ghost use Rattle.lp_calling.specs.Targets.{IsNamed, IsTarget, IsUnnamedTarget, target_of};
 ghost use Rattle.lp_calling.specs.declared.target.CallTarget.TheVariants as targets;
 
 use crate::ends::begin_error;
@@ -34,7 +35,6 @@ fn begin_live(live: &Live, stack: &Vec<Value>, low: usize, o: ObjId) -> Result<B
     ensures starts { IfOk result (λ r. (caller : _) → Starts r Efun.CallOther caller live.now low stack.now.items stack.now.items) }
     ensures there { IfOk result (λ r. (cells : Store) → IsBegunThere cells r) }
     ensures ready { IfOk result (IsBegunReady live.now.objects) }
-    ensures fault { IfErr result (λ f. f ≡ CallingFault.NoMemory) }
 {
     let name = text_shared(live.alloc, above(stack, low), 1)?;
     Ok(Begun::Runs(Job {
@@ -57,7 +57,6 @@ fn begin_found(
     ensures fit { OnOk result (IsFit live.now stack.old.items → IsFit live.now stack.new.items) }
     ensures there { IfOk result (λ r. (cells : Store) → IsBegunThere cells r) }
     ensures ready { IfOk result (IsBegunReady live.now.objects) }
-    ensures fault { IfErr result (λ f. f ≡ CallingFault.NoMemory) }
 {
     if live.objects.is_live(o) {
         return begin_live(live, stack, low, o);
@@ -65,8 +64,31 @@ fn begin_found(
     begin_error(live.alloc, stack, low, ErrorKind::BadTarget)
 }
 
+/// `call_other` of an object that is to be loaded goes on as a job. Its values are its arguments, where they lie.
+fn begin_target(
+    live: &Live,
+    stack: &Vec<Value>,
+    low: usize,
+    name: &str,
+) -> Result<Begun, CallingFault>
+    requires low { low ≤ length stack.now.items }
+    requires unnamed { IsUnnamedTarget live.now (drop low stack.now.items) (chars name.now) }
+    requires other { is_clone_name (chars name.now) ≡ false }
+    ensures starts { IfOk result (λ r. (caller : _) → Starts r Efun.CallOther caller live.now low stack.now.items stack.now.items) }
+    ensures there { IfOk result (λ r. (cells : Store) → IsBegunThere cells r) }
+    ensures ready { IfOk result (λ r. (objects : _) → IsBegunReady objects r) }
+{
+    let name = Text::from_str(live.alloc, name)?;
+    let function = text_shared(live.alloc, above(stack, low), 1)?;
+    Ok(Begun::Runs(Job {
+        efun: Efun::CallOther,
+        low,
+        stage: Stage::Target(name, function),
+    }))
+}
+
 /// `call_other` begins whose target is a text that means a name which no live object has. A clone's name is an error; an object
-/// of another name would be loaded.
+/// of another name is loaded.
 fn begin_unnamed(
     live: &Live,
     stack: &mut Vec<Value>,
@@ -79,12 +101,11 @@ fn begin_unnamed(
     ensures fit { OnOk result (IsFit live.now stack.old.items → IsFit live.now stack.new.items) }
     ensures there { IfOk result (λ r. (cells : Store) → IsBegunThere cells r) }
     ensures ready { IfOk result (IsBegunReady live.now.objects) }
-    ensures yet { IfErr result (λ f. f ≡ CallingFault.NotYet → NeedsLoad live.now Efun.CallOther (drop low stack.old.items)) }
 {
     if is_clone_name(name) {
         return begin_error(live.alloc, stack, low, ErrorKind::BadTarget);
     }
-    Err(CallingFault::NotYet)
+    begin_target(live, stack, low, name)
 }
 
 /// `call_other` begins whose target is a text: the live object with the name that it means.
@@ -95,7 +116,6 @@ fn begin_named(live: &Live, stack: &mut Vec<Value>, low: usize) -> Result<Begun,
     ensures fit { OnOk result (IsFit live.now stack.old.items → IsFit live.now stack.new.items) }
     ensures there { IfOk result (λ r. (cells : Store) → IsBegunThere cells r) }
     ensures ready { IfOk result (IsBegunReady live.now.objects) }
-    ensures yet { IfErr result (λ f. f ≡ CallingFault.NotYet → NeedsLoad live.now Efun.CallOther (drop low stack.old.items)) }
 {
     let name = as_name(live.alloc, text_at(above(stack, low), 0))?;
     match live.names.find(name.as_str()) {
@@ -115,7 +135,6 @@ pub(crate) fn begin_call(
     ensures fit { OnOk result (IsFit live.now stack.old.items → IsFit live.now stack.new.items) }
     ensures there { IfOk result (λ r. (cells : Store) → IsBegunThere cells r) }
     ensures ready { IfOk result (IsBegunReady live.now.objects) }
-    ensures yet { IfErr result (λ f. f ≡ CallingFault.NotYet → NeedsLoad live.now Efun.CallOther (drop low stack.old.items)) }
 {
     match target(above(stack, low), &live.objects) {
         CallTarget::Live(o) => begin_live(live, stack, low, o),

@@ -1,11 +1,13 @@
 //! Ends of efuns.
-ghost use Rattle.std.specs.Prelude.{◌≡◌, ◌<◌, ◌≤◌, IfErr, IfOk, List, OnOk, Option, length, take};
+ghost use Rattle.std.specs.Prelude.{◌≡◌, ◌<◌, ◌≤◌, IfOk, List, OnOk, Option, length, take, ℕ};
 ghost use Rattle.lp_values.specs.Errors.{bad_arg, plain};
 ghost use Rattle.lp_cells.specs.Cells.{Store};
 ghost use Rattle.lp_instr.specs.EfunList.{efun_name};
+ghost use Rattle.lp_instr.specs.declared.efun.Efun.{Efun as Ef};
 ghost use Rattle.lp_efuns.specs.declared.answer.Answer.{Answer as A};
 ghost use Rattle.lp_efuns.specs.declared.caller.Turn.{Turn};
 ghost use Rattle.lp_step.specs.Steps.{IsFit};
+ghost use Rattle.lp_world.specs.declared.live.Live.{Live as L};
 ghost use Rattle.lp_world.specs.declared.objects.Object.{Object};
 ghost use Rattle.lp_calling.specs.Beginning.{IsBegunReady, IsBegunThere};
 ghost use Rattle.lp_calling.specs.Going.{IsAskedThere, IsStepThere, StageGoes};
@@ -43,7 +45,6 @@ pub(crate) fn begin_error(
     ensures there { IfOk result (λ r. (cells : Store) → IsBegunThere cells r) }
     ensures ready { IfOk result (λ r. (objects : List (Option Object)) → IsBegunReady objects r) }
     ensures keeps { OnOk result ((live : _) → IsFit live stack.old.items → IsFit live stack.new.items) }
-    ensures fault { IfErr result (λ f. f ≡ CallingFault.NoMemory) }
 {
     let error = RunError::plain(alloc, kind)?;
     Ok(begin_end(stack, low, Answer::Error(error)))
@@ -61,7 +62,6 @@ pub(crate) fn begin_bad(
     ensures there { IfOk result (λ r. (cells : Store) → IsBegunThere cells r) }
     ensures ready { IfOk result (λ r. (objects : List (Option Object)) → IsBegunReady objects r) }
     ensures keeps { OnOk result ((live : _) → IsFit live stack.old.items → IsFit live stack.new.items) }
-    ensures fault { IfErr result (λ f. f ≡ CallingFault.NoMemory) }
 {
     let answer = bad_argument(alloc, efun, number)?;
     Ok(begin_end(stack, low, answer))
@@ -120,6 +120,7 @@ pub(crate) fn end_error(
     kind: ErrorKind,
 ) -> Result<Step, AllocError>
     ensures ends { IfOk result (λ r. (r ≡ S.Ends (A.Error (plain kind))) × (stack.new.items ≡ take low stack.old.items)) }
+    ensures goes { IfOk result (λ r. (efun : Ef) (live : L) (turn : Turn) (budget : ℕ) → StageGoes r efun (Stage.Error kind) low live turn stack.old.items budget live stack.new.items budget) }
     ensures there { IfOk result (λ r. (cells : Store) → IsStepThere cells r) }
     ensures asked { IfOk result (λ r. (objects : List (Option Object)) → IsAskedThere objects r) }
     ensures keeps { OnOk result ((live : _) → IsFit live stack.old.items → IsFit live stack.new.items) }

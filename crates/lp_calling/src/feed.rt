@@ -1,5 +1,6 @@
 //! Jobs are told what was answered.
-ghost use Rattle.std.specs.Prelude.{◌≡◌, ◌<◌, ◌≤◌, IfOk, List, OnOk, Option, length};
+ghost use Rattle.std.specs.Prelude.{◌≡◌, ◌<◌, ◌≤◌, IfOk, List, OnOk, Option, length, ℕ};
+ghost use Rattle.lp_values.specs.declared.value.Value.{Value as V};
 ghost use Rattle.lp_cells.specs.Cells.{IsThere};
 ghost use Rattle.lp_world.specs.Rows.{live_in};
 ghost use Rattle.lp_world.specs.declared.objects.Object.{Object};
@@ -10,16 +11,46 @@ ghost use Rattle.lp_calling.specs.Jobs.{IsAsking, IsJobOn, IsReady, IsStageAskin
 use crate::items::take_item;
 use crate::job::{Job, Stage};
 use crate::laying::put_at;
-use lp_values::value::Value;
+use lp_values::error::ErrorKind;
+use lp_values::id::ObjId;
+use lp_values::text::Text;
+use lp_values::value::{Living, Value};
 use lp_world::live::Live;
 use lp_world::objects::ObjectTable;
 use std::alloc::AllocError;
 use std::mem;
 
+/// A function is called in an object, which is no target where it does not live.
+fn call_in(objects: &ObjectTable, o: ObjId, function: Text) -> Stage
+    ensures takes { (name : List ℕ) (low : ℕ) (stack : List V) → StageTakes (Stage.Target name function) (V.Obj o) (live_in objects.now) low stack result stack }
+    ensures on { (low n : ℕ) → low ≤ n → IsStageOn result low n }
+    ensures less { stage_left result < 2 }
+    ensures ready { IsStageReady objects.now result }
+{
+    if !objects.is_live(o) {
+        return Stage::Error(ErrorKind::BadTarget);
+    }
+    Stage::Call(o, function)
+}
+
+/// A function is called in the object that a load gave; another value is no target.
+fn take_target(objects: &ObjectTable, v: Value, function: Text) -> Stage
+    ensures takes { (name : List ℕ) (low : ℕ) (stack : List V) → StageTakes (Stage.Target name function) v (live_in objects.now) low stack result stack }
+    ensures on { (low n : ℕ) → low ≤ n → IsStageOn result low n }
+    ensures less { stage_left result < 2 }
+    ensures ready { IsStageReady objects.now result }
+{
+    match v {
+        Value::Obj(o) => call_in(objects, o, function),
+        _ => Stage::Error(ErrorKind::BadTarget),
+    }
+}
+
 /// The answer of the one question of a job is its value.
 fn take_value(stack: &mut Vec<Value>, low: usize, v: Value) -> Result<Stage, AllocError>
     requires { low ≤ length stack.old.items }
     ensures takes { IfOk result (λ t. (o : _) (name : _) (live : _) → StageTakes (Stage.Call o name) v live low stack.old.items t stack.new.items) }
+    ensures loaded { IfOk result (λ t. (name : _) (live : _) → StageTakes (Stage.Load name) v live low stack.old.items t stack.new.items) }
     ensures on { IfOk result (λ t. IsStageOn t low (length stack.new.items)) }
     ensures less { IfOk result (λ t. stage_left t < 1) }
     ensures ready { IfOk result (λ t. (objects : List (Option Object)) → IsStageReady objects t) }
@@ -42,16 +73,19 @@ fn taken(
     ensures takes { IfOk result (λ t. StageTakes stage v (live_in objects.now) low stack.old.items t stack.new.items) }
     ensures on { IfOk result (λ t. IsStageOn t low (length stack.new.items)) }
     ensures less { IfOk result (λ t. stage_left t < stage_left stage) }
-    ensures ready { IfOk result (λ t. (rows : List (Option Object)) → IsStageReady rows t) }
+    ensures ready { IfOk result (IsStageReady objects.now) }
     ensures fit { OnOk result ((l : _) → IsThere l.cells v → IsFit l stack.old.items → IsFit l stack.new.items) }
 {
     match stage {
         Stage::Call(_, _) => take_value(stack, low, v),
+        Stage::Target(_, function) => Ok(take_target(objects, v, function)),
+        Stage::Load(_) => take_value(stack, low, v),
         Stage::Items(round) => take_item(round, objects, stack, low, v),
         Stage::Tell(_, _) => Ok(Stage::Zero),
         Stage::Write(_) => Ok(Stage::Zero),
         Stage::Value => Ok(Stage::Zero),
         Stage::Zero => Ok(Stage::Zero),
+        Stage::Error(_) => Ok(Stage::Zero),
     }
 }
 
@@ -68,7 +102,7 @@ pub fn feed(job: &mut Job, live: &Live, stack: &mut Vec<Value>, v: Value) -> Res
     ensures takes { OnOk result (Takes job.old v live.now stack.old.items job.new stack.new.items) }
     ensures on { OnOk result (IsJobOn job.new stack.new.items) }
     ensures less { OnOk result (questions_left job.new < questions_left job.old) }
-    ensures ready { OnOk result ((objects : List (Option Object)) → IsReady objects job.new) }
+    ensures ready { OnOk result (IsReady live.now.objects job.new) }
     ensures fit { OnOk result (IsFit live.now stack.new.items) }
 {
     let stage = mem::replace(&mut job.stage, Stage::Zero);

@@ -1,5 +1,5 @@
 //! `filter` and `map`.
-ghost use Rattle.std.specs.Prelude.{◌≡◌, ◌+◌, ◌-◌, ◌<◌, ◌≤◌, ◌++◌, All, IfErr, IfOk, List, OnOk, Option, Some, drop, false, length, map, slice_get, take, true};
+ghost use Rattle.std.specs.Prelude.{◌≡◌, ◌+◌, ◌-◌, ◌<◌, ◌≤◌, ◌++◌, All, IfOk, List, OnOk, Option, Some, drop, false, length, map, slice_get, take, true};
 ghost use Rattle.lp_values.specs.declared.value.Value.{Value as V};
 ghost use Rattle.lp_cells.specs.Cells.{IsClosed as AreClosed};
 ghost use Rattle.lp_cells.specs.Cells.{IsThere, KeepsThere, Store, with_cell};
@@ -79,7 +79,6 @@ fn begin_round(
     ensures fit { OnOk result (IsFit live.now stack.new.items) }
     ensures there { IfOk result (λ r. (cells : Store) → IsBegunThere cells r) }
     ensures ready { IfOk result (λ r. (objects : List (Option Object)) → IsBegunReady objects r) }
-    ensures fault { IfErr result (λ f. f ≡ CallingFault.NoMemory) }
 {
     let arguments = stack.len() - low;
     let function = text_shared(live.alloc, above(stack, low), 1)?;
@@ -112,7 +111,6 @@ pub(crate) fn begin_items(
     ensures fit { OnOk result (IsFit live.now stack.new.items) }
     ensures there { IfOk result (λ r. (cells : Store) → IsBegunThere cells r) }
     ensures ready { IfOk result (λ r. (objects : List (Option Object)) → IsBegunReady objects r) }
-    ensures fault { IfErr result (λ f. f ≡ CallingFault.NoMemory) }
 {
     match subject(above(stack, low), 2, caller.this, &live.objects) {
         Some(o) => begin_round(live, stack, low, is_filter, o),

@@ -4,6 +4,7 @@ ghost use Rattle.lp_calling.specs.declared.job.CallingFault.TheVariants.{NoMemor
 
 use lp_efuns::answer::{Answer, EfunFault};
 use lp_instr::efun::Efun;
+use lp_values::error::ErrorKind;
 use lp_values::id::ObjId;
 use lp_values::text::Text;
 use std::alloc::{AllocError, AllocFailed};
@@ -16,6 +17,8 @@ pub enum Question {
     Other(ObjId, Text),
     /// `catch_tell` of an object, as the driver applies it.
     CatchTell(ObjId),
+    /// An object is loaded, by its name, for LPC. That takes no arguments; the value is the object.
+    Load(Text),
 }
 
 /// A function of an object is called for items, one after another. On the stack lie the arguments of the efun, the items of
@@ -41,6 +44,11 @@ pub struct Round {
 pub enum Stage {
     /// It calls a function of an object, by its name. Its values on the stack are the arguments of the efun.
     Call(ObjId, Text),
+    /// It loads the object of this name, and then calls the function of this other name in it. Its values on the stack are the
+    /// arguments of the efun.
+    Target(Text, Text),
+    /// It loads the object of this name, and comes to that.
+    Load(Text),
     /// It calls a function for the items that are left.
     Items(Round),
     /// It gives an object a text.
@@ -51,6 +59,8 @@ pub enum Stage {
     Value,
     /// It has come to 0.
     Zero,
+    /// It has come to an error of this kind.
+    Error(ErrorKind),
 }
 
 /// An efun that calls LPC.
@@ -88,10 +98,6 @@ pub enum CallingFault {
     /// Memory ran out.
     #[error("out of memory")]
     NoMemory,
-    /// The target of `call_other` is a text whose object would be loaded: no live object has the name that it means, and that is
-    /// no clone's. It comes once the price before is paid and the arguments are of their kinds, and with no other efun or target.
-    #[error("not carried out yet")]
-    NotYet,
 }
 
 impl From<AllocError> for CallingFault {

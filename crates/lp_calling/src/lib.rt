@@ -8,6 +8,7 @@ pub mod feed;
 mod items;
 pub mod job;
 mod laying;
+mod load;
 mod messages;
 pub mod next;
 mod target;

@@ -1,5 +1,5 @@
 //! `tell_object`, `write` and `printf`.
-ghost use Rattle.std.specs.Prelude.{◌≡◌, ◌≤◌, ◌++◌, ◌∷◌, [], All, IfErr, IfOk, IfSome, MatchResult, List, OnOk, Option, Result, Err, Some, None, ℕ, drop, length, map, true};
+ghost use Rattle.std.specs.Prelude.{◌≡◌, ◌≤◌, ◌++◌, ◌∷◌, [], All, IfOk, IfSome, MatchResult, List, OnOk, Option, Result, Err, Some, None, ℕ, drop, length, map, true};
 ghost use Rattle.std.specs.Option.{option_map};
 ghost use Rattle.lp_values.specs.declared.id.ObjId.{ObjId as Oid};
 ghost use Rattle.lp_values.specs.declared.value.Value.{Value as V};
@@ -67,7 +67,6 @@ pub(crate) fn begin_tell(live: &Live, stack: &Vec<Value>, low: usize) -> Result<
     ensures starts { IfOk result (λ r. (caller : _) → Starts r Efun.TellObject caller live.now low stack.now.items stack.now.items) }
     ensures there { IfOk result (λ r. (cells : Store) → IsBegunThere cells r) }
     ensures ready { IfOk result (λ r. (objects : List (Option Object)) → IsBegunReady objects r) }
-    ensures fault { IfErr result (λ f. f ≡ CallingFault.NoMemory) }
 {
     let text = text_shared(live.alloc, above(stack, low), 1)?;
     let stage = tell_stage(above(stack, low), &live.objects, text);
@@ -113,7 +112,6 @@ pub(crate) fn begin_write(
     ensures starts { IfOk result (λ r. (caller : _) → Starts r Efun.Write caller live.now low stack.now.items stack.now.items) }
     ensures there { IfOk result (λ r. (cells : Store) → IsBegunThere cells r) }
     ensures ready { IfOk result (λ r. (objects : List (Option Object)) → IsBegunReady objects r) }
-    ensures fault { IfErr result (λ f. f ≡ CallingFault.NoMemory) }
 {
     let text = written_text(live, above(stack, low))?;
     Ok(Begun::Runs(Job {
@@ -167,7 +165,6 @@ pub(crate) fn begin_printf(
     ensures fit { OnOk result (IsFit live.now stack.new.items) }
     ensures there { IfOk result (λ r. (cells : Store) → IsBegunThere cells r) }
     ensures ready { IfOk result (λ r. (objects : List (Option Object)) → IsBegunReady objects r) }
-    ensures fault { IfErr result (λ f. f ≡ CallingFault.NoMemory) }
 {
     match printed(live, above(stack, low))? {
         Ok(text) => Ok(Begun::Runs(Job {

@@ -7,10 +7,11 @@ ghost use Rattle.lp_calling.specs.Going.{Goes, IsAskedThere, IsStepThere, StageG
 ghost use Rattle.lp_calling.specs.Jobs.{IsJobOn, IsReady, IsStageOn, IsStageReady, questions_left};
 
 use crate::call::ask_call;
-use crate::ends::{end_value, end_zero};
+use crate::ends::{end_error, end_value, end_zero};
 use crate::items::step_items;
 use crate::job::{Job, Stage, Step};
 use crate::laying::cut;
+use crate::load::ask_load;
 use crate::messages::{step_tell, step_write};
 use lp_efuns::caller::Turn;
 use lp_instr::efun::Efun;
@@ -43,11 +44,14 @@ fn go(
 {
     match stage {
         Stage::Call(o, name) => ask_call(efun, *o, name, stack, low),
+        Stage::Target(name, _) => ask_load(name),
+        Stage::Load(name) => ask_load(name),
         Stage::Items(round) => step_items(efun, round, live, stack, low, budget),
         Stage::Tell(o, text) => step_tell(efun, *o, text, live, stack, low, budget),
         Stage::Write(text) => step_write(efun, text, live, turn, stack, low, budget),
         Stage::Value => Ok(end_value(efun, live, stack, low, budget)),
         Stage::Zero => Ok(end_zero(efun, live, stack, low, budget)),
+        Stage::Error(kind) => end_error(live.alloc, stack, low, *kind),
     }
 }
 

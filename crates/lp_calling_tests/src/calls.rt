@@ -67,7 +67,7 @@ fn targets(rt: HostRuntime) -> Result<(), Fail> {
     hold(&rt, rt.alloc(), None, &TARGETS)
 }
 
-const TEXTS: [Row; 10] = [
+const TEXTS: [Row; 6] = [
     (
         Efun::CallOther,
         &[One(Str("/obj/sword")), One(Str("f")), One(Int(1))],
@@ -97,30 +97,6 @@ const TEXTS: [Row; 10] = [
         &[One(Str("#")), One(Str("f"))],
         &FIVE,
         "*Bad target\n",
-    ),
-    (
-        Efun::CallOther,
-        &[One(Str("/obj/dead")), One(Str("f"))],
-        &FIVE,
-        "not yet and leaves values",
-    ),
-    (
-        Efun::CallOther,
-        &[One(Str("/obj/none")), One(Str("f"))],
-        &FIVE,
-        "not yet and leaves values",
-    ),
-    (
-        Efun::CallOther,
-        &[One(Str("/obj/sword.c.c")), One(Str("f"))],
-        &FIVE,
-        "not yet and leaves values",
-    ),
-    (
-        Efun::CallOther,
-        &[One(Str("")), One(Str("f"))],
-        &FIVE,
-        "not yet and leaves values",
     ),
     (
         Efun::CallOther,

@@ -44,10 +44,6 @@ fn start(
             say_end(rt, live, log, answer)?;
             Ok(None)
         }
-        Err(CallingFault::NotYet) => {
-            say(live.alloc, log, "not yet")?;
-            Ok(None)
-        }
         Err(CallingFault::NoMemory) => Err(AllocError)?,
     }
 }

@@ -12,6 +12,8 @@ mod happening;
 #[cfg(test)]
 mod items;
 #[cfg(test)]
+mod loads;
+#[cfg(test)]
 mod messages;
 #[cfg(test)]
 mod prices;

@@ -75,7 +75,7 @@ fn say_values(
 }
 
 /// Whom a question asks for what: the object by its serial, and the function behind a full stop, or behind an exclamation mark
-/// where it is applied.
+/// where it is applied. An object that is loaded is told by its name.
 fn say_question(alloc: Global, log: &mut Vec<char>, question: &Question) -> Result<(), AllocError> {
     match question {
         Question::Other(o, name) => {
@@ -86,6 +86,10 @@ fn say_question(alloc: Global, log: &mut Vec<char>, question: &Question) -> Resu
         Question::CatchTell(o) => {
             say_number(alloc, log, o.0)?;
             say(alloc, log, "!catch_tell")
+        }
+        Question::Load(name) => {
+            say(alloc, log, "load ")?;
+            log.extend_from_slice(name.as_slice())
         }
     }
 }

@@ -1,5 +1,5 @@
 -- How `clone_object` begins: the price before, the kind of its argument, and then what it does.
-use Rattle.std.proofs.Common.{◌≡◌, ◌∙◌, ◌+◌, ◌-◌, ◌≤◌, ◌++◌, ℕ, true, false, List, Option, Some, None, All, refl, ap, sym, subst, drop, length, map, nat_lt, take, arith, length-append, if◌then◌else◌}
+use Rattle.std.proofs.Common.{◌≡◌, ◌∙◌, ◌+◌, ◌-◌, ◌≤◌, ◌++◌, ℕ, true, false, List, Option, Some, None, Result, Ok, Err, IfErr, All, refl, ap, sym, subst, drop, length, map, nat_lt, take, arith, length-append, if◌then◌else◌}
 use Rattle.std.proofs.lemmas.List.{drop_at, take_at}
 use Rattle.std.proofs.lemmas.List.Elements.{All-drop}
 use Rattle.lp_values.specs.Errors.{bad_arg}
@@ -16,7 +16,7 @@ use Rattle.lp_language.specs.Operations.{cells_of, living, with_store}
 use Rattle.lp_meaning.specs.Askers.{Asker}
 use Rattle.lp_meaning.specs.CallingEfuns.{calls, clone_object}
 use Rattle.lp_meaning.specs.EfunArguments.{arg, first_bad, opened_args, price_before}
-use Rattle.lp_meaning.specs.FileLoads.{clone_of}
+use Rattle.lp_meaning.specs.FileLoads.{clone_name, clone_of}
 use Rattle.lp_meaning.specs.WorldSteps.{as_name, load_name}
 use Rattle.lp_ops.specs.Operands.{opened}
 use Rattle.lp_values.specs.declared.id.ObjId.{ObjId}
@@ -35,9 +35,12 @@ use Rattle.lp_beginning.specs.Beginning.{Fits}
 use Rattle.lp_beginning.specs.Ends.{IsValueEnd}
 use Rattle.lp_cloning.specs.declared.job.Begun.{Begun}
 use Rattle.lp_cloning.specs.declared.job.Begun.TheVariants as begun
-use Rattle.lp_cloning.specs.Arguments.{ActsAs, IsBlueprintName, IsRefused, IsSpent, NamesBlueprint}
+use Rattle.lp_cloning.specs.declared.fault.CloningFault.{CloningFault}
+use Rattle.lp_cloning.specs.declared.fault.CloningFault.TheVariants as faults
+use Rattle.lp_cloning.specs.Faults.{IsNoMemory, IsTakenFor}
+use Rattle.lp_cloning.specs.Arguments.{ActsAs, IsBlueprintName, IsRefused, IsSpent, IsTakenIf, NamesBlueprint, RefusesOn}
 use Rattle.lp_beginning.specs.Reports.{IsObjectName}
-use Rattle.lp_cloning.specs.Beginning.{Begins, StartsAs}
+use Rattle.lp_cloning.specs.Beginning.{Begins, IsAtBeginning, StartsAs}
 use Rattle.lp_cloning.specs.Jobs.{ended}
 
 abbrev e : Efun
@@ -145,8 +148,31 @@ module _ (live : Live) (stack0 : List Value) (n args old : ℕ) (there : All (Is
       let i = st c paid low vs q (top low vs q k) in (
         i.0,
         λ g by turn s w h. let j = i.1 g by turn (record s { budget = s.budget - before }) w (paid_at before paid g turn s z h) in
-            (j.0, j.1, acting_course before low vs g turn by c s q k h less f d ∙ j.2),
+            (j.0, j.1, acting_course before low vs g turn by c s q k h less f d ∙ j.2, j.3),
       )
+
+  -- it was refused
+  refuses_on : (told : Option Bytes) (f : CloningFault) → IsTakenIf told live (drop n stack0) f → RefusesOn told live stack0 args f
+  refuses_on told f h low vs q k = subst (λ ws. IsTakenIf told live ws f) (arguments_are low vs q k) h
+
+  pub refused_on : {B : Type 0} (told : Option Bytes) (r : Result B CloningFault) → IfErr r (IsTakenIf told live (drop n stack0)) → IfErr r (RefusesOn told live stack0 args)
+  refused_on told (Ok x) h = tt
+  refused_on told (Err f) h = refuses_on told f h
+
+-- memory ran out
+want_on : (told : Option Bytes) (live : Live) (stack : List Value) (args : ℕ) (f : CloningFault) → IsNoMemory f → RefusesOn told live stack args f
+want_on told live stack args f e low vs q k = subst (IsTakenIf told live vs) (sym e) tt
+
+pub want_refused : {B : Type 0} (told : Option Bytes) (live : Live) (stack : List Value) (args : ℕ) (r : Result B CloningFault) → IfErr r IsNoMemory → IfErr r (RefusesOn told live stack args)
+want_refused told live stack args (Ok x) h = tt
+want_refused told live stack args (Err f) h = want_on told live stack args f h
+
+-- the blueprint that the arguments name has such a clone
+pub taken_if : {B : Type 0} (told : Option Bytes) (live : Live) (vs : List Value) (name : List ℕ) (r : Result B CloningFault) → IsBlueprintName live vs name → IfErr r (IsTakenFor told live (λ w. clone_name w name)) → IfErr r (IsTakenIf told live vs)
+taken_if told live vs name (Ok x) i h = tt
+taken_if told live vs name (Err faults.NameTaken) i h = record { name = name; blueprint = i; taken = h }
+taken_if told live vs name (Err (faults.Swap cause)) i h = tt
+taken_if told live vs name (Err faults.NoMemory) i h = tt
 
 -- what the efun does is what `clone_object` means
 does : (c : Scene) (vs : List Value) (by : Asker) (s : State) → calls e by c s vs (opened_args s vs) ≡ clone_object by s (arg (opened_args s vs) 0)
@@ -158,7 +184,7 @@ pub named_acts : (r : Begun) (told : Option Bytes) (live0 live1 : Live) (below :
     → ActsAs r told live0 below stack0 live1 stack1
 named_acts r told live0 live1 below stack0 stack1 name i t h = λ c budget low vs q k. (
   t ∙ ap (take below) q ∙ take_at low vs below k,
-  with_price r (λ by s. calls e by c s vs (opened_args s vs)) told live0 live1 budget
+  with_price IsAtBeginning r (λ by s. calls e by c s vs (opened_args s vs)) told live0 live1 budget
       (starts_as r (λ by s. clone_of by name s) (λ by s. calls e by c s vs (opened_args s vs)) told live0 live1
       (λ g by turn b s w f. does c vs by s ∙ subst (λ ws. clone_object by s (arg (opened_args s ws) 0) ≡ clone_of by name s) (ap (drop below) q ∙ drop_at low vs below k) (i g turn b by s f.at)) h),
 )

@@ -56,7 +56,7 @@ starts_as (begun.Ends e) a b told live0 live1 same h = λ budget g by turn s q f
     record { end = x.end; over = same g by turn budget s q f ∙ x.over; is = x.is; fits = x.fits }
 starts_as (begun.Runs job) a b told live0 live1 same h = λ budget g by turn s q f.
     let x = h budget g by turn s q f in
-    (x.0, x.1, same g by turn budget s q f ∙ x.2)
+    (x.0, x.1, same g by turn budget s q f ∙ x.2, x.3)
 
 -- an error
 pub error_starts : (kind : ErrorKind) (r : Begun) (a : Asked) (told : Option Bytes) (live : Live) → IsError kind r → ((g : Setting) (by : Asker) (turn : Turn) (budget : ℕ) (s : State) → g.told ≡ told → Fits g live turn budget s → a by s ≡ stops (Failed (plain kind)) s)
@@ -86,7 +86,7 @@ named_starts (made.Ends e) name v told live0 live1 h = λ budget g by turn s q f
     reply_over g live1 turn budget e (making course.Wanted by name v s) x.end x.over x.is x.fits
 named_starts (made.Runs job) name v told live0 live1 h = λ budget g by turn s q f.
     let x = h g by turn budget s q f in
-    (x.0, x.1, ap (λ c. and_then c object_reply) x.2)
+    (x.0, x.1, ap (λ c. and_then c object_reply) x.2, x.3)
 
 -- The next number is given.
 
@@ -94,6 +94,8 @@ named_starts (made.Runs job) name v told live0 live1 h = λ budget g by turn s q
 pub record Numbers (told : Option Bytes) (live0 live1 : Live) (name full : List ℕ) : Type 0 where
   pub fits : (g : Setting) (turn : Turn) (budget : ℕ) (s : State) → g.told ≡ told → Fits g live0 turn budget s → Fits g live1 turn budget (record s { world = with_clone_number s.world })
   pub named : (g : Setting) (turn : Turn) (budget : ℕ) (s : State) → g.told ≡ told → Fits g live0 turn budget s → full ≡ clone_name s.world name
+  pub stands : (programs : List RawProgram) (w : World) → Stands told programs live0 w → Stands told programs live1 (with_clone_number w)
+  pub called : (programs : List RawProgram) (w : World) → Stands told programs live0 w → full ≡ clone_name w name
 
 pub numbered_starts : (r : Begun) (name full : List ℕ) (v : ProgId) (told : Option Bytes) (live0 mid live1 : Live) → Numbers told live0 mid name full → StartsAs r (made_named full v) told mid live1 → StartsAs r (made_numbered name v) told live0 live1
 numbered_starts (begun.Ends e) name full v told live0 mid live1 n h = λ budget g by turn s q f.
@@ -101,7 +103,7 @@ numbered_starts (begun.Ends e) name full v told live0 mid live1 n h = λ budget 
     record { end = x.end; over = ap (λ z. made_named z v by (record s { world = with_clone_number s.world })) (sym (n.named g turn budget s q f)) ∙ x.over; is = x.is; fits = x.fits }
 numbered_starts (begun.Runs job) name full v told live0 mid live1 n h = λ budget g by turn s q f.
     let x = h budget g by turn (record s { world = with_clone_number s.world }) q (n.fits g turn budget s q f) in
-    (x.0, x.1, ap (λ z. made_named z v by (record s { world = with_clone_number s.world })) (sym (n.named g turn budget s q f)) ∙ x.2)
+    (x.0, x.1, ap (λ z. made_named z v by (record s { world = with_clone_number s.world })) (sym (n.named g turn budget s q f)) ∙ x.2, x.3)
 
 stands_numbered : (told : Option Bytes) (programs : List RawProgram) (live : Live) (w : World) (table : Objects) → Stands told programs live w → names.Stands table (map named_of w.objects) → names.next_clone_in table ≡ w.next_clone + 1
     → Stands told programs (record live { names = table }) (with_clone_number w)
@@ -208,4 +210,6 @@ numbers told live table name full number given after same is =
     record {
       fits = λ g turn budget s q f. fits_numbered g live turn budget s table f (same (map named_of s.world.objects) f.world.stands.names) (x.1 ∙ ap (λ n. n + 1) f.world.stands.rest.next_clone);
       named = λ g turn budget s q f. is ∙ ap (λ n. name ++ codes "#" ++ decimal n) (x.0 ∙ f.world.stands.rest.next_clone);
+      stands = λ programs w s. stands_numbered told programs live w table s (same (map named_of w.objects) s.names) (x.1 ∙ ap (λ n. n + 1) s.rest.next_clone);
+      called = λ programs w s. is ∙ ap (λ n. name ++ codes "#" ++ decimal n) (x.0 ∙ s.rest.next_clone);
     }

@@ -1,3 +1,5 @@
 pub mod Cloned
 pub mod Told
 pub mod Arguing
+pub mod Telling
+pub mod Behind

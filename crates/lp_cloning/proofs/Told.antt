@@ -32,7 +32,7 @@ use Rattle.lp_cloning.specs.declared.job.Begun.{Begun}
 use Rattle.lp_cloning.specs.declared.job.Begun.TheVariants as begun
 use Rattle.lp_cloning.specs.declared.job.Cloning.{Cloning}
 use Rattle.lp_cloning.specs.declared.job.Cloning.TheVariants as stages
-use Rattle.lp_cloning.specs.Beginning.{Asked, BeginsAs, Continues, Feeds, IsOverAt, StartsAs}
+use Rattle.lp_cloning.specs.Beginning.{Asked, BeginsWith, Continues, Feeds, IsOverAt, StartsAs, StartsWith, holds_behind}
 use Rattle.lp_cloning.specs.Feeding.{live_in_value}
 use Rattle.lp_cloning.specs.Jobs.{clone_loaded, ended, stage_rest}
 
@@ -44,7 +44,7 @@ none_less n = elim (cases_Bool (nat_lt n 0)) [
   | inr f ↦ f
 ]
 
-value_free : (v : Value) (s : State) → ended v s ≡ Over (Gives v s)
+pub value_free : (v : Value) (s : State) → ended v s ≡ Over (Gives v s)
 value_free v s =
     ap (λ (b : Bool). Over (if b then spent s else Gives v (record s { budget = s.budget - 0 }))) (none_less s.budget)
     ∙ ap (λ n. Over (Gives v (record s { budget = n }))) (let z : s.budget - 0 ≡ s.budget = omega arith in z)
@@ -56,14 +56,14 @@ priced_over : (g : Setting) (live : Live) (turn : Turn) (budget : ℕ) (e : Endi
 priced_over g live turn budget e c (Gives v s) o i f = record { end = Gives v s; over = ap (λ x. and_then x ended) o ∙ value_free v s; is = i; fits = f }
 priced_over g live turn budget e c (Stops x s) o i f = record { end = Stops x s; over = ap (λ x. and_then x ended) o; is = i; fits = f }
 
-pub with_price : (r : Begun) (a : Asked) (told : Option Bytes) (live0 live1 : Live) (budget : ℕ) → StartsAs r a told live0 live1 → BeginsAs r (λ by s. and_then (a by s) ended) told live0 budget live1 budget
-with_price (begun.Ends e) a told live0 live1 budget h = λ g by turn s q f.
+pub with_price : (holds : Cloning → State → Type 0) (r : Begun) (a : Asked) (told : Option Bytes) (live0 live1 : Live) (budget : ℕ) → StartsWith holds r a told live0 live1 → BeginsWith holds r (λ by s. and_then (a by s) ended) told live0 budget live1 budget
+with_price holds (begun.Ends e) a told live0 live1 budget h = λ g by turn s q f.
     let x = h budget g by turn s q f in priced_over g live1 turn budget e (a by s) x.end x.over x.is x.fits
-with_price (begun.Runs job) a told live0 live1 budget h = λ g by turn s q f.
-    let x = h budget g by turn s q f in (x.0, x.1, ap (λ c. and_then c ended) x.2)
+with_price holds (begun.Runs job) a told live0 live1 budget h = λ g by turn s q f.
+    let x = h budget g by turn s q f in (x.0, x.1, ap (λ c. and_then c ended) x.2, x.3)
 
 pub feeds_of : (r : Begun) (job : Cloning) (answer : Answered) (told : Option Bytes) (live0 live1 : Live) → Continues r job answer told live0 live1 → Feeds r job answer told live0 live1
-feeds_of r job answer told live0 live1 h = λ budget reply i. with_price r (λ by s. stage_rest job by reply s) told live0 live1 budget (h reply i)
+feeds_of r job answer told live0 live1 h = λ budget reply i. with_price (holds_behind job) r (λ by s. stage_rest job by reply s) told live0 live1 budget (h reply i)
 
 -- A load gave a value.
 

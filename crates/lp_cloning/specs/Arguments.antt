@@ -1,5 +1,5 @@
 -- What the arguments of `clone_object` name.
-use Rattle.std.specs.Prelude.{◌≡◌, ◌++◌, ℕ, List, None, length}
+use Rattle.std.specs.Prelude.{◌≡◌, ◌++◌, ℕ, ⊤, List, None, length}
 use Rattle.lp_values.specs.declared.value.Value.{Value}
 use Rattle.lp_values.specs.Errors.{bad_arg}
 use Rattle.lp_instr.specs.EfunList.{efun_name}
@@ -12,15 +12,18 @@ use Rattle.lp_ops.specs.Operands.{operand}
 use Rattle.lp_meaning.specs.Askers.{Asker}
 use Rattle.lp_meaning.specs.CallingEfuns.{calls, clone_object}
 use Rattle.lp_meaning.specs.EfunArguments.{arg, opened_args}
-use Rattle.lp_meaning.specs.FileLoads.{clone_of}
+use Rattle.lp_meaning.specs.FileLoads.{clone_name, clone_of}
 use Rattle.lp_world.specs.declared.live.Live.{Live}
 use Rattle.lp_efuns.specs.declared.caller.Turn.{Turn}
 use Rattle.lp_efuns.specs.Turns.{At, Setting}
 use Rattle.lp_asking.specs.declared.ending.Cause.TheVariants as causes
 use Rattle.lp_asking.specs.declared.ending.Ending.TheVariants as endings
+use Rattle.lp_cloning.specs.declared.fault.CloningFault.{CloningFault}
+use Rattle.lp_cloning.specs.declared.fault.CloningFault.TheVariants as faults
 use Rattle.lp_cloning.specs.declared.job.Begun.{Begun}
 use Rattle.lp_cloning.specs.declared.job.Begun.TheVariants as begun
 use Rattle.lp_cloning.specs.Beginning.{BeginsAs}
+use Rattle.lp_cloning.specs.Faults.{IsTakenFor}
 use Rattle.lp_cloning.specs.Jobs.{ended}
 
 -- a value names the blueprint with this name, in each state for which the live state stands
@@ -48,3 +51,18 @@ abbrev pub ActsAs : Begun → Option Bytes → Live → ℕ → List Value → L
 ActsAs r told live0 below stack0 live1 stack1 =
     (c : Scene) (budget : ℕ) (low vs : List Value) → stack0 ≡ low ++ vs → length low ≡ below
     → (stack1 ≡ low) × BeginsAs r (λ by s. and_then (calls efuns.CloneObject by c s vs (opened_args s vs)) ended) told live0 budget live1 budget
+
+-- What is refused: the next clone of the blueprint that these arguments name would have the name of a live object.
+pub record IsTaken (told : Option Bytes) (live : Live) (vs : List Value) : Type 0 where
+  pub name : List ℕ
+  pub blueprint : IsBlueprintName live vs name
+  pub taken : IsTakenFor told live (λ w. clone_name w name) faults.NameTaken
+
+abbrev pub IsTakenIf : Option Bytes → Live → List Value → CloningFault → Type 0
+IsTakenIf told live vs faults.NameTaken = IsTaken told live vs
+IsTakenIf told live vs (faults.Swap cause) = ⊤
+IsTakenIf told live vs faults.NoMemory = ⊤
+
+-- of so many arguments on top of the stack
+abbrev pub RefusesOn : Option Bytes → Live → List Value → ℕ → CloningFault → Type 0
+RefusesOn told live stack args e = (low vs : List Value) → stack ≡ low ++ vs → length vs ≡ args → IsTakenIf told live vs e

@@ -22,7 +22,7 @@ use Rattle.lp_world.specs.Rows.{variables_at}
 use Rattle.lp_efuns.specs.declared.caller.Turn.{Turn}
 use Rattle.lp_efuns.specs.Turns.{Setting}
 use Rattle.lp_asking.specs.declared.ending.Ending.{Ending}
-use Rattle.lp_beginning.specs.Beginning.{Fits}
+use Rattle.lp_beginning.specs.Beginning.{Fits, HasItsParts}
 use Rattle.lp_beginning.specs.Ends.{IsValueEnd, state_at}
 use Rattle.lp_cloning.specs.declared.job.Answered.{Answered}
 use Rattle.lp_cloning.specs.declared.job.Begun.{Begun}
@@ -43,25 +43,42 @@ pub record IsOverAt (g : Setting) (live : Live) (turn : Turn) (budget : ℕ) (en
   pub is : IsValueEnd g.programs ending end
   pub fits : Fits g live turn budget (state_at end)
 
--- From each state for which the live state stands the course wanted is this one, in a state for which the live state stands then.
-abbrev pub GoesAs : Asked → Asked → Option Bytes → Live → ℕ → Live → ℕ → Type 0
-GoesAs wanted then_ told live0 budget0 live1 budget1 =
-    (g : Setting) (by : Asker) (turn : Turn) (s : State) → g.told ≡ told → Fits g live0 turn budget0 s → (t : State) × Fits g live1 turn budget1 t × (wanted by s ≡ then_ by t)
+-- From each state for which the live state stands the course wanted is this one, in a state for which the live state stands then,
+-- and of which this holds.
+abbrev pub GoesAs : Asked → Asked → (State → Type 0) → Option Bytes → Live → ℕ → Live → ℕ → Type 0
+GoesAs wanted then_ holds told live0 budget0 live1 budget1 =
+    (g : Setting) (by : Asker) (turn : Turn) (s : State) → g.told ≡ told → Fits g live0 turn budget0 s → (t : State) × Fits g live1 turn budget1 t × (wanted by s ≡ then_ by t) × holds t
+
+-- a job that has made its object is at its beginning: it has the parts of the object's program that have initialisers
+abbrev pub IsAtBeginning : Cloning → State → Type 0
+IsAtBeginning (stages.Load name) s = ⊤
+IsAtBeginning (stages.Make job) s = HasItsParts s.world job
+
+-- So is a job behind the load of its blueprint; of one behind a question of its object nothing is said.
+abbrev pub holds_behind : Cloning → Cloning → State → Type 0
+holds_behind (stages.Load name) = IsAtBeginning
+holds_behind (stages.Make job) = λ next s. ⊤
 
 -- From each such state it ends so.
 abbrev pub EndsAs : Asked → Ending → Option Bytes → Live → ℕ → Live → ℕ → Type 0
 EndsAs wanted ending told live0 budget0 live1 budget1 =
     (g : Setting) (by : Asker) (turn : Turn) (s : State) → g.told ≡ told → Fits g live0 turn budget0 s → IsOverAt g live1 turn budget1 ending (wanted by s)
 
--- a course before the price of its value ends so, or it is that of a job, which makes an object for LPC and has it in memory
+-- a course before the price of its value ends so, or it is that of a job, of which this holds
+abbrev pub StartsWith : (Cloning → State → Type 0) → Begun → Asked → Option Bytes → Live → Live → Type 0
+StartsWith holds (begun.Ends e) wanted told live0 live1 = (budget : ℕ) → EndsAs wanted e told live0 budget live1 budget
+StartsWith holds (begun.Runs job) wanted told live0 live1 = (budget : ℕ) → GoesAs wanted (stage_course job) (holds job) told live0 budget live1 budget
+
 abbrev pub StartsAs : Begun → Asked → Option Bytes → Live → Live → Type 0
-StartsAs (begun.Ends e) wanted told live0 live1 = (budget : ℕ) → EndsAs wanted e told live0 budget live1 budget
-StartsAs (begun.Runs job) wanted told live0 live1 = (budget : ℕ) → GoesAs wanted (stage_course job) told live0 budget live1 budget
+StartsAs r wanted told live0 live1 = StartsWith IsAtBeginning r wanted told live0 live1
 
 -- and a whole course
+abbrev pub BeginsWith : (Cloning → State → Type 0) → Begun → Asked → Option Bytes → Live → ℕ → Live → ℕ → Type 0
+BeginsWith holds (begun.Ends e) wanted told live0 budget0 live1 budget1 = EndsAs wanted e told live0 budget0 live1 budget1
+BeginsWith holds (begun.Runs job) wanted told live0 budget0 live1 budget1 = GoesAs wanted (course_of job) (holds job) told live0 budget0 live1 budget1
+
 abbrev pub BeginsAs : Begun → Asked → Option Bytes → Live → ℕ → Live → ℕ → Type 0
-BeginsAs (begun.Ends e) wanted told live0 budget0 live1 budget1 = EndsAs wanted e told live0 budget0 live1 budget1
-BeginsAs (begun.Runs job) wanted told live0 budget0 live1 budget1 = GoesAs wanted (course_of job) told live0 budget0 live1 budget1
+BeginsAs r wanted told live0 budget0 live1 budget1 = BeginsWith IsAtBeginning r wanted told live0 budget0 live1 budget1
 
 -- A clone of an object of a version, once it is known which: the pragma is looked at, then the room, and then the number is given.
 abbrev pub made_numbered : List ℕ → ProgId → Asked
@@ -106,10 +123,10 @@ AsksNext job q = (by : Asker) (s : State) → course_of job by s ≡ and_then (a
 
 -- Behind a reply it goes on as this job, or it ends, before the price of the value and with it.
 abbrev pub Continues : Begun → Cloning → Answered → Option Bytes → Live → Live → Type 0
-Continues f job answer told live0 live1 = (r : Reply) → IsReply answer r → StartsAs f (λ by s. stage_rest job by r s) told live0 live1
+Continues f job answer told live0 live1 = (r : Reply) → IsReply answer r → StartsWith (holds_behind job) f (λ by s. stage_rest job by r s) told live0 live1
 
 abbrev pub Feeds : Begun → Cloning → Answered → Option Bytes → Live → Live → Type 0
-Feeds f job answer told live0 live1 = (budget : ℕ) (r : Reply) → IsReply answer r → BeginsAs f (λ by s. rest_of job by r s) told live0 budget live1 budget
+Feeds f job answer told live0 live1 = (budget : ℕ) (r : Reply) → IsReply answer r → BeginsWith (holds_behind job) f (λ by s. rest_of job by r s) told live0 budget live1 budget
 
 -- with fewer questions left
 abbrev pub LeavesLess : Begun → Cloning → Type 0

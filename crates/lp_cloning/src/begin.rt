@@ -1,5 +1,5 @@
 //! `clone_object` begins.
-ghost use Rattle.std.specs.Prelude.{◌≡◌, ◌-◌, ◌≤◌, All, IfOk, OnOk, drop, length, map, slice_get, take};
+ghost use Rattle.std.specs.Prelude.{◌≡◌, ◌-◌, ◌≤◌, All, IfErr, IfOk, OnOk, drop, length, map, slice_get, take};
 ghost use Rattle.std.specs.Option.{option_copied};
 ghost use Rattle.std.specs.Str.{chars};
 ghost use Rattle.std.specs.String.{string_bytes};
@@ -9,13 +9,14 @@ ghost use Rattle.lp_instr.specs.EfunKinds.{kinds};
 ghost use Rattle.lp_language.specs.Course.{State};
 ghost use Rattle.lp_language.specs.Operations.{cells_of, living};
 ghost use Rattle.lp_meaning.specs.EfunArguments.{first_bad, price_before};
-ghost use Rattle.lp_meaning.specs.FileLoads.{clone_of};
+ghost use Rattle.lp_meaning.specs.FileLoads.{clone_name, clone_of};
 ghost use Rattle.lp_ops.specs.Operands.{operand};
 ghost use Rattle.lp_world.specs.Closed.{IsClosed};
 ghost use Rattle.lp_world.specs.Rows.{live_in};
 ghost use Rattle.lp_step.specs.Steps.{IsFit, KeepsVariables};
-ghost use Rattle.lp_cloning.specs.Arguments.{ActsAs, IsBlueprintName, IsRefused, IsSpent, NamesBlueprint};
+ghost use Rattle.lp_cloning.specs.Arguments.{ActsAs, IsBlueprintName, IsRefused, IsSpent, IsTakenIf, NamesBlueprint, RefusesOn};
 ghost use Rattle.lp_cloning.specs.Beginning.{Begins, IsReady, StartsAs};
+ghost use Rattle.lp_cloning.specs.Faults.{IsTakenFor, Tells, brought_by};
 
 use crate::clone::{clone_live, error_begun};
 use crate::fault::CloningFault;
@@ -138,6 +139,9 @@ fn clone_of<W: Truthful>(live: &mut Live, swap: &mut W, name: String) -> Result<
     ensures closed { IsClosed live.new }
     ensures cells { live.new.cells ≡ live.old.cells }
     ensures variables { KeepsVariables live.old.objects live.new.objects }
+    ensures tells { Tells (W.content swap.old) (W.content swap.new) (W.last swap.new) (W.read_faults swap.old) (W.read_faults swap.new) (W.write_faults swap.old) (W.write_faults swap.new)
+        (W.is_truthful swap.old) (W.is_truthful swap.new) (W.is_honest swap.old) (W.is_honest swap.new) live.old live.new (brought_by result) }
+    ensures refused { IfErr result (IsTakenFor (W.content swap.old) live.old (λ w. clone_name w (chars (string_bytes name)))) }
     ensures kept { W.content swap.new ≡ W.content swap.old }
 {
     if is_clone_name(name.as_str()) {
@@ -163,6 +167,9 @@ fn act<W: Truthful>(
     ensures ready { IfOk result (IsReady live.new.objects) }
     ensures fit { OnOk result (IsFit live.new stack.new.items) }
     ensures variables { KeepsVariables live.old.objects live.new.objects }
+    ensures tells { Tells (W.content swap.old) (W.content swap.new) (W.last swap.new) (W.read_faults swap.old) (W.read_faults swap.new) (W.write_faults swap.old) (W.write_faults swap.new)
+        (W.is_truthful swap.old) (W.is_truthful swap.new) (W.is_honest swap.old) (W.is_honest swap.new) live.old live.new (brought_by result) }
+    ensures refused { IfErr result (IsTakenIf (W.content swap.old) live.old (drop low stack.old.items)) }
     ensures kept { W.content swap.new ≡ W.content swap.old }
 {
     match blueprint_name(live, above(stack, low)) {
@@ -195,6 +202,9 @@ pub fn begin<W: Truthful>(
     ensures fit { OnOk result (IsFit live.new stack.new.items) }
     ensures spends { budget.new ≤ budget.old }
     ensures variables { KeepsVariables live.old.objects live.new.objects }
+    ensures tells { Tells (W.content swap.old) (W.content swap.new) (W.last swap.new) (W.read_faults swap.old) (W.read_faults swap.new) (W.write_faults swap.old) (W.write_faults swap.new)
+        (W.is_truthful swap.old) (W.is_truthful swap.new) (W.is_honest swap.old) (W.is_honest swap.new) live.old live.new (brought_by result) }
+    ensures refused { IfErr result (RefusesOn (W.content swap.old) live.old stack.old.items args) }
     ensures kept { W.content swap.new ≡ W.content swap.old }
 {
     let low = stack.len() - args;

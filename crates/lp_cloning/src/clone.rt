@@ -1,14 +1,15 @@
 //! A clone of an object is made.
-ghost use Rattle.std.specs.Prelude.{◌≡◌, IfErr, IfOk, IsSome, OnOk, Some};
+ghost use Rattle.std.specs.Prelude.{◌≡◌, IfErr, IfOk, IsSome, Some};
 ghost use Rattle.std.specs.Str.{chars};
 ghost use Rattle.lp_code.specs.declared.program.RawProgram.{RawProgram as Raw};
-ghost use Rattle.lp_meaning.specs.FileLoads.{cloning};
+ghost use Rattle.lp_meaning.specs.FileLoads.{clone_name, cloning};
 ghost use Rattle.lp_step.specs.Steps.{KeepsVariables};
 ghost use Rattle.lp_targets.specs.Brought.{program_at};
 ghost use Rattle.lp_world.specs.Closed.{IsClosed};
 ghost use Rattle.lp_world.specs.Rows.{row_at};
 ghost use Rattle.lp_world.specs.declared.objects.Object.{Object};
 ghost use Rattle.lp_cloning.specs.Beginning.{IsError, IsReady, StartsAs, made_named, made_numbered, made_of, made_roomy};
+ghost use Rattle.lp_cloning.specs.Faults.{IsNoMemory, IsTakenFor, Tells, brought_by};
 ghost use Rattle.lp_cloning.specs.Feeding.{IsMaking, begun_of};
 
 use crate::fault::CloningFault;
@@ -18,8 +19,8 @@ use lp_asking::ending::{Cause, Ending, Stop};
 use lp_asking::truth::Truthful;
 use lp_beginning::begin::begin as make;
 use lp_beginning::job::{Begun as Made, LoadKind};
-use lp_beginning::looking::program_of;
-use lp_beginning::parts::bring_program;
+use lp_initialisers::bringing::bring_program;
+use lp_initialisers::looking::program_of;
 use lp_values::error::{ErrorKind, RunError};
 use lp_values::id::{ObjId, ProgId};
 use lp_world::live::Live;
@@ -29,7 +30,8 @@ use std::alloc::Global;
 
 /// It ends with an error of this kind.
 pub(crate) fn error_begun(alloc: Global, kind: ErrorKind) -> Result<Begun, CloningFault>
-    ensures { IfOk result (IsError kind) }
+    ensures error { IfOk result (IsError kind) }
+    ensures fault { IfErr result IsNoMemory }
 {
     let error = RunError::plain(alloc, kind)?;
     Ok(Begun::Ends(Ending::Stopped(Stop {
@@ -62,6 +64,9 @@ fn clone_named<W: Truthful>(
     ensures closed { IsClosed live.new }
     ensures cells { live.new.cells ≡ live.old.cells }
     ensures variables { KeepsVariables live.old.objects live.new.objects }
+    ensures tells { Tells (W.content swap.old) (W.content swap.new) (W.last swap.new) (W.read_faults swap.old) (W.read_faults swap.new) (W.write_faults swap.old) (W.write_faults swap.new)
+        (W.is_truthful swap.old) (W.is_truthful swap.new) (W.is_honest swap.old) (W.is_honest swap.new) live.old live.new (brought_by result) }
+    ensures refused { IfErr result (IsTakenFor (W.content swap.old) live.old (λ w. chars name.now)) }
     ensures kept { W.content swap.new ≡ W.content swap.old }
 {
     match make(live, swap, LoadKind::Wanted, name, version) {
@@ -84,6 +89,9 @@ fn clone_numbered<W: Truthful>(
     ensures closed { IsClosed live.new }
     ensures cells { live.new.cells ≡ live.old.cells }
     ensures variables { KeepsVariables live.old.objects live.new.objects }
+    ensures tells { Tells (W.content swap.old) (W.content swap.new) (W.last swap.new) (W.read_faults swap.old) (W.read_faults swap.new) (W.write_faults swap.old) (W.write_faults swap.new)
+        (W.is_truthful swap.old) (W.is_truthful swap.new) (W.is_honest swap.old) (W.is_honest swap.new) live.old live.new (brought_by result) }
+    ensures refused { IfErr result (IsTakenFor (W.content swap.old) live.old (λ w. clone_name w (chars name.now))) }
     ensures kept { W.content swap.new ≡ W.content swap.old }
 {
     match live.names.next_clone() {
@@ -109,6 +117,9 @@ fn clone_roomy<W: Truthful>(
     ensures closed { IsClosed live.new }
     ensures cells { live.new.cells ≡ live.old.cells }
     ensures variables { KeepsVariables live.old.objects live.new.objects }
+    ensures tells { Tells (W.content swap.old) (W.content swap.new) (W.last swap.new) (W.read_faults swap.old) (W.read_faults swap.new) (W.write_faults swap.old) (W.write_faults swap.new)
+        (W.is_truthful swap.old) (W.is_truthful swap.new) (W.is_honest swap.old) (W.is_honest swap.new) live.old live.new (brought_by result) }
+    ensures refused { IfErr result (IsTakenFor (W.content swap.old) live.old (λ w. clone_name w (chars name.now))) }
     ensures kept { W.content swap.new ≡ W.content swap.old }
 {
     if live.names.has_room() {
@@ -142,6 +153,9 @@ fn clone_inside<W: Truthful>(
     ensures closed { IsClosed live.new }
     ensures cells { live.new.cells ≡ live.old.cells }
     ensures variables { KeepsVariables live.old.objects live.new.objects }
+    ensures tells { Tells (W.content swap.old) (W.content swap.new) (W.last swap.new) (W.read_faults swap.old) (W.read_faults swap.new) (W.write_faults swap.old) (W.write_faults swap.new)
+        (W.is_truthful swap.old) (W.is_truthful swap.new) (W.is_honest swap.old) (W.is_honest swap.new) live.old live.new (brought_by result) }
+    ensures refused { IfErr result (IsTakenFor (W.content swap.old) live.old (λ w. clone_name w (chars name.now))) }
     ensures kept { W.content swap.new ≡ W.content swap.old }
 {
     if !is_no_clone(&live.versions, version) {
@@ -164,6 +178,9 @@ fn clone_version<W: Truthful>(
     ensures closed { IsClosed live.new }
     ensures cells { live.new.cells ≡ live.old.cells }
     ensures variables { KeepsVariables live.old.objects live.new.objects }
+    ensures tells { Tells (W.content swap.old) (W.content swap.new) (W.last swap.new) (W.read_faults swap.old) (W.read_faults swap.new) (W.write_faults swap.old) (W.write_faults swap.new)
+        (W.is_truthful swap.old) (W.is_truthful swap.new) (W.is_honest swap.old) (W.is_honest swap.new) live.old live.new (brought_by result) }
+    ensures refused { IfErr result (IsTakenFor (W.content swap.old) live.old (λ w. clone_name w (chars name.now))) }
     ensures kept { W.content swap.new ≡ W.content swap.old }
 {
     match bring_program(live, swap, version) {
@@ -203,6 +220,9 @@ pub(crate) fn clone_live<W: Truthful>(
     ensures closed { IsClosed live.new }
     ensures cells { live.new.cells ≡ live.old.cells }
     ensures variables { KeepsVariables live.old.objects live.new.objects }
+    ensures tells { Tells (W.content swap.old) (W.content swap.new) (W.last swap.new) (W.read_faults swap.old) (W.read_faults swap.new) (W.write_faults swap.old) (W.write_faults swap.new)
+        (W.is_truthful swap.old) (W.is_truthful swap.new) (W.is_honest swap.old) (W.is_honest swap.new) live.old live.new (brought_by result) }
+    ensures refused { IfErr result (IsTakenFor (W.content swap.old) live.old (λ w. clone_name w (chars name.now))) }
     ensures kept { W.content swap.new ≡ W.content swap.old }
 {
     match version_of(&live.objects, o) {

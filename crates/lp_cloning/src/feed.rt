@@ -1,13 +1,15 @@
 //! Jobs of `clone_object` are told what was answered.
-ghost use Rattle.std.specs.Prelude.{◌≡◌, IfOk, IsSome};
+ghost use Rattle.std.specs.Prelude.{◌≡◌, IfErr, IfOk, IsSome};
 ghost use Rattle.std.specs.Str.{chars};
+ghost use Rattle.std.specs.String.{string_bytes};
 ghost use Rattle.lp_language.specs.Resolve.{without_c};
-ghost use Rattle.lp_meaning.specs.FileLoads.{failed_name};
+ghost use Rattle.lp_meaning.specs.FileLoads.{clone_name, failed_name};
 ghost use Rattle.lp_step.specs.Steps.{KeepsVariables};
 ghost use Rattle.lp_world.specs.Closed.{IsClosed};
 ghost use Rattle.lp_world.specs.Rows.{live_in, variables_at};
 ghost use Rattle.lp_cloning.specs.Beginning.{Continues, Feeds, IsHome, IsReady, LeavesLess, StartsAs};
-ghost use Rattle.lp_cloning.specs.Feeding.{IsMaking, IsUnloaded, live_in_value};
+ghost use Rattle.lp_cloning.specs.Faults.{IsTakenFor, Tells, brought_by};
+ghost use Rattle.lp_cloning.specs.Feeding.{ClonedAs, IsFaultIn, IsMaking, IsUnloaded, LoadedAs, live_in_value};
 ghost use Rattle.lp_cloning.specs.Jobs.{IsWanted, clone_loaded};
 
 use crate::clone::{clone_live, error_begun};
@@ -86,6 +88,9 @@ fn clone_value<W: Truthful>(
     ensures closed { IsClosed live.new }
     ensures cells { live.new.cells ≡ live.old.cells }
     ensures variables { KeepsVariables live.old.objects live.new.objects }
+    ensures tells { Tells (W.content swap.old) (W.content swap.new) (W.last swap.new) (W.read_faults swap.old) (W.read_faults swap.new) (W.write_faults swap.old) (W.write_faults swap.new)
+        (W.is_truthful swap.old) (W.is_truthful swap.new) (W.is_honest swap.old) (W.is_honest swap.new) live.old live.new (brought_by result) }
+    ensures refused { IfErr result (IsTakenFor (W.content swap.old) live.old (λ w. clone_name w (chars name.now))) }
     ensures kept { W.content swap.new ≡ W.content swap.old }
 {
     match object_in(&v, &live.objects) {
@@ -95,7 +100,7 @@ fn clone_value<W: Truthful>(
 }
 
 /// The blueprint was loaded, or was not.
-fn loaded<W: Truthful>(
+fn answered<W: Truthful>(
     live: &mut Live,
     swap: &mut W,
     name: String,
@@ -108,6 +113,9 @@ fn loaded<W: Truthful>(
     ensures closed { IsClosed live.new }
     ensures cells { live.new.cells ≡ live.old.cells }
     ensures variables { KeepsVariables live.old.objects live.new.objects }
+    ensures tells { Tells (W.content swap.old) (W.content swap.new) (W.last swap.new) (W.read_faults swap.old) (W.read_faults swap.new) (W.write_faults swap.old) (W.write_faults swap.new)
+        (W.is_truthful swap.old) (W.is_truthful swap.new) (W.is_honest swap.old) (W.is_honest swap.new) live.old live.new (brought_by result) }
+    ensures refused { IfErr result (IsTakenFor (W.content swap.old) live.old (λ w. clone_name w (chars (string_bytes name)))) }
     ensures kept { W.content swap.new ≡ W.content swap.old }
 {
     match answer {
@@ -120,6 +128,35 @@ fn loaded<W: Truthful>(
             Ok(begun) => Ok(begun),
             Err(_) => Err(CloningFault::NoMemory),
         },
+    }
+}
+
+/// The load of a blueprint with this name ended, with a value or with a stop. The blueprint is cloned then, where it lives, which is
+/// an error else; a stop ends the job.
+///
+/// # Errors
+/// As of `begin`.
+pub fn loaded<W: Truthful>(
+    live: &mut Live,
+    swap: &mut W,
+    name: String,
+    ending: Ending,
+) -> Result<Begun, CloningFault>
+    requires closed { IsClosed live.old }
+    ensures loaded { IfOk result (λ r. LoadedAs r (chars (string_bytes name)) ending (W.content swap.old) live.old live.new) }
+    ensures ready { IfOk result (IsReady live.new.objects) }
+    ensures making { IfOk result IsMaking }
+    ensures closed { IsClosed live.new }
+    ensures cells { live.new.cells ≡ live.old.cells }
+    ensures variables { KeepsVariables live.old.objects live.new.objects }
+    ensures tells { Tells (W.content swap.old) (W.content swap.new) (W.last swap.new) (W.read_faults swap.old) (W.read_faults swap.new) (W.write_faults swap.old) (W.write_faults swap.new)
+        (W.is_truthful swap.old) (W.is_truthful swap.new) (W.is_honest swap.old) (W.is_honest swap.new) live.old live.new (brought_by result) }
+    ensures refused { IfErr result (IsTakenFor (W.content swap.old) live.old (λ w. clone_name w (chars (string_bytes name)))) }
+    ensures kept { W.content swap.new ≡ W.content swap.old }
+{
+    match ending {
+        Ending::Value(v) => clone_value(live, swap, name.as_str(), v),
+        Ending::Stopped(stop) => Ok(Begun::Ends(Ending::Stopped(stop))),
     }
 }
 
@@ -155,10 +192,22 @@ pub fn feed<W: Truthful>(
     ensures closed { IsClosed live.new }
     ensures cells { live.new.cells ≡ live.old.cells }
     ensures variables { KeepsVariables live.old.objects live.new.objects }
+    ensures tells { Tells (W.content swap.old) (W.content swap.new) (W.last swap.new) (W.read_faults swap.old) (W.read_faults swap.new) (W.write_faults swap.old) (W.write_faults swap.new)
+        (W.is_truthful swap.old) (W.is_truthful swap.new) (W.is_honest swap.old) (W.is_honest swap.new) live.old live.new (brought_by result) }
+    ensures refused { IfErr result (IsFaultIn job (W.content swap.old) live.old) }
     ensures kept { W.content swap.new ≡ W.content swap.old }
 {
     match job {
-        Cloning::Load(name) => loaded(live, swap, name, answer),
+        Cloning::Load(name) => answered(live, swap, name, answer),
         Cloning::Make(job) => Ok(made(job)),
     }
+}
+
+/// A clone was made, and has begun to its end: `clone_object` ends with it, or with the stop. Its value costs nothing more. Takes
+/// no memory.
+pub fn cloned(ending: Ending) -> Ending
+    ensures same { result ≡ ending }
+    ensures cloned { ClonedAs ending result }
+{
+    ending
 }

@@ -6,5 +6,6 @@ mod clone;
 pub mod fault;
 pub mod feed;
 pub mod job;
+pub mod laws;
 mod naming;
 pub mod next;

@@ -1,5 +1,5 @@
 -- The records of faults.
-use Rattle.std.proofs.Common.{◌≡◌, ◌∙◌, ◌++◌, ◌∷◌, ℕ, List, [], refl, ap, sym, map}
+use Rattle.std.proofs.Common.{◌≡◌, ◌∙◌, ◌++◌, ◌∷◌, ℕ, List, [], refl, ap, sym}
 use Rattle.std.specs.Prelude.{codes, decimal}
 use Rattle.std.specs.Str.{chars}
 use Rattle.std.proofs.lemmas.List.{append_assoc, append-nil}
@@ -10,7 +10,6 @@ use Rattle.lp_tree.specs.declared.fault.FaultKind.TheVariants.{NoFile, NoInclude
 use Rattle.lp_tree.specs.FaultText.{text_of}
 use Rattle.lp_world.specs.Closed.{IsClosed}
 use Rattle.lp_world.specs.declared.live.Live.{Live}
-use Rattle.lp_meaning.specs.FileLoads.{fault_record}
 use Rattle.lp_loading.specs.Faults.{fault_text}
 
 pub chars-line : chars (codes " line ") ≡ codes " line "

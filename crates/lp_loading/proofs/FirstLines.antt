@@ -1,6 +1,6 @@
 -- The first `inherit` of a parent that is missing.
-use Rattle.std.proofs.Common.{◌≡◌, ◌∙◌, ◌++◌, ◌⊎◌, inl, inr, ℕ, zero, suc, Bool, true, false, List, [], ◌∷◌, Option, Some, None, OnOk, Vec, Global, refl, ap, sym, subst, map, unwrap_or, if◌then◌else◌, arith}
-use Rattle.std.specs.Prelude.{find, is_some, nat_lt, not}
+use Rattle.std.proofs.Common.{◌≡◌, ◌∙◌, ◌++◌, ◌⊎◌, inl, inr, ℕ, zero, suc, Bool, true, false, List, [], ◌∷◌, Option, Some, None, Vec, Global, refl, ap, sym, subst, map, unwrap_or, if◌then◌else◌, arith}
+use Rattle.std.specs.Prelude.{is_some, nat_lt, not}
 use Rattle.std.specs.Option.{option_map}
 use Rattle.std.proofs.lemmas.Slice.Eq.{bytes_eq-Decides}
 use Rattle.lp_instr.specs.EfunList.{is_name}
@@ -11,12 +11,11 @@ use Rattle.lp_tree.specs.declared.fault.FaultKind.TheVariants as faults
 use Rattle.lp_tree.specs.declared.pragma.Pragmas.{Pragmas}
 use Rattle.lp_tree.specs.Units.{ItemTree}
 use Rattle.lp_values.specs.declared.id.ProgId.{ProgId}
-use Rattle.lp_code.specs.declared.program.RawProgram.{RawProgram}
 use Rattle.lp_events.specs.declared.out.Out.{Out}
 use Rattle.lp_swapfile.specs.Device.{Bytes}
 use Rattle.lp_front.specs.declared.parents.Parent.{Parent as Inherited}
 use Rattle.lp_front.specs.Names as files
-use Rattle.lp_language.specs.Course.{Course, End, Gives, IsFaulty, Reply, State}
+use Rattle.lp_language.specs.Course.{Course, Gives, IsFaulty, Reply, State}
 use Rattle.lp_language.specs.World.{World}
 use Rattle.lp_meaning.specs.Askers.{Asker, told}
 use Rattle.lp_meaning.specs.Closing.{Ends}
@@ -44,6 +43,7 @@ use Rattle.lp_loading.specs.Present.{all_made}
 use Rattle.lp_loading.specs.Reads.{HasRead}
 use Rattle.lp_loading.specs.Readings.{MissingGoesOn}
 use Rattle.lp_loading.proofs.FilesRead.{told_over}
+use Rattle.lp_loading.proofs.Growth.{grows_same}
 use Rattle.lp_loading.proofs.Telling.{over_ends}
 
 -- what was found of some parents
@@ -113,14 +113,15 @@ too_far_goes goes names of reads fs kind name file line job loads told0 live0 to
     let way : is_under_way miss.parent.name by.loads ≡ is_under_way far.name (loads_of loads) = ap (λ x. is_under_way x by.loads) (sym same) ∙ ap (is_under_way far.name) under.2 in
     let ended : faulty fs.items s ≡ parent_missing by job.nested job.name made again miss.parent s =
     ap (λ x. faulty x s) (one ∙ ap (λ x. record { file = file_bytes x; line = line; kind = kind } ∷ []) (sym n) ∙ ap (λ x. file_fault job.name x kind ∷ []) its) ∙ by_why by job made again miss.parent s kind (is_under_way far.name (loads_of loads)) (nat_lt max_nested (suc job.nested)) way refl far.why in
-    let it : HasEnded front (answers.Faulty fs) (going_course (suc m) job goings.Read by s) told1 before (record live1 { outputs = live1.outputs ++ os }) turn budget = record {
+    let it : HasEnded front (answers.Faulty fs) (going_course (suc m) job goings.Read by s) programs told1 before (record live1 { outputs = live1.outputs ++ os }) turn budget = record {
       programs = programs;
+      grown = grows_same programs;
       end = Gives (IsFaulty fs.items) (told os s);
       is = record { answer = refl; at = told_over told0 told1 programs before live0 live1 turn budget s os at c.world h.outputs };
       ends = goes front m (kind_of job.purpose) by job.nested job.name made s file _ miss (subst (λ x. Ends front x (Gives (IsFaulty fs.items) (told os s))) ended (over_ends front _));
     } in
-    subst (λ x. LeadsTo front x job (going_course (suc m) job goings.Read by s) told1 before live2 turn budget by) (sym q)
-    (subst (λ (x : Live). HasEnded front (answers.Faulty fs) (going_course (suc m) job goings.Read by s) told1 before x turn budget) (sym e) it)
+    subst (λ x. LeadsTo front x job (going_course (suc m) job goings.Read by s) programs told1 before live2 turn budget by) (sym q)
+    (subst (λ (x : Live). HasEnded front (answers.Faulty fs) (going_course (suc m) job goings.Read by s) programs told1 before x turn budget) (sym e) it, tt)
   where
     by_why : (by : Asker) (job : LoadJob) (made : List Made) (again : List Made → State → Course Reply) (p : Parent) (s : State) (kind : FaultKind) (way deep : Bool) → is_under_way p.name by.loads ≡ way → nat_lt max_nested (suc job.nested) ≡ deep
         → ((kind ≡ faults.Cycle) × (way ≡ true)) ⊎ ((kind ≡ faults.InheritDepth) × (way ≡ false) × (deep ≡ true)) → faulty (file_fault job.name p.line kind ∷ []) s ≡ parent_missing by job.nested job.name made again p s

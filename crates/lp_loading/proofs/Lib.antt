@@ -6,10 +6,13 @@ pub mod SeenNames
 pub mod Making
 pub mod Telling
 pub mod Paying
-pub mod Parting
 pub mod Answered
 pub mod SimulFirst
 pub mod ParentAsked
 pub mod FaultTexts
+pub mod Growth
+pub mod Brought
 pub mod FilesRead
 pub mod FirstLines
+pub mod ObjectsMade
+pub mod NextSteps

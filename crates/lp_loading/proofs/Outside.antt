@@ -1,5 +1,5 @@
 -- Programs that come into memory: fewer are out.
-use Rattle.std.proofs.Common.{◌≡◌, ◌∙◌, ◌+◌, ◌<◌, ℕ, zero, suc, true, false, List, [], ◌∷◌, Option, Some, None, IsSome, Result, Ok, Err, OnOk, refl, ap, sym, subst, arith, slice_get, unwrap_or}
+use Rattle.std.proofs.Common.{◌≡◌, ◌∙◌, ◌+◌, ◌<◌, ℕ, zero, suc, true, false, List, [], ◌∷◌, Option, Some, None, IsSome, refl, ap, sym, subst, arith, slice_get, unwrap_or}
 use Rattle.std.specs.Prelude.{slice_set}
 use Rattle.lp_values.specs.declared.id.ProgId.{ProgId}
 use Rattle.lp_swapper.specs.declared.ticket.Ticket.{Ticket}
@@ -14,7 +14,6 @@ use Rattle.lp_residence.specs.declared.owner.Owner.TheVariants as owners
 use Rattle.lp_residence.proofs.RowChanges.{row_there}
 use Rattle.lp_making.specs.Objects.{program_at}
 use Rattle.lp_loading.specs.Present.{is_out, is_swapped, one_if, out_count}
-use Rattle.lp_loading.specs.declared.job.LoadFault.{LoadFault}
 
 out_set : (rows : List (Option Version)) (n : ℕ) (x y : Option Version) → slice_get rows n ≡ Some x → is_out x ≡ true → is_out y ≡ false → out_count (slice_set rows n y) < out_count rows
 out_set [] n x y e a b = absurd cc
@@ -51,7 +50,3 @@ less_out old new p s n h = by (row_at old.versions p.0) refl s n
     by : (o : Option Version) → row_at old.versions p.0 ≡ o → IsSome o → program_of (version_state o) ≡ None → out_count new.versions < out_count old.versions
     by None r s n = absurd cc
     by (Some v) r s n = state_by v r v.state refl n
-
-pub on_ok : (r : Result (Unit {0}) LoadFault) (P : Type 0) → P → OnOk r P
-on_ok (Ok u) P p = p
-on_ok (Err e) P p = tt

@@ -1,8 +1,7 @@
--- Rows of a file's own functions, and of its initialisers.
+-- Rows of a file's own functions.
 use Rattle.std.proofs.Common.{◌≡◌, ◌∙◌, ◌&&◌, ◌||◌, ◌+◌, ◌-◌, ◌<◌, ◌++◌, ℕ, zero, suc, Bool, true, false, List, [], ◌∷◌, Option, Some, None, refl, ap, sym, subst, map, length, nat_eq, arith}
-use Rattle.std.specs.Prelude.{is_some, not, slice_get, unwrap_or, if◌then◌else◌}
+use Rattle.std.specs.Prelude.{is_some, slice_get, unwrap_or, if◌then◌else◌}
 use Rattle.std.specs.List.{list_any}
-use Rattle.std.proofs.lemmas.List.{length-map}
 use Rattle.std.proofs.lemmas.Bool.{eqb-true}
 use Rattle.std.proofs.lemmas.Bool.Decides.{Decides-eqb}
 use Rattle.lp_tree.specs.Units.{ItemTree, Inherit, Proto, Fun, Var}
@@ -10,7 +9,7 @@ use Rattle.lp_code.specs.declared.program.FunRow.{FunRow as CodeRow}
 use Rattle.lp_code.specs.declared.program.RawProgram.{RawProgram}
 use Rattle.lp_instr.specs.EfunList.{is_name}
 use Rattle.lp_instr.specs.Code.{Code}
-use Rattle.lp_isa.specs.Programs.{AreFuns, AreInit, FunRow, IsReached, Reached, fun_from, fun_in, own_functions}
+use Rattle.lp_isa.specs.Programs.{AreFuns, AreInit, IsReached, Reached, fun_from, fun_in, own_functions}
 use Rattle.lp_language.specs.Resolve.{Found, Function, Heir, Heritage, Part, callable_found, has_initialiser, own_function, found_in, or_else, own_names, own_variables, parents_of, parents_parts, part_at, part_count, parts, parts_before, resolve, resolve_last, version_of}
 use Rattle.lp_layout.proofs.RowLaid.{same_name}
 use Rattle.lp_inherit.specs.Heirs.{tables}
@@ -20,14 +19,14 @@ use Rattle.lp_plan_laws.specs.Tables.{AreOnce, IsNamedOnce}
 use Rattle.lp_plan_laws.proofs.Fresh.{itself}
 use Rattle.lp_part_laws.specs.Parts.{reached_in}
 use Rattle.lp_part_laws.specs.Versions.{FitsVersion, program_of, row_of}
-use Rattle.lp_part_laws.proofs.Lists.{one_value, past, there_below}
+use Rattle.lp_part_laws.proofs.Lists.{one_value, past}
 use Rattle.lp_part_laws.proofs.Places.{count_parents}
 use Rattle.lp_part_laws.proofs.Rows.{fit_reached, function_at}
 use Rattle.lp_part_laws.proofs.Texts.{own_named}
 use Rattle.lp_targets.proofs.Wanting.{wanted_reached}
 use Rattle.lp_targets.specs.Callees.{wanted_in}
 use Rattle.lp_targets.specs.declared.wants.Want.TheVariants as wants
-use Rattle.lp_loading.specs.Rows.{InitialisersAreTold, NamesAreOwn, OpenIsCallable, has_initialisers, is_function_row, is_own_row, is_there, names_from, own_part}
+use Rattle.lp_loading.specs.Rows.{NamesAreOwn, OpenIsCallable, is_own_row, is_there, names_from, own_part}
 
 -- The place of a function among those of its file, where each name is there once.
 
@@ -111,7 +110,7 @@ same_number : (a b : ℕ) → a ≡ b → nat_eq a b ≡ true
 same_number a b e = (Decides-eqb a b).1 e
 
 -- A function's row is its own.
-function_is : (h : Heritage) (p : RawProgram) (k : ℕ) (f : Function) → FitsVersion h p → slice_get (own_functions (version_of h).items) k ≡ Some f → is_function_row p k ≡ true
+function_is : (h : Heritage) (p : RawProgram) (k : ℕ) (f : Function) → FitsVersion h p → slice_get (own_functions (version_of h).items) k ≡ Some f → is_own_row p k (slice_get p.funs k) ≡ true
 function_is h p k f fits e =
     let row = function_at h p f k fits e in
     let own = own_there (version_of h).items k f e in
@@ -158,66 +157,6 @@ behind_is_none h p w fits = by (reached_in (slot_named p.tables.slots w)) (resol
     by None z r = refl
     by (Some x) None r = absurd r
     by (Some x) (Some f) r = tests x f r.0 r.1 (nat_eq x.part (own_part p)) (nat_eq x.fun (length (own_functions (version_of h).items))) refl refl
-
--- Rows are those of the functions, and one more where there are initialisers.
-rows_counted : (h : Heritage) (code : Code) (fs : List Function) (rs : List FunRow) → AreFuns h code fs rs → (b : Bool) → has_initialiser (own_variables (version_of h).items) ≡ b
-    → length rs ≡ length fs + (if b then 1 else 0)
-rows_counted h code [] rs a b e = by b rs (subst (λ c. AreInit h code c rs) e a)
-  where
-    by : (b : Bool) (rs : List FunRow) → AreInit h code b rs → length rs ≡ 0 + (if b then 1 else 0)
-    by true rs i = ap length i.1
-    by false rs i = ap length i
-rows_counted h code (f ∷ fs) [] a b e = absurd a
-rows_counted h code (f ∷ fs) (r ∷ rs) a b e = let i = rows_counted h code fs rs a.1 b e in omega (arith, i)
-
-pub initialisers_are_told : InitialisersAreTold
-initialisers_are_told h p fits = by (has_initialiser (own_variables (version_of h).items)) refl
-  where
-    fs : List Function
-    fs = own_functions (version_of h).items
-
-    count : (b : Bool) → has_initialiser (own_variables (version_of h).items) ≡ b → length p.funs ≡ length (own_functions (version_of h).items) + (if b then 1 else 0)
-    count b e =
-        sym (length-map p.funs row_of) ∙ rows_counted h (program_of p (tables (parents_of h))).code (own_functions (version_of h).items) (map row_of p.funs) (fits.stands h fits.own).funs b e
-
-    -- the last row
-    some_last : (n : ℕ) → length p.funs ≡ suc n → nat_eq (length p.funs) 0 ≡ false
-    some_last n e = not_none (nat_eq (length p.funs) 0) refl
-      where
-        not_none : (b : Bool) → nat_eq (length p.funs) 0 ≡ b → b ≡ false
-        not_none true q = let z = eqb-true (length p.funs) 0 q in absurd (omega (arith, z, e))
-        not_none false q = refl
-
-    init_row : (k : ℕ) → length p.funs ≡ k + 1 → k ≡ length (own_functions (version_of h).items) → is_function_row p k ≡ false
-    init_row k e i =
-        let r = there_below p.funs k (omega (arith, e)) in
-        ap (is_own_row p k) r.1 ∙ ap (λ m. is_there (own_part p) m (reached_in (slot_named p.tables.slots r.0.name))) i ∙ behind_is_none h p r.0.name fits
-
-    last : (n k : ℕ) → length p.funs ≡ k + 1 → length p.funs - 1 ≡ k
-    last n k e = omega (arith, e)
-
-    by : (b : Bool) → has_initialiser (own_variables (version_of h).items) ≡ b → has_initialisers p ≡ b
-    by true e =
-        let n : length p.funs ≡ length (own_functions (version_of h).items) + 1 = count true e in
-        let s : length p.funs ≡ suc (length (own_functions (version_of h).items)) = omega (arith, n) in
-        let k : length p.funs - 1 ≡ length (own_functions (version_of h).items) = omega (arith, n) in
-        ap (λ c. not c && not (is_function_row p (length p.funs - 1))) (some_last (length (own_functions (version_of h).items)) s)
-        ∙ ap (λ m. not (is_function_row p m)) k
-        ∙ ap not (init_row (length (own_functions (version_of h).items)) n refl)
-    by false e = none (own_functions (version_of h).items) refl (count false e)
-      where
-        none : (gs : List Function) → own_functions (version_of h).items ≡ gs → length p.funs ≡ length (own_functions (version_of h).items) + 0 → has_initialisers p ≡ false
-        none [] g c =
-            let z : length p.funs ≡ 0 = c ∙ ap (λ l. length l + 0) g in
-            ap (λ k. not (nat_eq k 0) && not (is_function_row p (length p.funs - 1))) z
-        none (f ∷ gs) g c =
-            let l : length p.funs ≡ suc (length gs) = (let q : length p.funs ≡ length (f ∷ gs) + 0 = c ∙ ap (λ l. length l + 0) g in omega (arith, q)) in
-            let k : length p.funs - 1 ≡ length gs = omega (arith, l) in
-            let inside : length gs < length (own_functions (version_of h).items) = (let q = ap length g in omega (arith, q)) in
-            let r = there_below (own_functions (version_of h).items) (length gs) inside in
-            ap (λ d. not d && not (is_function_row p (length p.funs - 1))) (some_last (length gs) l)
-            ∙ ap (λ m. not (is_function_row p m)) k
-            ∙ ap not (function_is h p (length gs) r.0 fits r.1)
 
 -- Names
 

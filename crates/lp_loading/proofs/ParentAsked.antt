@@ -16,7 +16,6 @@ use Rattle.lp_asking.specs.declared.asker.Loading.{Loading}
 use Rattle.lp_efuns.specs.declared.caller.Turn.{Turn}
 use Rattle.lp_loading.specs.declared.job.Going.TheVariants as goings
 use Rattle.lp_loading.specs.declared.job.LoadJob.{LoadJob}
-use Rattle.lp_loading.specs.declared.job.Question.TheVariants as questions
 use Rattle.lp_loading.specs.declared.job.Step.TheVariants as steps
 use Rattle.lp_loading.specs.declared.job.Waiting.TheVariants as waitings
 use Rattle.lp_loading.specs.Going.{Goes}
@@ -24,6 +23,7 @@ use Rattle.lp_loading.specs.Loads.{kind_of, waiting_course}
 use Rattle.lp_loading.specs.Parents.{AsksParent}
 use Rattle.lp_loading.specs.Present.{all_made}
 use Rattle.lp_loading.specs.Readings.{MissingGoesOn}
+use Rattle.lp_loading.proofs.Growth.{grows_same}
 
 module _ (turns : ℕ) (job : LoadJob) (by : Asker) (s : State) where
   abbrev again : List Made → State → Course Reply
@@ -56,7 +56,7 @@ module _ (turns : ℕ) (job : LoadJob) (by : Asker) (s : State) where
       ∙ sym (ap (λ b. if b then cycle p else (if nat_lt max_nested (suc job.nested) then too_deep p else loaded p)) away ∙ ap (λ b. if b then too_deep p else loaded p) shallow)
 
 pub parent_goes : MissingGoesOn → NamesHaveFiles → (job : LoadJob) (loads : List Loading) (told : Option Bytes) (live : Live) (budget : ℕ) (turn : Turn) (name waits : List ℕ) → waits ≡ name → AsksParent job loads told live name
-    → Goes (steps.Asks (questions.Load name) (waitings.Parent waits)) job goings.Read loads told live budget told live budget turn
+    → Goes (steps.Asks name (waitings.Parent waits)) job goings.Read loads told live budget told live budget turn
 parent_goes goes names job loads told live budget turn name waits same a front programs before by s zero real at under l = absurd (omega (arith, l))
 parent_goes goes names job loads told live budget turn name waits same a front programs before by s (suc m) real at under l =
     let miss = a.missing front programs s.world real at.world in
@@ -64,6 +64,7 @@ parent_goes goes names job loads told live budget turn name waits same a front p
     let away = ap (λ z. is_under_way z by.loads) (sym n) ∙ ap (is_under_way name) under.2 ∙ a.away in
     record {
       programs = programs;
+      grown = grows_same programs;
       state = s;
       turns = m;
       at = at;

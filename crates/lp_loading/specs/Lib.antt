@@ -7,7 +7,9 @@ pub mod Simuls
 pub mod Versions
 pub mod Reads
 pub mod Lines
+pub mod Growing
 pub mod Going
+pub mod Steps
+pub mod Telling
 pub mod Parents
 pub mod Faults
-pub mod Growing

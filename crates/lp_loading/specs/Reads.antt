@@ -20,5 +20,5 @@ pub record HasRead (r : Compiled) (job : LoadJob) (loads : List Loading) (told0 
   pub own : ProgId
   pub next : own.0 ≡ length live1.versions
   pub outputs : live1.outputs ≡ live0.outputs
-  pub objects : live1.objects ≡ live0.objects
+  pub cells : live1.cells ≡ live0.cells
   pub is : (programs : List RawProgram) (w : World) → IsWorldOf told0 programs live0 w → IsCompiledIn r (all_made job.made.items) job.name own (simul_names w (loads_of loads)) told1 live1 programs w

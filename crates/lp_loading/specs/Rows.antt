@@ -1,9 +1,9 @@
 -- Which rows of a program are those of its file's functions, and which names others may call.
-use Rattle.std.specs.Prelude.{◌≡◌, ◌&&◌, ◌-◌, ℕ, suc, List, [], ◌∷◌, ◌++◌, Bool, false, Option, Some, None, filter, is_some, length, nat_eq, not, slice_get, if◌then◌else◌}
+use Rattle.std.specs.Prelude.{◌≡◌, ◌&&◌, ◌-◌, ℕ, suc, List, [], ◌∷◌, ◌++◌, Bool, false, Option, Some, None, filter, is_some, length, nat_eq, if◌then◌else◌}
 use Rattle.lp_code.specs.declared.program.FunRow.{FunRow}
 use Rattle.lp_code.specs.declared.program.RawProgram.{RawProgram}
 use Rattle.lp_isa.specs.Programs.{Reached}
-use Rattle.lp_language.specs.Resolve.{Heritage, callable_found, has_initialiser, own_names, own_variables, resolve, version_of}
+use Rattle.lp_language.specs.Resolve.{Heritage, callable_found, own_names, resolve, version_of}
 use Rattle.lp_layout.specs.Layout.{slot_named}
 use Rattle.lp_part_laws.specs.Parts.{reached_in}
 use Rattle.lp_part_laws.specs.Versions.{FitsVersion}
@@ -24,17 +24,6 @@ is_there part k (Some r) = nat_eq r.part part && nat_eq r.fun k
 abbrev pub is_own_row : RawProgram → ℕ → Option FunRow → Bool
 is_own_row p k None = false
 is_own_row p k (Some r) = is_there (own_part p) k (reached_in (slot_named p.tables.slots r.name))
-
-abbrev pub is_function_row : RawProgram → ℕ → Bool
-is_function_row p k = is_own_row p k (slice_get p.funs k)
-
--- a file has initialisers, where the last row is not that of a function
-abbrev pub has_initialisers : RawProgram → Bool
-has_initialisers p = not (nat_eq (length p.funs) 0) && not (is_function_row p (length p.funs - 1))
-
--- as the file of the version has them that the program fits
-abbrev pub InitialisersAreTold : Type 0
-InitialisersAreTold = (h : Heritage) (p : RawProgram) → FitsVersion h p → has_initialisers p ≡ has_initialiser (own_variables (version_of h).items)
 
 -- every object may call the function of a name
 abbrev pub is_open : RawProgram → List ℕ → Bool

@@ -1,22 +1,27 @@
 //! A load asks for the load of the simul-efun object first, where that is missing.
-ghost use Rattle.std.specs.Prelude.{◌≡◌, IfOk, List, Option, Some, ℕ};
+ghost use Rattle.std.specs.Prelude.{◌≡◌, IfErr, IfOk, IfSome, List, Option, Some, ℕ};
+ghost use Rattle.std.specs.Str.{IsAscii};
 ghost use Rattle.lp_asking.specs.declared.asker.Loading.{Loading as Loads};
 ghost use Rattle.lp_code.specs.declared.program.RawProgram.{RawProgram as Raw};
 ghost use Rattle.lp_language.specs.World.{World};
 ghost use Rattle.lp_efuns.specs.declared.caller.Turn.{Turn};
+ghost use Rattle.lp_loading.specs.Telling.{IsReadless};
 ghost use Rattle.lp_loading.specs.Going.{Goes};
 ghost use Rattle.lp_loading.specs.Parents.{AsksParent};
 ghost use Rattle.lp_loading.specs.Loads.{loads_of};
 ghost use Rattle.lp_loading.specs.Simuls.{missing_if};
+ghost use Rattle.lp_loading.specs.Steps.{AsksOrFails};
 ghost use Rattle.lp_loading.specs.declared.job.Going.TheVariants as stages;
 ghost use Rattle.lp_loading.specs.declared.job.LoadJob.{LoadJob as Job};
+ghost use Rattle.lp_loading.specs.declared.job.Step.TheVariants as steps;
+ghost use Rattle.lp_loading.specs.declared.job.Waiting.TheVariants as waitings;
 ghost use Rattle.lp_meaning.specs.FileLoads.{simul_missing as missing};
 ghost use Rattle.lp_swapfile.specs.Device.{Bytes};
 ghost use Rattle.lp_world.specs.Stands.{Stands};
 ghost use Rattle.lp_world.specs.declared.live.Live.{Live as L};
 
 use crate::begin::name_of;
-use crate::job::{LoadFault, Question, Step, Waiting};
+use crate::job::{LoadFault, Step, Waiting};
 use crate::laws::law_missing_goes_on;
 use crate::simuls::{is_under_way, object_named};
 use lp_asking::asker::Loading;
@@ -27,7 +32,9 @@ use std::alloc::{AllocError, Global};
 
 /// The name of the simul-efun object, where it has to be loaded: it is not live, and its own load is not under way.
 fn missing_named(live: &Live, loads: &[Loading], name: &[char]) -> Result<Option<Name>, LoadFault>
-    ensures { IfOk result (λ o. (told : Option Bytes) (programs : List Raw) (w : World) → Stands told programs live.now w → o ≡ missing_if w name.now (loads_of loads.now)) }
+    ensures asked { IfOk result (λ o. (told : Option Bytes) (programs : List Raw) (w : World) → Stands told programs live.now w → o ≡ missing_if w name.now (loads_of loads.now)) }
+    ensures ascii { IfOk result (λ o. IfSome o IsAscii) }
+    ensures readless { IfErr result IsReadless }
 {
     if is_under_way(name, loads) {
         return Ok(None);
@@ -43,7 +50,9 @@ fn missing_named(live: &Live, loads: &[Loading], name: &[char]) -> Result<Option
 /// # Errors
 /// `NotYet` where the name has letters beyond ASCII. `NoMemory`.
 pub(crate) fn simul_missing(live: &Live, loads: &[Loading]) -> Result<Option<Name>, LoadFault>
-    ensures { IfOk result (λ o. (told : Option Bytes) (programs : List Raw) (w : World) → Stands told programs live.now w → o ≡ missing w (loads_of loads.now)) }
+    ensures asked { IfOk result (λ o. (told : Option Bytes) (programs : List Raw) (w : World) → Stands told programs live.now w → o ≡ missing w (loads_of loads.now)) }
+    ensures ascii { IfOk result (λ o. IfSome o IsAscii) }
+    ensures readless { IfErr result IsReadless }
 {
     match &live.simul {
         Some(name) => missing_named(live, loads, name.as_slice()),
@@ -53,18 +62,21 @@ pub(crate) fn simul_missing(live: &Live, loads: &[Loading]) -> Result<Option<Nam
 
 /// A load asks for the load of the simul-efun object, which has this name and is missing. Takes no memory.
 pub(crate) fn ask_simul(name: Name) -> Step
-    ensures { (job : Job) (loads : List Loads) (told : Option Bytes) (live : L) (budget : ℕ) (turn : Turn) → ((t : Option Bytes) (programs : List Raw) (w : World) → Stands t programs live w → Some name ≡ missing w (loads_of loads))
+    ensures goes { (job : Job) (loads : List Loads) (told : Option Bytes) (live : L) (budget : ℕ) (turn : Turn) → ((t : Option Bytes) (programs : List Raw) (w : World) → Stands t programs live w → Some name ≡ missing w (loads_of loads))
         → Goes result job stages.Simul loads told live budget told live budget turn }
+    ensures is { result ≡ steps.Asks name waitings.Simul }
 {
-    Step::Asks(Question::Load(name), Waiting::Simul)
+    Step::Asks(name, Waiting::Simul)
 }
 
 /// A load asks for the load of the first of its parents that is not known, which has this name.
 pub(crate) fn ask_parent(alloc: Global, name: Name) -> Result<Step, AllocError>
-    ensures { IfOk result (λ r. (job : Job) (loads : List Loads) (told : Option Bytes) (live : L) (budget : ℕ) (turn : Turn) → AsksParent job loads told live name → Goes r job stages.Read loads told live budget told live budget turn) }
+    requires { IsAscii name }
+    ensures goes { IfOk result (λ r. (job : Job) (loads : List Loads) (told : Option Bytes) (live : L) (budget : ℕ) (turn : Turn) → AsksParent job loads told live name → Goes r job stages.Read loads told live budget told live budget turn) }
+    ensures asks { IfOk result AsksOrFails }
 {
     law_missing_goes_on();
     law_names_have_files();
     let parent = name.copy(alloc)?;
-    Ok(Step::Asks(Question::Load(name), Waiting::Parent(parent)))
+    Ok(Step::Asks(name, Waiting::Parent(parent)))
 }

@@ -3,7 +3,8 @@ ghost use Rattle.std.specs.Prelude.{◌≡◌, ◌≤◌, IfErr, IfOk, IfSome, I
 ghost use Rattle.std.specs.Char.{is_ascii as ascii};
 ghost use Rattle.std.specs.List.{list_all};
 ghost use Rattle.lp_language.specs.Course.{Ask};
-ghost use Rattle.lp_loading.specs.Going.{BeginsAs};
+ghost use Rattle.lp_loading.specs.Telling.{IsDeviceless, IsReadless};
+ghost use Rattle.lp_loading.specs.Going.{BeginsAs, IsPaid};
 ghost use Rattle.lp_loading.specs.Loads.{kind_of, last_nested, loads_of};
 ghost use Rattle.lp_loading.specs.declared.job.LoadFault.TheVariants.{NotYet};
 ghost use Rattle.lp_meaning.specs.FileLoads.{nested_in as nested};
@@ -29,6 +30,7 @@ pub(crate) fn name_of(alloc: Global, name: &[char]) -> Result<Name, LoadFault>
     ensures name { IfOk result (λ n. n ≡ name.now) }
     ensures ascii { IfOk result (λ n. IsAscii n) }
     ensures yet { IfErr result (λ f. f ≡ NotYet → list_all ascii name.now ≡ false) }
+    ensures readless { IfErr result IsReadless }
 {
     if !are_ascii(name) {
         return Err(LoadFault::NotYet);
@@ -74,7 +76,9 @@ pub fn begin(
     budget: &mut u64,
 ) -> Result<Begun, LoadFault>
     ensures begins { IfOk result (λ r. (a : Ask) → a.budget ≡ budget.old → a.loads ≡ loads_of loads.now → BeginsAs r name.now purpose loads.now a budget.new) }
+    ensures pays { IfOk result (λ r. IsPaid r budget.old budget.new) }
     ensures spends { budget.new ≤ budget.old }
+    ensures fault { IfErr result IsDeviceless }
     ensures yet { IfErr result (λ f. f ≡ NotYet → list_all ascii name.now ≡ false) }
 {
     if *budget < PRICE {

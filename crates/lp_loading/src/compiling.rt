@@ -1,5 +1,5 @@
 //! A load compiles its file. Programs of parents that are out come into memory for it.
-ghost use Rattle.std.specs.Prelude.{◌≡◌, ◌<◌, IfErr, IfOk, IsSome, List, MatchOption, None, OnOk, string_bytes, ℕ};
+ghost use Rattle.std.specs.Prelude.{◌≡◌, ◌<◌, IfErr, IfOk, IsSome, List, MatchOption, None, OnErr, OnOk, string_bytes, ℕ};
 ghost use Rattle.std.specs.Bool.{OnTrue};
 ghost use Rattle.lp_compile.specs.Compiles.{Compiles, IsRefused};
 ghost use Rattle.lp_making.specs.Objects.{program_at};
@@ -7,6 +7,12 @@ ghost use Rattle.lp_efuns.specs.Names.{AreNamed};
 ghost use Rattle.lp_front_end.specs.Parents.{file_bytes};
 ghost use Rattle.lp_world.specs.Closed.{IsClosed};
 ghost use Rattle.lp_world.specs.Rows.{row_at};
+ghost use Rattle.lp_beginning.specs.Beginning.{StandsStill};
+ghost use Rattle.lp_residence.specs.Entering.{IsEntered};
+ghost use Rattle.lp_residence.specs.Owners.{ticket_at};
+ghost use Rattle.lp_residence.specs.declared.owner.Owner.TheVariants as owners;
+ghost use Rattle.lp_targets.specs.Brought.{Brings};
+ghost use Rattle.lp_loading.specs.Telling.{IsReadless, IsUntaken, brought_by, fault_of};
 ghost use Rattle.lp_loading.specs.Compiling.{CompilesTo, IsMissingHere, IsRefusedTo, IsUnknown};
 ghost use Rattle.lp_loading.specs.Present.{HasWorld, IsReadyFor, KeepsWorlds, all_made, known_of, out_count};
 
@@ -21,6 +27,7 @@ use lp_compile_laws::{law_compiled_is_sound, law_refused_is_told};
 use lp_front_end::{law_files_are_of_names, law_stores_are_read};
 use lp_residence::answers::EnterFault;
 use lp_residence::returning::enter_program;
+use lp_swapfile::SwapFile;
 use lp_tree::fault::Fault;
 use lp_tree::path::FilePath;
 use lp_values::id::ProgId;
@@ -55,14 +62,16 @@ fn compile_present(
 }
 
 /// Whether the state has a version.
-pub(crate) fn has_version(versions: &VersionTable, p: ProgId) -> bool
+fn has_version(versions: &VersionTable, p: ProgId) -> bool
     ensures { OnTrue result (IsSome (row_at versions.now p.0)) }
 {
     versions.get(p).is_some()
 }
 
 /// Why a program was not brought in, as why a load is not carried out.
-pub(crate) fn load_fault(e: EnterFault) -> LoadFault {
+fn load_fault(e: EnterFault) -> LoadFault
+    ensures { result ≡ fault_of e }
+{
     match e {
         EnterFault::Swap(cause) => LoadFault::Swap(cause),
         EnterFault::NoMemory => LoadFault::NoMemory,
@@ -70,8 +79,9 @@ pub(crate) fn load_fault(e: EnterFault) -> LoadFault {
 }
 
 /// That the device told the truth, or else want of memory.
-pub(crate) fn told_truth<W: Truthful>(swap: &W) -> Result<(), LoadFault>
-    ensures { OnOk result (W.is_truthful swap.now) }
+fn told_truth<W: Truthful>(swap: &W) -> Result<(), LoadFault>
+    ensures truthful { OnOk result (W.is_truthful swap.now) }
+    ensures readless { IfErr result IsReadless }
 {
     if swap.tells_truth() {
         Ok(())
@@ -80,14 +90,51 @@ pub(crate) fn told_truth<W: Truthful>(swap: &W) -> Result<(), LoadFault>
     }
 }
 
-/// Brings the program of a version into memory that is out, where the device tells the truth.
+/// Brings the program of a version that the state has into memory.
+fn enter_known<W: SwapFile>(live: &mut Live, swap: &mut W, p: ProgId) -> Result<(), EnterFault>
+    requires closed { IsClosed live.old }
+    requires there { IsSome (row_at live.old.versions p.0) }
+    ensures entered { OnOk result (IsEntered (owners.Program p) live.old live.new (ticket_at live.old (owners.Program p))) }
+    ensures same { OnErr result (live.new ≡ live.old) }
+    ensures closed { IsClosed live.new }
+    ensures brings { Brings (W.content swap.old) (W.content swap.new) (W.last swap.new) (W.read_faults swap.old) (W.read_faults swap.new) (W.write_faults swap.old) (W.write_faults swap.new)
+        (W.is_truthful swap.old) (W.is_truthful swap.new) (W.is_honest swap.old) (W.is_honest swap.new) live.old live.new result }
+    ensures stands { W.is_truthful swap.new → StandsStill (W.content swap.old) live.old (W.content swap.new) live.new }
+{
+    enter_program(live, swap, p)
+}
+
+/// Brings the program of a version into memory, where it is out and the device tells the truth.
 ///
 /// `NoMemory` also comes where the state has the version no more.
-pub(crate) fn bring_out<W: Truthful>(
-    live: &mut Live,
-    swap: &mut W,
-    p: ProgId,
-) -> Result<(), LoadFault>
+pub(crate) fn bring<W: Truthful>(live: &mut Live, swap: &mut W, p: ProgId) -> Result<(), LoadFault>
+    requires closed { IsClosed live.old }
+    ensures closed { IsClosed live.new }
+    ensures there { OnOk result (IsSome (row_at live.old.versions p.0)) }
+    ensures entered { OnOk result (IsEntered (owners.Program p) live.old live.new (ticket_at live.old (owners.Program p))) }
+    ensures worlds { OnOk result (KeepsWorlds (W.content swap.old) live.old (W.content swap.new) live.new) }
+    ensures store { live.new.store ≡ live.old.store }
+    ensures outputs { live.new.outputs ≡ live.old.outputs }
+    ensures objects { live.new.objects ≡ live.old.objects }
+    ensures cells { live.new.cells ≡ live.old.cells }
+    ensures brings { Brings (W.content swap.old) (W.content swap.new) (W.last swap.new) (W.read_faults swap.old) (W.read_faults swap.new) (W.write_faults swap.old) (W.write_faults swap.new)
+        (W.is_truthful swap.old) (W.is_truthful swap.new) (W.is_honest swap.old) (W.is_honest swap.new) live.old live.new (brought_by result) }
+    ensures untaken { IfErr result IsUntaken }
+    ensures stands { W.is_truthful swap.new → StandsStill (W.content swap.old) live.old (W.content swap.new) live.new }
+{
+    if !has_version(&live.versions, p) {
+        return Err(LoadFault::NoMemory);
+    }
+    match enter_known(live, swap, p) {
+        Ok(()) => told_truth(swap),
+        Err(e) => Err(load_fault(e)),
+    }
+}
+
+/// Brings the program of a version into memory that is out.
+///
+/// `NoMemory` also comes where the state has the version no more.
+fn bring_out<W: Truthful>(live: &mut Live, swap: &mut W, p: ProgId) -> Result<(), LoadFault>
     requires closed { IsClosed live.old }
     requires out { program_at live.old.versions p ≡ None }
     ensures closed { IsClosed live.new }
@@ -96,14 +143,13 @@ pub(crate) fn bring_out<W: Truthful>(
     ensures store { live.new.store ≡ live.old.store }
     ensures outputs { live.new.outputs ≡ live.old.outputs }
     ensures objects { live.new.objects ≡ live.old.objects }
+    ensures cells { live.new.cells ≡ live.old.cells }
+    ensures brings { Brings (W.content swap.old) (W.content swap.new) (W.last swap.new) (W.read_faults swap.old) (W.read_faults swap.new) (W.write_faults swap.old) (W.write_faults swap.new)
+        (W.is_truthful swap.old) (W.is_truthful swap.new) (W.is_honest swap.old) (W.is_honest swap.new) live.old live.new (brought_by result) }
+    ensures untaken { IfErr result IsUntaken }
+    ensures stands { W.is_truthful swap.new → StandsStill (W.content swap.old) live.old (W.content swap.new) live.new }
 {
-    if !has_version(&live.versions, p) {
-        return Err(LoadFault::NoMemory);
-    }
-    match enter_program(live, swap, p) {
-        Ok(()) => told_truth(swap),
-        Err(e) => Err(load_fault(e)),
-    }
+    bring(live, swap, p)
 }
 
 /// A parent's tables are not at hand: its program is out and comes in, or its file is the answer, since it is not known.
@@ -121,6 +167,11 @@ fn needed<W: Truthful>(
     ensures store { live.new.store ≡ live.old.store }
     ensures outputs { live.new.outputs ≡ live.old.outputs }
     ensures objects { live.new.objects ≡ live.old.objects }
+    ensures cells { live.new.cells ≡ live.old.cells }
+    ensures brings { Brings (W.content swap.old) (W.content swap.new) (W.last swap.new) (W.read_faults swap.old) (W.read_faults swap.new) (W.write_faults swap.old) (W.write_faults swap.new)
+        (W.is_truthful swap.old) (W.is_truthful swap.new) (W.is_honest swap.old) (W.is_honest swap.new) live.old live.new (brought_by result) }
+    ensures untaken { IfErr result IsUntaken }
+    ensures stands { W.is_truthful swap.new → StandsStill (W.content swap.old) live.old (W.content swap.new) live.new }
     ensures found { IfOk result (λ o. MatchOption o (out_count live.new.versions < out_count live.old.versions) (λ r. IsMissingHere r (all_made made.now) live.old (string_bytes file))) }
 {
     if !is_ascii(file.as_str()) {
@@ -150,6 +201,11 @@ fn refused<W: Truthful>(
     ensures store { live.new.store ≡ live.old.store }
     ensures outputs { live.new.outputs ≡ live.old.outputs }
     ensures objects { live.new.objects ≡ live.old.objects }
+    ensures cells { live.new.cells ≡ live.old.cells }
+    ensures brings { Brings (W.content swap.old) (W.content swap.new) (W.last swap.new) (W.read_faults swap.old) (W.read_faults swap.new) (W.write_faults swap.old) (W.write_faults swap.new)
+        (W.is_truthful swap.old) (W.is_truthful swap.new) (W.is_honest swap.old) (W.is_honest swap.new) live.old live.new (brought_by result) }
+    ensures untaken { IfErr result IsUntaken }
+    ensures stands { W.is_truthful swap.new → StandsStill (W.content swap.old) live.old (W.content swap.new) live.new }
     ensures found { IfOk result (λ o. MatchOption o (out_count live.new.versions < out_count live.old.versions) (λ r. IsRefusedTo r fault (all_made made.now) live.old)) }
 {
     match fault {
@@ -176,6 +232,11 @@ fn attempt<W: Truthful>(
     ensures store { live.new.store ≡ live.old.store }
     ensures outputs { live.new.outputs ≡ live.old.outputs }
     ensures objects { live.new.objects ≡ live.old.objects }
+    ensures cells { live.new.cells ≡ live.old.cells }
+    ensures brings { Brings (W.content swap.old) (W.content swap.new) (W.last swap.new) (W.read_faults swap.old) (W.read_faults swap.new) (W.write_faults swap.old) (W.write_faults swap.new)
+        (W.is_truthful swap.old) (W.is_truthful swap.new) (W.is_honest swap.old) (W.is_honest swap.new) live.old live.new (brought_by result) }
+    ensures untaken { IfErr result IsUntaken }
+    ensures stands { W.is_truthful swap.new → StandsStill (W.content swap.old) live.old (W.content swap.new) live.new }
     ensures found { IfOk result (λ o. MatchOption o (out_count live.new.versions < out_count live.old.versions)
         (λ r. (name : List ℕ) → path.now ≡ file_bytes name → CompilesTo r (all_made made.now) name own simuls.now (W.content swap.old) live.old (W.content swap.new) live.new)) }
 {
@@ -211,6 +272,11 @@ pub(crate) fn compile_file<W: Truthful>(
     ensures store { live.new.store ≡ live.old.store }
     ensures outputs { live.new.outputs ≡ live.old.outputs }
     ensures objects { live.new.objects ≡ live.old.objects }
+    ensures cells { live.new.cells ≡ live.old.cells }
+    ensures brings { Brings (W.content swap.old) (W.content swap.new) (W.last swap.new) (W.read_faults swap.old) (W.read_faults swap.new) (W.write_faults swap.old) (W.write_faults swap.new)
+        (W.is_truthful swap.old) (W.is_truthful swap.new) (W.is_honest swap.old) (W.is_honest swap.new) live.old live.new (brought_by result) }
+    ensures untaken { IfErr result IsUntaken }
+    ensures stands { W.is_truthful swap.new → StandsStill (W.content swap.old) live.old (W.content swap.new) live.new }
 {
     match attempt(live, swap, made, path, own, simuls) {
         Ok(Some(r)) => Ok(r),

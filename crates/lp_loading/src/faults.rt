@@ -65,6 +65,8 @@ pub(crate) fn put_out(live: &mut Live, out: Out) -> Result<(), AllocError>
     requires closed { IsClosed live.old }
     ensures out { OnOk result (live.new ≡ record live.old { outputs = live.old.outputs ++ out ∷ [] }) }
     ensures closed { IsClosed live.new }
+    ensures objects { live.new.objects ≡ live.old.objects }
+    ensures cells { live.new.cells ≡ live.old.cells }
 {
     live.outputs.push(out)
 }
@@ -74,6 +76,8 @@ fn log_faults(live: &mut Live, faults: &[Fault]) -> Result<(), AllocError>
     requires closed { IsClosed live.old }
     ensures logs { OnOk result (live.new ≡ record live.old { outputs = live.old.outputs ++ map meant faults.now }) }
     ensures closed { IsClosed live.new }
+    ensures objects { live.new.objects ≡ live.old.objects }
+    ensures cells { live.new.cells ≡ live.old.cells }
 {
     match faults {
         [f, rest @ ..] => {
@@ -91,6 +95,8 @@ pub(crate) fn end_faulty(live: &mut Live, faults: Vec<Fault>) -> Result<Step, Al
     ensures logs { OnOk result (live.new ≡ record live.old { outputs = live.old.outputs ++ map meant faults.items }) }
     ensures ends { IfOk result (λ r. r ≡ steps.Ends (answers.Faulty faults)) }
     ensures closed { IsClosed live.new }
+    ensures objects { live.new.objects ≡ live.old.objects }
+    ensures cells { live.new.cells ≡ live.old.cells }
 {
     log_faults(live, faults.as_slice())?;
     Ok(Step::Ends(Answer::Faulty(faults)))

@@ -1,15 +1,15 @@
 //! Loads, as they stand between their questions.
-ghost use Rattle.std.specs.Prelude.{◌≡◌, ◌∷◌, [], MatchOption, reverse};
+ghost use Rattle.std.specs.Prelude.{◌≡◌};
 ghost use Rattle.lp_loading.specs.declared.job.LoadFault.TheVariants.{NoMemory};
 
 use lp_asking::ending::Stop;
+use lp_beginning::job::Making;
 use lp_code::name::Name;
 use lp_residence::answers::SwapCause;
 use lp_tree::fault::Fault;
-use lp_values::id::{ObjId, ProgId};
+use lp_values::id::ProgId;
 use lp_values::value::Value;
 use std::alloc::{AllocError, AllocFailed};
-use std::marker::Model;
 use thiserror::Error;
 
 /// For what an object is loaded.
@@ -30,56 +30,13 @@ pub struct MadeFor {
     pub version: ProgId,
 }
 
-/// Parts of a program, by their numbers, the first of which comes next.
-#[derive(Drop)]
-pub struct Parts {
-    left: Vec<u16>,
-}
-
-impl Model for Parts {
-    ghost use Rattle.std.specs.Prelude.{List, ℕ, reverse};
-
-    ghost Value = { List ℕ };
-
-    ghost view = { λ p. reverse p.left.items };
-}
-
-impl Parts {
-    /// The parts in a vector that has the first of them last. Takes no memory.
-    pub(crate) fn from_last(left: Vec<u16>) -> Parts
-        ensures { result ≡ reverse left.items }
-    {
-        Parts { left }
-    }
-
-    /// The next part. Takes no memory.
-    pub(crate) fn next(&mut self) -> Option<u16>
-        ensures { MatchOption result ((self.old ≡ []) × (self.new ≡ [])) (λ p. self.old ≡ p ∷ self.new) }
-    {
-        self.left.pop()
-    }
-}
-
-/// What a load asks, with no arguments.
-#[derive(Drop)]
-pub enum Question {
-    /// A parent, or the simul-efun object, is loaded.
-    Load(Name),
-    /// The initialisers of a part of an object's program run.
-    Initialise(ObjId, u16),
-    /// `create` is applied to an object.
-    Create(ObjId),
-}
-
 /// Where a load goes on.
-#[derive(Drop)]
+#[derive(Clone, Copy, Debug, PartialEq, Eq)]
 pub enum Going {
     /// The simul-efun object comes first.
     Simul,
     /// The file is read.
     Read,
-    /// The object was made: the initialisers of these parts run, and then `create`.
-    Begin(ObjId, Parts),
 }
 
 /// What a load waits for.
@@ -89,10 +46,6 @@ pub enum Waiting {
     Simul,
     /// The load of the parent with a name.
     Parent(Name),
-    /// The initialisers of a part of the object. These parts are left.
-    Part(ObjId, Parts),
-    /// `create` of the object.
-    Create(ObjId),
 }
 
 /// The load of a file.
@@ -117,7 +70,7 @@ pub enum Begun {
     Spent,
 }
 
-/// How a question of a load, or a load, ends.
+/// How a load ends, and so what another load that asked for it is told.
 #[derive(Drop)]
 pub enum Answer {
     /// With a value: of a load it is the object.
@@ -131,8 +84,10 @@ pub enum Answer {
 /// What a load does next.
 #[derive(Drop)]
 pub enum Step {
-    /// It asks, and waits for the answer.
-    Asks(Question, Waiting),
+    /// It asks for the load of the object with this name, which is made for an `inherit`, and waits for the answer.
+    Asks(Name, Waiting),
+    /// Its object was made, and begins as this job: what that ends with, the load ends with.
+    Makes(Making),
     /// It ends.
     Ends(Answer),
 }
@@ -155,7 +110,10 @@ pub enum LoadFault {
     /// A number has no room in an instruction or a row of the program.
     #[error("too large")]
     TooLarge,
-    /// The name, or that of an `inherit`, has letters beyond ASCII, or a live clone has the name.
+    /// A live object has the name of the object that was to be made: only where a file whose name has a `#` is loaded.
+    #[error("the name is taken")]
+    NameTaken,
+    /// The name, or that of an `inherit`, has letters beyond ASCII.
     #[error("not carried out yet")]
     NotYet,
     /// Memory ran out.

@@ -1,5 +1,5 @@
 //! Parents for which a load ends: where their `inherit` stands, and the fault.
-ghost use Rattle.std.specs.Prelude.{◌≡◌, IfOk, List, Option, Some, nat_lt, suc, ℕ};
+ghost use Rattle.std.specs.Prelude.{◌≡◌, IfErr, IfOk, List, Option, Some, nat_lt, suc, ℕ};
 ghost use Rattle.std.specs.Option.{option_map};
 ghost use Rattle.std.specs.Str.{IsAscii};
 ghost use Rattle.lp_asking.specs.declared.asker.Loading.{Loading as Loads};
@@ -7,9 +7,11 @@ ghost use Rattle.lp_efuns.specs.declared.caller.Turn.{Turn};
 ghost use Rattle.lp_front.specs.Names.{parents_in};
 ghost use Rattle.lp_front.specs.Reading.{items_of};
 ghost use Rattle.lp_front_end.specs.Parents.{file_bytes};
+ghost use Rattle.lp_loading.specs.Telling.{IsReadless};
 ghost use Rattle.lp_loading.specs.Going.{Goes};
 ghost use Rattle.lp_loading.specs.Lines.{IsFaultOf, IsLineOf, IsTooFar, first_of};
 ghost use Rattle.lp_loading.specs.Reads.{HasRead};
+ghost use Rattle.lp_loading.specs.Steps.{AsksOrFails};
 ghost use Rattle.lp_loading.specs.declared.compiling.Compiled.TheVariants as compiled;
 ghost use Rattle.lp_loading.specs.declared.job.Going.TheVariants as stages;
 ghost use Rattle.lp_loading.specs.declared.job.LoadJob.{LoadJob as Job};
@@ -52,7 +54,8 @@ fn line_in(parents: &[Parent], file: &str) -> Option<u32>
 
 /// The line of the first `inherit` of a parent's file, in what was read of a file.
 fn line_of(alloc: Global, declared: &Declared, file: &str) -> Result<u32, LoadFault>
-    ensures { IfOk result (λ line. Some line ≡ option_map (λ p. p.line) (first_of file.now (parents_in (items_of declared.now)))) }
+    ensures line { IfOk result (λ line. Some line ≡ option_map (λ p. p.line) (first_of file.now (parents_in (items_of declared.now)))) }
+    ensures readless { IfErr result IsReadless }
 {
     let parents = parents_of(alloc, declared.unit.items.as_slice())?;
     match line_in(parents.as_slice(), file) {
@@ -66,7 +69,8 @@ fn line_of(alloc: Global, declared: &Declared, file: &str) -> Result<u32, LoadFa
 /// # Errors
 /// `NoMemory`, also where the file cannot be read or names no such parent.
 fn parent_line(alloc: Global, files: &Store, path: &str, file: &str) -> Result<u32, LoadFault>
-    ensures { IfOk result (IsLineOf files.now path.now file.now) }
+    ensures line { IfOk result (IsLineOf files.now path.now file.now) }
+    ensures readless { IfErr result IsReadless }
 {
     match read_file(alloc, files, path) {
         Ok(d) => line_of(alloc, &d, file),
@@ -103,7 +107,10 @@ fn end_at(
     requires line { IsLineOf live.old.store (file_bytes name.now) file.now line }
     ensures goes { IfOk result (λ r. (job : Job) (loads : List Loads) (told0 : Option Bytes) (live0 : L) (told1 : Option Bytes) (budget : ℕ) (turn : Turn) → job.name ≡ name.now → HasRead (compiled.Missing file.now) job loads told0 live0 told1 live.old
         → IsTooFar kind file.now job loads → Goes r job stages.Read loads told0 live0 budget told1 live.new budget turn) }
+    ensures asks { IfOk result AsksOrFails }
     ensures closed { IsClosed live.new }
+    ensures objects { live.new.objects ≡ live.old.objects }
+    ensures cells { live.new.cells ≡ live.old.cells }
 {
     law_missing_goes_on();
     law_names_have_files();
@@ -125,7 +132,11 @@ pub(crate) fn end_missing(
     requires ascii { IsAscii name.now }
     ensures goes { IfOk result (λ r. (job : Job) (loads : List Loads) (told0 : Option Bytes) (live0 : L) (told1 : Option Bytes) (budget : ℕ) (turn : Turn) → job.name ≡ name.now → HasRead (compiled.Missing file.now) job loads told0 live0 told1 live.old
         → IsTooFar kind file.now job loads → Goes r job stages.Read loads told0 live0 budget told1 live.new budget turn) }
+    ensures asks { IfOk result AsksOrFails }
+    ensures readless { IfErr result IsReadless }
     ensures closed { IsClosed live.new }
+    ensures objects { live.new.objects ≡ live.old.objects }
+    ensures cells { live.new.cells ≡ live.old.cells }
 {
     let path = file_of(live.alloc, name)?;
     let line = parent_line(live.alloc, &live.store, path.as_str(), file)?;
@@ -147,7 +158,11 @@ pub(crate) fn go_missing(
     requires ascii { IsAscii job.now.name }
     ensures goes { IfOk result (λ r. (told0 : Option Bytes) (live0 : L) (told1 : Option Bytes) (budget : ℕ) (turn : Turn) → HasRead (compiled.Missing file.now) job.now loads.now told0 live0 told1 live.old
         → Goes r job.now stages.Read loads.now told0 live0 budget told1 live.new budget turn) }
+    ensures asks { IfOk result AsksOrFails }
+    ensures readless { IfErr result IsReadless }
     ensures closed { IsClosed live.new }
+    ensures objects { live.new.objects ≡ live.old.objects }
+    ensures cells { live.new.cells ≡ live.old.cells }
 {
     let own = job.name.as_str();
     let name = parent_name(live.alloc, file)?;

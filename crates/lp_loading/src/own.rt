@@ -1,4 +1,4 @@
-//! Rows of a file's own functions in its program, and of its initialisers.
+//! Rows of a file's own functions in its program.
 ghost use Rattle.std.specs.Prelude.{◌≡◌, ◌++◌, OnOk, false, filter, is_some, slice_get};
 ghost use Rattle.std.specs.Option.{option_copied};
 ghost use Rattle.lp_layout.specs.Layout.{slot_named};
@@ -6,17 +6,12 @@ ghost use Rattle.lp_part_laws.specs.Parts.{reached_in};
 ghost use Rattle.lp_plan_laws.specs.Tables.{reached_by};
 ghost use Rattle.lp_targets.specs.Callees.{is_callable_number, wanted_row};
 ghost use Rattle.lp_targets.specs.declared.wants.Want.TheVariants as wants;
-ghost use Rattle.lp_loading.specs.Rows.{InitialisersAreTold, NamesAreOwn, OpenIsCallable, has_initialisers as has, is_function_row as is_row, is_open as may_call, is_there as there, open_names, own_name, own_part as last_part};
+ghost use Rattle.lp_loading.specs.Rows.{NamesAreOwn, OpenIsCallable, is_open as may_call, is_there as there, open_names, own_name, own_part as last_part};
 
 use lp_code::name::Name;
 use lp_code::program::{FunRow, RawProgram};
 use lp_code::tables::Slot;
 use std::alloc::{AllocError, Global};
-
-/// The law of initialisers: a program tells whether the file of the version that it fits has some.
-pub fn law_initialisers()
-    ensures { InitialisersAreTold }
-{}
 
 /// The law of open functions: a program tells which functions of the version that it fits every object may call.
 pub fn law_open()
@@ -70,27 +65,6 @@ fn is_own_row(raw: &RawProgram, row: &FunRow, k: usize) -> bool
         Some(slot) => is_there(own_part(raw), k, slot),
         None => false,
     }
-}
-
-/// Whether a program has a row with a number that is that of a function.
-pub(crate) fn is_function_row(raw: &RawProgram, k: usize) -> bool
-    ensures { result ≡ is_row raw.now k }
-{
-    match raw.funs.as_slice().get(k) {
-        Some(row) => is_own_row(raw, row, k),
-        None => false,
-    }
-}
-
-/// Whether the file of a program has initialisers. Takes no memory.
-pub(crate) fn has_initialisers(raw: &RawProgram) -> bool
-    ensures { result ≡ has raw.now }
-{
-    let n = raw.funs.as_slice().len();
-    if n == 0 {
-        return false;
-    }
-    !is_function_row(raw, n - 1)
 }
 
 /// Whether a function with these modifiers may be called from outside by another object.

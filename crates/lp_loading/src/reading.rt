@@ -1,13 +1,16 @@
 //! The file of a load is read: its faults end the load, or a parent that is missing is asked for.
-ghost use Rattle.std.specs.Prelude.{◌≡◌, IfOk, List, Option, false, nat_lt, suc, ℕ};
+ghost use Rattle.std.specs.Prelude.{◌≡◌, IfErr, IfOk, List, Option, false, nat_lt, suc, ℕ};
 ghost use Rattle.std.specs.Str.{IsAscii};
 ghost use Rattle.std.specs.String.{string_bytes};
 ghost use Rattle.lp_asking.specs.declared.asker.Loading.{Loading as Loads};
 ghost use Rattle.lp_efuns.specs.declared.caller.Turn.{Turn};
 ghost use Rattle.lp_front_end.specs.Parents.{file_bytes};
+ghost use Rattle.lp_beginning.specs.Beginning.{StandsStill};
+ghost use Rattle.lp_loading.specs.Telling.{IsReadless, IsUntaken, brought_by};
 ghost use Rattle.lp_loading.specs.Going.{Goes};
 ghost use Rattle.lp_loading.specs.Present.{HasWorld};
 ghost use Rattle.lp_loading.specs.Reads.{HasRead};
+ghost use Rattle.lp_loading.specs.Steps.{AsksOrFails};
 ghost use Rattle.lp_loading.specs.declared.compiling.Compiled.TheVariants as compiled;
 ghost use Rattle.lp_loading.specs.declared.job.Going.TheVariants as stages;
 ghost use Rattle.lp_loading.specs.declared.job.LoadJob.{LoadJob as Job};
@@ -15,6 +18,7 @@ ghost use Rattle.lp_loading.specs.Loads.{loads_of};
 ghost use Rattle.lp_meaning.specs.FileLoads.{is_under_way as under_way};
 ghost use Rattle.lp_meaning.specs.Limits.{max_nested};
 ghost use Rattle.lp_swapfile.specs.Device.{Bytes};
+ghost use Rattle.lp_targets.specs.Brought.{Brings};
 ghost use Rattle.lp_world.specs.Closed.{IsClosed};
 ghost use Rattle.lp_world.specs.declared.live.Live.{Live as L};
 
@@ -59,6 +63,12 @@ pub(crate) fn compile_own<W: Truthful>(
     requires ascii { IsAscii job.now.name }
     ensures read { IfOk result (λ r. HasRead r job.now loads.now (W.content swap.old) live.old (W.content swap.new) live.new) }
     ensures closed { IsClosed live.new }
+    ensures objects { live.new.objects ≡ live.old.objects }
+    ensures cells { live.new.cells ≡ live.old.cells }
+    ensures brings { Brings (W.content swap.old) (W.content swap.new) (W.last swap.new) (W.read_faults swap.old) (W.read_faults swap.new) (W.write_faults swap.old) (W.write_faults swap.new)
+        (W.is_truthful swap.old) (W.is_truthful swap.new) (W.is_honest swap.old) (W.is_honest swap.new) live.old live.new (brought_by result) }
+    ensures untaken { IfErr result IsUntaken }
+    ensures stands { W.is_truthful swap.new → StandsStill (W.content swap.old) live.old (W.content swap.new) live.new }
 {
     let simuls = simul_names(live, swap, loads)?;
     let path = file_of(live.alloc, job.name.as_str())?;
@@ -67,14 +77,18 @@ pub(crate) fn compile_own<W: Truthful>(
 }
 
 /// The faults of the file that was read are logged, and end the load.
-pub(crate) fn tell_faults(live: &mut Live, faults: Vec<Fault>) -> Result<Step, AllocError>
+pub(crate) fn tell_faults(live: &mut Live, faults: Vec<Fault>) -> Result<Step, LoadFault>
     requires closed { IsClosed live.old }
     ensures goes { IfOk result (λ r. (job : Job) (loads : List Loads) (told0 : Option Bytes) (live0 : L) (told1 : Option Bytes) (budget : ℕ) (turn : Turn) → HasRead (compiled.Faulty faults) job loads told0 live0 told1 live.old
         → Goes r job stages.Read loads told0 live0 budget told1 live.new budget turn) }
+    ensures asks { IfOk result AsksOrFails }
+    ensures readless { IfErr result IsReadless }
     ensures closed { IsClosed live.new }
+    ensures objects { live.new.objects ≡ live.old.objects }
+    ensures cells { live.new.cells ≡ live.old.cells }
 {
     law_faulty_ends();
-    end_faulty(live, faults)
+    Ok(end_faulty(live, faults)?)
 }
 
 /// The name of a parent, by its file.
@@ -84,6 +98,7 @@ pub(crate) fn tell_faults(live: &mut Live, faults: Vec<Fault>) -> Result<Step, A
 pub(crate) fn parent_name(alloc: Global, file: &str) -> Result<Name, LoadFault>
     ensures file { IfOk result (λ n. file.now ≡ file_bytes n) }
     ensures ascii { IfOk result (λ n. IsAscii n) }
+    ensures readless { IfErr result IsReadless }
 {
     if !is_ascii(file) {
         return Err(LoadFault::NotYet);
@@ -97,8 +112,10 @@ pub(crate) fn parent_name(alloc: Global, file: &str) -> Result<Name, LoadFault>
 /// A load asks for the first of its parents that is missing, as the file that was read tells, where no load of it is under way and
 /// loads are not nested too deep.
 pub(crate) fn ask_missing(alloc: Global, name: Name) -> Result<Step, AllocError>
-    ensures { IfOk result (λ r. (file : List ℕ) (job : Job) (loads : List Loads) (told0 : Option Bytes) (live0 : L) (told1 : Option Bytes) (live1 : L) (budget : ℕ) (turn : Turn) → HasRead (compiled.Missing file) job loads told0 live0 told1 live1
+    requires { IsAscii name }
+    ensures goes { IfOk result (λ r. (file : List ℕ) (job : Job) (loads : List Loads) (told0 : Option Bytes) (live0 : L) (told1 : Option Bytes) (live1 : L) (budget : ℕ) (turn : Turn) → HasRead (compiled.Missing file) job loads told0 live0 told1 live1
         → file ≡ file_bytes name → under_way name (loads_of loads) ≡ false → nat_lt max_nested (suc job.nested) ≡ false → Goes r job stages.Read loads told0 live0 budget told1 live1 budget turn) }
+    ensures asks { IfOk result AsksOrFails }
 {
     ask_parent(alloc, name)
 }

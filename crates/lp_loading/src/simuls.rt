@@ -1,5 +1,5 @@
 //! The names that a file sees of the simul-efun object: the functions that every object may call there.
-ghost use Rattle.std.specs.Prelude.{◌≡◌, IfOk, List, None, OnOk, Option, Some, ℕ};
+ghost use Rattle.std.specs.Prelude.{◌≡◌, IfErr, IfOk, List, None, OnOk, Option, Some, ℕ};
 ghost use Rattle.std.specs.Str.{chars, encode_utf8_all};
 ghost use Rattle.std.specs.String.{string_bytes};
 ghost use Rattle.lp_code.specs.declared.program.RawProgram.{RawProgram as Raw};
@@ -9,14 +9,17 @@ ghost use Rattle.lp_language.specs.World.{World, object_named as named};
 ghost use Rattle.lp_making.specs.Objects.{program_at};
 ghost use Rattle.lp_meaning.specs.FileLoads.{is_under_way as under_way};
 ghost use Rattle.lp_swapfile.specs.Device.{Bytes};
+ghost use Rattle.lp_targets.specs.Brought.{Brings};
 ghost use Rattle.lp_targets.specs.Callees.{IsWorldOf};
 ghost use Rattle.lp_world.specs.Closed.{IsClosed};
 ghost use Rattle.lp_world.specs.Stands.{Stands};
+ghost use Rattle.lp_beginning.specs.Beginning.{StandsStill};
+ghost use Rattle.lp_loading.specs.Telling.{IsUntaken, brought_by};
 ghost use Rattle.lp_loading.specs.Loads.{loads_of};
 ghost use Rattle.lp_loading.specs.Present.{KeepsWorlds};
 ghost use Rattle.lp_loading.specs.Simuls.{IsProgramNow, PutsTree, SeesSimuls, names_seen, seen_simul};
 
-use crate::compiling::{has_version, load_fault, told_truth};
+use crate::compiling::bring;
 use crate::job::LoadFault;
 use crate::own::{law_names, law_open, put_names};
 use crate::present::version_of_object;
@@ -24,7 +27,6 @@ use lp_asking::asker::Loading;
 use lp_asking::truth::Truthful;
 use lp_code::name::Name;
 use lp_code::names::Names2;
-use lp_residence::returning::enter_program;
 use lp_values::id::{ObjId, ProgId};
 use lp_world::live::Live;
 use lp_world::shared::SharedProgram;
@@ -109,17 +111,16 @@ pub(crate) fn bring_shared<W: Truthful>(
     ensures store { live.new.store ≡ live.old.store }
     ensures outputs { live.new.outputs ≡ live.old.outputs }
     ensures objects { live.new.objects ≡ live.old.objects }
+    ensures cells { live.new.cells ≡ live.old.cells }
+    ensures brings { Brings (W.content swap.old) (W.content swap.new) (W.last swap.new) (W.read_faults swap.old) (W.read_faults swap.new) (W.write_faults swap.old) (W.write_faults swap.new)
+        (W.is_truthful swap.old) (W.is_truthful swap.new) (W.is_honest swap.old) (W.is_honest swap.new) live.old live.new (brought_by result) }
+    ensures untaken { IfErr result IsUntaken }
+    ensures stands { W.is_truthful swap.new → StandsStill (W.content swap.old) live.old (W.content swap.new) live.new }
     ensures code { IfOk result (IsProgramNow (W.content swap.old) live.old p) }
 {
-    if !has_version(&live.versions, p) {
-        return Err(LoadFault::NoMemory);
-    }
-    match enter_program(live, swap, p) {
-        Ok(()) => {
-            told_truth(swap)?;
-            Ok(share_program(&live.versions, p)?)
-        }
-        Err(e) => Err(load_fault(e)),
+    match bring(live, swap, p) {
+        Ok(()) => Ok(share_program(&live.versions, p)?),
+        Err(e) => Err(e),
     }
 }
 
@@ -139,6 +140,11 @@ fn put_tree<W: Truthful>(
     ensures store { live.new.store ≡ live.old.store }
     ensures outputs { live.new.outputs ≡ live.old.outputs }
     ensures objects { live.new.objects ≡ live.old.objects }
+    ensures cells { live.new.cells ≡ live.old.cells }
+    ensures brings { Brings (W.content swap.old) (W.content swap.new) (W.last swap.new) (W.read_faults swap.old) (W.read_faults swap.new) (W.write_faults swap.old) (W.write_faults swap.new)
+        (W.is_truthful swap.old) (W.is_truthful swap.new) (W.is_honest swap.old) (W.is_honest swap.new) live.old live.new (brought_by result) }
+    ensures untaken { IfErr result IsUntaken }
+    ensures stands { W.is_truthful swap.new → StandsStill (W.content swap.old) live.old (W.content swap.new) live.new }
     ensures names { OnOk result (PutsTree (W.content swap.old) live.old whole.now depth version names.old.items names.new.items) }
 {
     law_names();
@@ -166,6 +172,11 @@ fn names_of_version<W: Truthful>(
     ensures store { live.new.store ≡ live.old.store }
     ensures outputs { live.new.outputs ≡ live.old.outputs }
     ensures objects { live.new.objects ≡ live.old.objects }
+    ensures cells { live.new.cells ≡ live.old.cells }
+    ensures brings { Brings (W.content swap.old) (W.content swap.new) (W.last swap.new) (W.read_faults swap.old) (W.read_faults swap.new) (W.write_faults swap.old) (W.write_faults swap.new)
+        (W.is_truthful swap.old) (W.is_truthful swap.new) (W.is_honest swap.old) (W.is_honest swap.new) live.old live.new (brought_by result) }
+    ensures untaken { IfErr result IsUntaken }
+    ensures stands { W.is_truthful swap.new → StandsStill (W.content swap.old) live.old (W.content swap.new) live.new }
     ensures names { IfOk result (λ names. (programs : List Raw) (w : World) → IsWorldOf (W.content swap.old) programs live.old w → names ≡ callable_names (heritage w v)) }
 {
     law_open();
@@ -194,6 +205,11 @@ fn names_of_object<W: Truthful>(
     ensures store { live.new.store ≡ live.old.store }
     ensures outputs { live.new.outputs ≡ live.old.outputs }
     ensures objects { live.new.objects ≡ live.old.objects }
+    ensures cells { live.new.cells ≡ live.old.cells }
+    ensures brings { Brings (W.content swap.old) (W.content swap.new) (W.last swap.new) (W.read_faults swap.old) (W.read_faults swap.new) (W.write_faults swap.old) (W.write_faults swap.new)
+        (W.is_truthful swap.old) (W.is_truthful swap.new) (W.is_honest swap.old) (W.is_honest swap.new) live.old live.new (brought_by result) }
+    ensures untaken { IfErr result IsUntaken }
+    ensures stands { W.is_truthful swap.new → StandsStill (W.content swap.old) live.old (W.content swap.new) live.new }
     ensures names { IfOk result (λ names. (programs : List Raw) (w : World) (n : List ℕ) → IsWorldOf (W.content swap.old) programs live.old w → named w n ≡ Some ob → names ≡ names_seen w (Some ob)) }
 {
     match version_of_object(&live.objects, ob) {
@@ -218,6 +234,11 @@ pub(crate) fn simul_names<W: Truthful>(
     ensures store { live.new.store ≡ live.old.store }
     ensures outputs { live.new.outputs ≡ live.old.outputs }
     ensures objects { live.new.objects ≡ live.old.objects }
+    ensures cells { live.new.cells ≡ live.old.cells }
+    ensures brings { Brings (W.content swap.old) (W.content swap.new) (W.last swap.new) (W.read_faults swap.old) (W.read_faults swap.new) (W.write_faults swap.old) (W.write_faults swap.new)
+        (W.is_truthful swap.old) (W.is_truthful swap.new) (W.is_honest swap.old) (W.is_honest swap.new) live.old live.new (brought_by result) }
+    ensures untaken { IfErr result IsUntaken }
+    ensures stands { W.is_truthful swap.new → StandsStill (W.content swap.old) live.old (W.content swap.new) live.new }
     ensures sees { IfOk result (SeesSimuls (W.content swap.old) live.old loads.now) }
 {
     let seen = simul_seen(live, loads)?;

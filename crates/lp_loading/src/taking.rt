@@ -1,12 +1,13 @@
 //! A load takes the answer of a load that it asked for: that of the simul-efun object, or of a parent.
-ghost use Rattle.std.specs.Prelude.{◌≡◌, IfOk, List, None, Option, Some, ℕ};
+ghost use Rattle.std.specs.Prelude.{◌≡◌, IfErr, IfOk, List, None, Option, Some, ℕ};
 ghost use Rattle.std.specs.Str.{IsAscii};
-ghost use Rattle.lp_asking.specs.declared.asker.Loading.{Loading};
-ghost use Rattle.lp_asking.specs.declared.ending.Place.{Place};
 ghost use Rattle.lp_code.specs.declared.program.RawProgram.{RawProgram as Raw};
 ghost use Rattle.lp_efuns.specs.declared.caller.Turn.{Turn};
 ghost use Rattle.lp_language.specs.World.{World, object_named};
-ghost use Rattle.lp_loading.specs.Going.{Takes};
+ghost use Rattle.lp_cells.specs.Cells.{Store};
+ghost use Rattle.lp_loading.specs.Going.{IsAnswerThere, Takes};
+ghost use Rattle.lp_loading.specs.Steps.{EndsThere, GoesReading, IsSameLoad};
+ghost use Rattle.lp_loading.specs.Telling.{IsDeviceless};
 ghost use Rattle.lp_meaning.specs.FileLoads.{object_of_value};
 ghost use Rattle.lp_loading.specs.declared.job.Answer.TheVariants as answers;
 ghost use Rattle.lp_loading.specs.declared.job.Waiting.TheVariants as waitings;
@@ -43,8 +44,10 @@ fn own_object(job: &LoadJob, live: &Live) -> Option<ObjId>
 /// The simul-efun object was loaded: the load ends with the object of its own name, where one lives by then, or reads its file.
 fn after_simul(job: &LoadJob, live: &Live) -> Fed
     requires { IsAscii job.now.name }
-    ensures { (v : V) (o : Oid) (place : Option Place) (loads : List Loading) (told : Option Bytes) (turn : Turn) (budget : ℕ) → object_of_value v ≡ Some o
-        → Takes result job.now waitings.Simul (answers.Value v) place loads told live.now told job.now live.now turn budget }
+    ensures takes { (v : V) (o : Oid) (told : Option Bytes) (turn : Turn) (budget : ℕ) → object_of_value v ≡ Some o
+        → Takes result job.now waitings.Simul (answers.Value v) told live.now job.now turn budget }
+    ensures reads { GoesReading result }
+    ensures there { (cells : Store) → EndsThere cells result }
 {
     match own_object(job, live) {
         Some(o) => Fed::Ends(Answer::Value(Value::Obj(o))),
@@ -55,8 +58,9 @@ fn after_simul(job: &LoadJob, live: &Live) -> Fed
 /// A load takes the value of the load of the simul-efun object.
 fn simul_value(job: &LoadJob, live: &Live, v: &Value) -> Fed
     requires { IsAscii job.now.name }
-    ensures { (place : Option Place) (loads : List Loading) (told : Option Bytes) (turn : Turn) (budget : ℕ)
-        → Takes result job.now waitings.Simul (answers.Value v.now) place loads told live.now told job.now live.now turn budget }
+    ensures takes { (told : Option Bytes) (turn : Turn) (budget : ℕ) → Takes result job.now waitings.Simul (answers.Value v.now) told live.now job.now turn budget }
+    ensures reads { GoesReading result }
+    ensures there { (cells : Store) → EndsThere cells result }
 {
     match object_of(v) {
         Some(_) => after_simul(job, live),
@@ -67,8 +71,9 @@ fn simul_value(job: &LoadJob, live: &Live, v: &Value) -> Fed
 /// A load takes the answer of the load of the simul-efun object.
 pub(crate) fn take_simul(job: &LoadJob, live: &Live, answer: Answer) -> Fed
     requires { IsAscii job.now.name }
-    ensures { (place : Option Place) (loads : List Loading) (told : Option Bytes) (turn : Turn) (budget : ℕ)
-        → Takes result job.now waitings.Simul answer place loads told live.now told job.now live.now turn budget }
+    ensures takes { (told : Option Bytes) (turn : Turn) (budget : ℕ) → Takes result job.now waitings.Simul answer told live.now job.now turn budget }
+    ensures reads { GoesReading result }
+    ensures there { (cells : Store) → IsAnswerThere cells answer → EndsThere cells result }
 {
     match answer {
         Answer::Value(v) => simul_value(job, live, &v),
@@ -80,9 +85,12 @@ pub(crate) fn take_simul(job: &LoadJob, live: &Live, answer: Answer) -> Fed
 /// A parent was loaded, and no object of the load's own name lives: its version is noted, and the file is read again.
 fn note_parent(job: &mut LoadJob, live: &Live, name: Name, ob: ObjId) -> Result<Fed, LoadFault>
     requires none { (told : Option Bytes) (programs : List Raw) (w : World) → Stands told programs live.now w → None ≡ object_named w job.old.name }
-    ensures takes { IfOk result (λ r. (v : V) (place : Option Place) (loads : List Loading) (told : Option Bytes) (turn : Turn) (budget : ℕ) → object_of_value v ≡ Some ob
-        → Takes r job.old (waitings.Parent name) (answers.Value v) place loads told live.now told job.new live.now turn budget) }
-    ensures name { job.new.name ≡ job.old.name }
+    ensures takes { IfOk result (λ r. (v : V) (told : Option Bytes) (turn : Turn) (budget : ℕ) → object_of_value v ≡ Some ob
+        → Takes r job.old (waitings.Parent name) (answers.Value v) told live.now job.new turn budget) }
+    ensures same { IsSameLoad job.old job.new }
+    ensures reads { IfOk result GoesReading }
+    ensures there { IfOk result (λ r. (cells : Store) → EndsThere cells r) }
+    ensures fault { IfErr result IsDeviceless }
 {
     match version_of_object(&live.objects, ob) {
         Some(version) => {
@@ -96,9 +104,12 @@ fn note_parent(job: &mut LoadJob, live: &Live, name: Name, ob: ObjId) -> Result<
 /// A parent was loaded: the load ends with the object of its own name, where one lives by then, or reads its file again.
 fn after_parent(job: &mut LoadJob, live: &Live, name: Name, ob: ObjId) -> Result<Fed, LoadFault>
     requires { IsAscii job.old.name }
-    ensures takes { IfOk result (λ r. (v : V) (place : Option Place) (loads : List Loading) (told : Option Bytes) (turn : Turn) (budget : ℕ) → object_of_value v ≡ Some ob
-        → Takes r job.old (waitings.Parent name) (answers.Value v) place loads told live.now told job.new live.now turn budget) }
-    ensures name { job.new.name ≡ job.old.name }
+    ensures takes { IfOk result (λ r. (v : V) (told : Option Bytes) (turn : Turn) (budget : ℕ) → object_of_value v ≡ Some ob
+        → Takes r job.old (waitings.Parent name) (answers.Value v) told live.now job.new turn budget) }
+    ensures same { IsSameLoad job.old job.new }
+    ensures reads { IfOk result GoesReading }
+    ensures there { IfOk result (λ r. (cells : Store) → EndsThere cells r) }
+    ensures fault { IfErr result IsDeviceless }
 {
     match own_object(job, live) {
         Some(o) => Ok(Fed::Ends(Answer::Value(Value::Obj(o)))),
@@ -109,9 +120,12 @@ fn after_parent(job: &mut LoadJob, live: &Live, name: Name, ob: ObjId) -> Result
 /// A load takes the value of the load of a parent.
 fn parent_value(job: &mut LoadJob, live: &Live, name: Name, v: &Value) -> Result<Fed, LoadFault>
     requires { IsAscii job.old.name }
-    ensures takes { IfOk result (λ r. (place : Option Place) (loads : List Loading) (told : Option Bytes) (turn : Turn) (budget : ℕ)
-        → Takes r job.old (waitings.Parent name) (answers.Value v.now) place loads told live.now told job.new live.now turn budget) }
-    ensures name { job.new.name ≡ job.old.name }
+    ensures takes { IfOk result (λ r. (told : Option Bytes) (turn : Turn) (budget : ℕ)
+        → Takes r job.old (waitings.Parent name) (answers.Value v.now) told live.now job.new turn budget) }
+    ensures same { IsSameLoad job.old job.new }
+    ensures reads { IfOk result GoesReading }
+    ensures there { IfOk result (λ r. (cells : Store) → EndsThere cells r) }
+    ensures fault { IfErr result IsDeviceless }
 {
     match object_of(v) {
         Some(o) => after_parent(job, live, name, o),
@@ -130,9 +144,12 @@ pub(crate) fn take_parent(
     answer: Answer,
 ) -> Result<Fed, LoadFault>
     requires { IsAscii job.old.name }
-    ensures takes { IfOk result (λ r. (place : Option Place) (loads : List Loading) (told : Option Bytes) (turn : Turn) (budget : ℕ)
-        → Takes r job.old (waitings.Parent name) answer place loads told live.now told job.new live.now turn budget) }
-    ensures name { job.new.name ≡ job.old.name }
+    ensures takes { IfOk result (λ r. (told : Option Bytes) (turn : Turn) (budget : ℕ)
+        → Takes r job.old (waitings.Parent name) answer told live.now job.new turn budget) }
+    ensures same { IsSameLoad job.old job.new }
+    ensures reads { IfOk result GoesReading }
+    ensures there { IfOk result (λ r. (cells : Store) → IsAnswerThere cells answer → EndsThere cells r) }
+    ensures fault { IfErr result IsDeviceless }
 {
     match answer {
         Answer::Value(v) => parent_value(job, live, name, &v),

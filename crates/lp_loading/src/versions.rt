@@ -1,8 +1,10 @@
 //! The file of a load becomes a version.
-ghost use Rattle.std.specs.Prelude.{◌≡◌, IfOk, OnErr};
+ghost use Rattle.std.specs.Prelude.{◌≡◌, IfErr, IfOk, OnErr, OnOk};
 ghost use Rattle.std.specs.Str.{IsAscii};
 ghost use Rattle.lp_meaning.specs.WorldSteps.{file_of_name};
 ghost use Rattle.lp_world.specs.Closed.{IsClosed};
+ghost use Rattle.lp_targets.specs.Brought.{StaysInMemory};
+ghost use Rattle.lp_loading.specs.Telling.{IsReadless, StandsFor};
 ghost use Rattle.lp_loading.specs.Versions.{MakesVersion};
 
 use crate::job::LoadFault;
@@ -42,6 +44,12 @@ pub(crate) fn make_version(
     ensures makes { IfOk result (MakesVersion live.old live.new name.now program) }
     ensures same { OnErr result (live.new ≡ live.old) }
     ensures closed { IsClosed live.new }
+    ensures objects { live.new.objects ≡ live.old.objects }
+    ensures cells { live.new.cells ≡ live.old.cells }
+    ensures outputs { live.new.outputs ≡ live.old.outputs }
+    ensures stays { OnOk result (StaysInMemory live.old live.new) }
+    ensures stands { OnOk result (StandsFor live.old live.new) }
+    ensures readless { IfErr result IsReadless }
 {
     law_fits();
     calls_find_rows();

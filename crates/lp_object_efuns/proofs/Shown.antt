@@ -58,10 +58,14 @@ told_program told programs live w o callee (Some f) v h a p = by (is_private f.f
     by false None a p = absurd a
     by false (Some c) a p = ap (λ t. GivesValue (values.Str t)) (callee_path told programs live w c o f p.0 h a p.1) ∙ ap GivesValue (sym p.2)
 
--- a text that is not of ASCII is the name of no function
-pub nothing_named : (told : Option Bytes) (programs : List RawProgram) (live : Live) (w : World) (o : ObjId) (name : List ℕ) → IsWorldOf told programs live w → (IsAscii name → ⊥) → function_program w o (function_of w o name) ≡ GivesValue (values.Int (pos 0))
-nothing_named told programs live w o name h foreign = by (function_of w o name) refl
+-- a text that is not of ASCII is the name of no function, ..
+pub nothing_found : (told : Option Bytes) (programs : List RawProgram) (live : Live) (w : World) (o : ObjId) (name : List ℕ) → IsWorldOf told programs live w → (IsAscii name → ⊥) → function_of w o name ≡ None
+nothing_found told programs live w o name h foreign = by (function_of w o name) refl
   where
-    by : (x : Option Found) → function_of w o name ≡ x → function_program w o x ≡ GivesValue (values.Int (pos 0))
+    by : (x : Option Found) → function_of w o name ≡ x → x ≡ None
     by None e = refl
     by (Some f) e = absurd (foreign (names_are_spelled programs w.versions (object_at w o).version name f h.compiled (ap (λ z. resolve z name) (sym (heritage_same w (object_at w o).version)) ∙ e)))
+
+-- .. and stands in no program
+pub nothing_named : (told : Option Bytes) (programs : List RawProgram) (live : Live) (w : World) (o : ObjId) (name : List ℕ) → IsWorldOf told programs live w → (IsAscii name → ⊥) → function_program w o (function_of w o name) ≡ GivesValue (values.Int (pos 0))
+nothing_named told programs live w o name h foreign = ap (function_program w o) (nothing_found told programs live w o name h foreign)

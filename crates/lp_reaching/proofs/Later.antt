@@ -67,21 +67,27 @@ number_same : (t : Heritage) → number_of (timeless_tree t) ≡ number_of t
 number_same (Heir n v ps) = refl
 
 -- a part that differs in clocks alone
-record SamePart (o : Option Part) (p : Part) : Type 0 where
-  part : Part
-  is : o ≡ Some part
-  same : timeless_part p ≡ timeless_part part
+pub record SamePart (o : Option Part) (p : Part) : Type 0 where
+  pub part : Part
+  pub is : o ≡ Some part
+  pub same : timeless_part p ≡ timeless_part part
 
 same_part : (o : Option Part) (p : Part) → Some (timeless_part p) ≡ option_map timeless_part o → SamePart o p
 same_part None p e = absurd cc
 same_part (Some q) p e = record { part = q; is = refl; same = ap (λ z. unwrap_or z (timeless_part p)) e }
 
+-- so is each part in a later world
+pub part_kept : (w u : World) (o : ObjId) (x : Object) (n : ℕ) (p : Part) → Keeps w u → AreRising w.versions → slice_get w.objects o.0 ≡ Some x → x.version.0 < length w.versions
+    → part_at (heritage_of w o) n ≡ Some p → SamePart (part_at (heritage_of u o) n) p
+part_kept w u o x n p h r e l at =
+    let both : option_map timeless_part (part_at (heritage_of w o) n) ≡ option_map timeless_part (part_at (heritage_of u o) n)
+    = sym (part_same (heritage_of w o) n) ∙ ap (λ t. part_at t n) (kept_tree w u o x h r e l) ∙ part_same (heritage_of u o) n in
+    same_part (part_at (heritage_of u o) n) p (ap (option_map timeless_part) (sym at) ∙ both)
+
 pub part_later : (w u : World) (o : ObjId) (x : Object) (n : ℕ) (p : Part) → Keeps w u → AreRising w.versions → slice_get w.objects o.0 ≡ Some x → x.version.0 < length w.versions
     → part_at (heritage_of w o) n ≡ Some p → (q : Part) × (part_at (heritage_of u o) n ≡ Some q) × (number_of q.tree ≡ number_of p.tree)
 part_later w u o x n p h r e l at =
-    let both : option_map timeless_part (part_at (heritage_of w o) n) ≡ option_map timeless_part (part_at (heritage_of u o) n)
-    = sym (part_same (heritage_of w o) n) ∙ ap (λ t. part_at t n) (kept_tree w u o x h r e l) ∙ part_same (heritage_of u o) n in
-    let s = same_part (part_at (heritage_of u o) n) p (ap (option_map timeless_part) (sym at) ∙ both) in
+    let s = part_kept w u o x n p h r e l at in
     (s.part, s.is, sym (number_same s.part.tree) ∙ ap (λ (z : Part). number_of z.tree) (sym s.same) ∙ number_same p.tree)
 
 -- Callers

@@ -8,5 +8,6 @@ pub mod Ends
 pub mod Going
 pub mod Starts
 pub mod Starting
+pub mod Left
 pub mod StartSteps
 pub mod StartEnds

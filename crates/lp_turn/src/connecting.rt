@@ -5,6 +5,7 @@ ghost use Rattle.lp_meaning.specs.EventTurns.{admitted};
 ghost use Rattle.lp_meaning.specs.Limits.{max_connections};
 ghost use Rattle.lp_turn.specs.Connections.{HasClosed, HasGiven, HasNumbered, IsFreeObject, IsFreeOf, closed_then_done};
 ghost use Rattle.lp_turn.specs.Going.{AreStepValuesThere, BeginsWith, Goes};
+ghost use Rattle.lp_turn.specs.Left.{AsksFewer};
 ghost use Rattle.lp_world.specs.Closed.{IsClosed};
 ghost use Rattle.lp_world.specs.Rows.{live_in};
 
@@ -82,6 +83,7 @@ fn log_on(live: &mut Live, number: u32, o: ObjId) -> Result<Step, AllocError>
     requires closed { IsClosed live.old }
     requires live { live_in live.old.objects o ≡ true }
     ensures begins { IfOk result (λ r. BeginsWith (admitted number (Some o)) live.old live.new r) }
+    ensures fewer { IfOk result (λ r. AsksFewer r 1) }
     ensures there { IfOk result (λ r. (cells : Store) → AreStepValuesThere cells r) }
     ensures closed { IsClosed live.new }
 {
@@ -101,6 +103,7 @@ fn log_on(live: &mut Live, number: u32, o: ObjId) -> Result<Step, AllocError>
 fn refuse(live: &mut Live, number: u32) -> Result<Step, AllocError>
     requires closed { IsClosed live.old }
     ensures begins { IfOk result (λ r. BeginsWith (admitted number None) live.old live.new r) }
+    ensures fewer { IfOk result (λ r. AsksFewer r 1) }
     ensures there { IfOk result (λ r. (cells : Store) → AreStepValuesThere cells r) }
     ensures closed { IsClosed live.new }
 {
@@ -112,6 +115,7 @@ fn refuse(live: &mut Live, number: u32) -> Result<Step, AllocError>
 pub(crate) fn admit(live: &mut Live, number: u32, v: &Value) -> Result<Step, AllocError>
     requires closed { IsClosed live.old }
     ensures goes { IfOk result (λ r. Goes r (Going.Admit number v.now) live.old live.new) }
+    ensures fewer { IfOk result (λ r. AsksFewer r 1) }
     ensures there { IfOk result (λ r. (cells : Store) → AreStepValuesThere cells r) }
     ensures closed { IsClosed live.new }
 {
@@ -125,6 +129,7 @@ pub(crate) fn admit(live: &mut Live, number: u32, v: &Value) -> Result<Step, All
 fn close_and_end(live: &mut Live, number: u32) -> Result<Step, AllocError>
     requires closed { IsClosed live.old }
     ensures begins { IfOk result (λ r. BeginsWith (closed_then_done number) live.old live.new r) }
+    ensures fewer { IfOk result (λ r. AsksFewer r 0) }
     ensures there { IfOk result (λ r. (cells : Store) → AreStepValuesThere cells r) }
     ensures closed { IsClosed live.new }
 {
@@ -137,6 +142,7 @@ fn close_and_end(live: &mut Live, number: u32) -> Result<Step, AllocError>
 pub(crate) fn logged(live: &mut Live, number: u32, v: &Value) -> Result<Step, AllocError>
     requires closed { IsClosed live.old }
     ensures goes { IfOk result (λ r. Goes r (Going.Logged number v.now) live.old live.new) }
+    ensures fewer { IfOk result (λ r. AsksFewer r 0) }
     ensures there { IfOk result (λ r. (cells : Store) → AreStepValuesThere cells r) }
     ensures closed { IsClosed live.new }
 {

@@ -1,9 +1,10 @@
 //! Turns are told how their calls ended.
-ghost use Rattle.std.specs.Prelude.{◌≡◌, IfOk};
+ghost use Rattle.std.specs.Prelude.{◌≡◌, ◌≤◌, IfOk};
 ghost use Rattle.lp_language.specs.Course.{State};
 ghost use Rattle.lp_meaning.specs.EventTurns.{Done};
 ghost use Rattle.lp_targets.specs.Brought.{Brings};
 ghost use Rattle.lp_turn.specs.Going.{Takes};
+ghost use Rattle.lp_turn.specs.Left.{calls_after, calls_behind, calls_left};
 ghost use Rattle.lp_turn.specs.Turns.{behind, going_course};
 ghost use Rattle.lp_world.specs.Closed.{IsClosed};
 
@@ -17,7 +18,8 @@ use lp_world::live::Live;
 
 /// Where a turn goes on behind the value of a function of the master.
 fn behind(f: MasterFunction, v: Value) -> Going
-    ensures { (d : Done) (s : State) → d.value ≡ v → behind f d s ≡ going_course result s }
+    ensures course { (d : Done) (s : State) → d.value ≡ v → behind f d s ≡ going_course result s }
+    ensures fewer { calls_left result ≤ calls_after f }
 {
     match f {
         MasterFunction::Connect(number) => Going::Admit(number, v),
@@ -34,6 +36,7 @@ fn take_load<W: SwapFile>(
 ) -> Result<Going, EnterFault>
     requires closed { IsClosed live.old }
     ensures takes { W.is_truthful swap.new → IfOk result (λ g. Takes (Waiting.Load f) end (W.content swap.old) live.old (W.content swap.new) live.new g) }
+    ensures fewer { IfOk result (λ g. calls_left g ≤ calls_behind (Waiting.Load f)) }
     ensures brings { Brings (W.content swap.old) (W.content swap.new) (W.last swap.new) (W.read_faults swap.old) (W.read_faults swap.new) (W.write_faults swap.old) (W.write_faults swap.new)
         (W.is_truthful swap.old) (W.is_truthful swap.new) (W.is_honest swap.old) (W.is_honest swap.new) live.old (record live.new { outputs = live.old.outputs }) result }
     ensures closed { IsClosed live.new }
@@ -53,6 +56,7 @@ fn take_master<W: SwapFile>(
 ) -> Result<Going, EnterFault>
     requires closed { IsClosed live.old }
     ensures takes { W.is_truthful swap.new → IfOk result (λ g. Takes (Waiting.Master f) end (W.content swap.old) live.old (W.content swap.new) live.new g) }
+    ensures fewer { IfOk result (λ g. calls_left g ≤ calls_behind (Waiting.Master f)) }
     ensures brings { Brings (W.content swap.old) (W.content swap.new) (W.last swap.new) (W.read_faults swap.old) (W.read_faults swap.new) (W.write_faults swap.old) (W.write_faults swap.new)
         (W.is_truthful swap.old) (W.is_truthful swap.new) (W.is_honest swap.old) (W.is_honest swap.new) live.old (record live.new { outputs = live.old.outputs }) result }
     ensures closed { IsClosed live.new }
@@ -73,6 +77,7 @@ fn take_logon<W: SwapFile>(
 ) -> Result<Going, EnterFault>
     requires closed { IsClosed live.old }
     ensures takes { W.is_truthful swap.new → IfOk result (λ g. Takes (Waiting.Logon number o) end (W.content swap.old) live.old (W.content swap.new) live.new g) }
+    ensures fewer { IfOk result (λ g. calls_left g ≤ calls_behind (Waiting.Logon number o)) }
     ensures brings { Brings (W.content swap.old) (W.content swap.new) (W.last swap.new) (W.read_faults swap.old) (W.read_faults swap.new) (W.write_faults swap.old) (W.write_faults swap.new)
         (W.is_truthful swap.old) (W.is_truthful swap.new) (W.is_honest swap.old) (W.is_honest swap.new) live.old (record live.new { outputs = live.old.outputs }) result }
     ensures closed { IsClosed live.new }
@@ -92,6 +97,7 @@ fn take_line<W: SwapFile>(
 ) -> Result<Going, EnterFault>
     requires closed { IsClosed live.old }
     ensures takes { W.is_truthful swap.new → IfOk result (λ g. Takes (Waiting.Line o) end (W.content swap.old) live.old (W.content swap.new) live.new g) }
+    ensures fewer { IfOk result (λ g. calls_left g ≤ calls_behind (Waiting.Line o)) }
     ensures brings { Brings (W.content swap.old) (W.content swap.new) (W.last swap.new) (W.read_faults swap.old) (W.read_faults swap.new) (W.write_faults swap.old) (W.write_faults swap.new)
         (W.is_truthful swap.old) (W.is_truthful swap.new) (W.is_honest swap.old) (W.is_honest swap.new) live.old (record live.new { outputs = live.old.outputs }) result }
     ensures closed { IsClosed live.new }
@@ -116,6 +122,7 @@ pub fn feed<W: SwapFile>(
 ) -> Result<Going, EnterFault>
     requires closed { IsClosed live.old }
     ensures takes { W.is_truthful swap.new → IfOk result (λ g. Takes waiting end (W.content swap.old) live.old (W.content swap.new) live.new g) }
+    ensures fewer { IfOk result (λ g. calls_left g ≤ calls_behind waiting) }
     ensures brings { Brings (W.content swap.old) (W.content swap.new) (W.last swap.new) (W.read_faults swap.old) (W.read_faults swap.new) (W.write_faults swap.old) (W.write_faults swap.new)
         (W.is_truthful swap.old) (W.is_truthful swap.new) (W.is_honest swap.old) (W.is_honest swap.new) live.old (record live.new { outputs = live.old.outputs }) result }
     ensures closed { IsClosed live.new }

@@ -1,7 +1,8 @@
 //! Functions of the master.
-ghost use Rattle.std.specs.Prelude.{◌≡◌, IfOk};
+ghost use Rattle.std.specs.Prelude.{◌≡◌, ◌+◌, IfOk};
 ghost use Rattle.lp_cells.specs.Cells.{Store};
 ghost use Rattle.lp_turn.specs.Going.{AreStepValuesThere, BeginsWith, Goes};
+ghost use Rattle.lp_turn.specs.Left.{AsksFewer, calls_after, calls_left};
 ghost use Rattle.lp_turn.specs.Masters.{Applies, IsMasterOf, Loads, without_master};
 ghost use Rattle.lp_turn.specs.Turns.{arguments_of, name_of};
 ghost use Rattle.lp_world.specs.Closed.{IsClosed};
@@ -55,6 +56,7 @@ fn arguments_of(alloc: Global, f: MasterFunction) -> Result<Vec<Value>, AllocErr
 /// A function of the master is called.
 fn apply(alloc: Global, m: ObjId, f: MasterFunction) -> Result<Step, AllocError>
     ensures applies { IfOk result (λ r. Applies m f r) }
+    ensures fewer { IfOk result (λ r. AsksFewer r (1 + calls_after f)) }
     ensures there { IfOk result (λ r. (cells : Store) → AreStepValuesThere cells r) }
 {
     let name = name_of(alloc, f)?;
@@ -72,6 +74,7 @@ fn apply(alloc: Global, m: ObjId, f: MasterFunction) -> Result<Step, AllocError>
 /// The master is loaded, for a function of it.
 fn load(alloc: Global, f: MasterFunction) -> Result<Step, AllocError>
     ensures loads { IfOk result (λ r. Loads f r) }
+    ensures fewer { IfOk result (λ r. AsksFewer r (2 + calls_after f)) }
     ensures there { IfOk result (λ r. (cells : Store) → AreStepValuesThere cells r) }
 {
     let name = Text::from_str(alloc, "/secure/master")?;
@@ -88,6 +91,7 @@ fn load(alloc: Global, f: MasterFunction) -> Result<Step, AllocError>
 /// A function of the master is called; the master is loaded first where it does not live.
 pub(crate) fn call_master(live: &Live, f: MasterFunction) -> Result<Step, AllocError>
     ensures goes { IfOk result (λ r. Goes r (Going.Master f) live.now live.now) }
+    ensures fewer { IfOk result (λ r. AsksFewer r (calls_left (Going.Master f))) }
     ensures there { IfOk result (λ r. AreStepValuesThere live.now.cells r) }
 {
     match master(&live.names) {
@@ -100,6 +104,7 @@ pub(crate) fn call_master(live: &Live, f: MasterFunction) -> Result<Step, AllocE
 fn unanswered(live: &mut Live, f: MasterFunction) -> Result<Step, AllocError>
     requires closed { IsClosed live.old }
     ensures begins { IfOk result (λ r. BeginsWith (without_master f) live.old live.new r) }
+    ensures fewer { IfOk result (λ r. AsksFewer r (1 + calls_after f)) }
     ensures there { IfOk result (λ r. (cells : Store) → AreStepValuesThere cells r) }
     ensures closed { IsClosed live.new }
 {
@@ -113,6 +118,7 @@ fn unanswered(live: &mut Live, f: MasterFunction) -> Result<Step, AllocError>
 pub(crate) fn call_loaded(live: &mut Live, f: MasterFunction) -> Result<Step, AllocError>
     requires closed { IsClosed live.old }
     ensures goes { IfOk result (λ r. Goes r (Going.Loaded f) live.old live.new) }
+    ensures fewer { IfOk result (λ r. AsksFewer r (calls_left (Going.Loaded f))) }
     ensures there { IfOk result (λ r. AreStepValuesThere live.new.cells r) }
     ensures closed { IsClosed live.new }
 {

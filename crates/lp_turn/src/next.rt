@@ -1,6 +1,7 @@
 //! What turns do next.
 ghost use Rattle.std.specs.Prelude.{IfOk};
 ghost use Rattle.lp_turn.specs.Going.{AreStepValuesThere, Goes};
+ghost use Rattle.lp_turn.specs.Left.{AsksFewer, calls_left};
 ghost use Rattle.lp_world.specs.Closed.{IsClosed};
 
 use crate::connecting::{admit, logged};
@@ -16,6 +17,7 @@ use std::alloc::AllocError;
 pub fn next(going: Going, live: &mut Live) -> Result<Step, AllocError>
     requires closed { IsClosed live.old }
     ensures goes { IfOk result (λ r. Goes r going live.old live.new) }
+    ensures fewer { IfOk result (λ r. AsksFewer r (calls_left going)) }
     ensures there { IfOk result (λ r. AreStepValuesThere live.new.cells r) }
     ensures closed { IsClosed live.new }
 {

@@ -11,6 +11,7 @@ ghost use Rattle.lp_objects.specs.Objects.{Named};
 ghost use Rattle.lp_objects.specs.Stands.{Stands as Names, known_at};
 ghost use Rattle.lp_targets.specs.Brought.{Brings};
 ghost use Rattle.lp_turn.specs.Calls.{IsCallEndThere};
+ghost use Rattle.lp_turn.specs.Left.{LeavesNoMore};
 ghost use Rattle.lp_turn.specs.StartEnds.{AreFaultsFor, TakesMade, WasMade, is_master_name};
 ghost use Rattle.lp_turn.specs.Starting.{IsStartThere, StartTakes};
 ghost use Rattle.lp_turn.specs.Starts.{start_behind, start_going};
@@ -109,6 +110,7 @@ fn take_made<W: SwapFile>(
 ) -> Result<StartGoing, EnterFault>
     requires closed { IsClosed live.old }
     ensures takes { W.is_truthful swap.new → IfOk result (λ g. TakesMade end (W.content swap.old) live.old (W.content swap.new) live.new g) }
+    ensures no_more { IfOk result (λ g. LeavesNoMore g StartWaiting.First) }
     ensures there { IfOk result (λ g. (cells : Store) → IsCallEndThere cells end → IsStartThere cells g) }
     ensures brings { Brings (W.content swap.old) (W.content swap.new) (W.last swap.new) (W.read_faults swap.old) (W.read_faults swap.new) (W.write_faults swap.old) (W.write_faults swap.new)
         (W.is_truthful swap.old) (W.is_truthful swap.new) (W.is_honest swap.old) (W.is_honest swap.new) live.old (record live.new { outputs = live.old.outputs }) result }
@@ -129,6 +131,7 @@ fn no_master<W: SwapFile>(
     requires closed { IsClosed live.old }
     requires made { WasMade live.old.names false }
     ensures takes { W.is_truthful swap.new → IfOk result (λ g. StartTakes StartWaiting.First end (W.content swap.old) live.old (W.content swap.new) live.new g) }
+    ensures no_more { IfOk result (λ g. LeavesNoMore g StartWaiting.First) }
     ensures there { IfOk result (λ g. (cells : Store) → IsCallEndThere cells end → IsStartThere cells g) }
     ensures brings { Brings (W.content swap.old) (W.content swap.new) (W.last swap.new) (W.read_faults swap.old) (W.read_faults swap.new) (W.write_faults swap.old) (W.write_faults swap.new)
         (W.is_truthful swap.old) (W.is_truthful swap.new) (W.is_honest swap.old) (W.is_honest swap.new) live.old (record live.new { outputs = live.old.outputs }) result }
@@ -148,6 +151,7 @@ fn take_first<W: SwapFile>(
 ) -> Result<StartGoing, EnterFault>
     requires closed { IsClosed live.old }
     ensures takes { W.is_truthful swap.new → IfOk result (λ g. StartTakes StartWaiting.First end (W.content swap.old) live.old (W.content swap.new) live.new g) }
+    ensures no_more { IfOk result (λ g. LeavesNoMore g StartWaiting.First) }
     ensures there { IfOk result (λ g. (cells : Store) → IsCallEndThere cells end → IsStartThere cells g) }
     ensures brings { Brings (W.content swap.old) (W.content swap.new) (W.last swap.new) (W.read_faults swap.old) (W.read_faults swap.new) (W.write_faults swap.old) (W.write_faults swap.new)
         (W.is_truthful swap.old) (W.is_truthful swap.new) (W.is_honest swap.old) (W.is_honest swap.new) live.old (record live.new { outputs = live.old.outputs }) result }
@@ -165,6 +169,7 @@ fn take_first<W: SwapFile>(
 /// Where the start goes on behind the value of a function of the master.
 fn behind(f: StartFunction, v: Value) -> StartGoing
     ensures course { (d : Done) (s : State) → d.value ≡ v → start_behind f d s ≡ start_going result s }
+    ensures no_more { LeavesNoMore result (StartWaiting.Master f) }
     ensures there { (cells : Store) → IsThere cells v → IsStartThere cells result }
 {
     match f {
@@ -184,6 +189,7 @@ fn take_load<W: SwapFile>(
 ) -> Result<StartGoing, EnterFault>
     requires closed { IsClosed live.old }
     ensures takes { W.is_truthful swap.new → IfOk result (λ g. StartTakes (StartWaiting.Load f) end (W.content swap.old) live.old (W.content swap.new) live.new g) }
+    ensures no_more { IfOk result (λ g. LeavesNoMore g (StartWaiting.Load f)) }
     ensures there { IfOk result (λ g. (cells : Store) → IsCallEndThere cells end → IsStartThere cells g) }
     ensures brings { Brings (W.content swap.old) (W.content swap.new) (W.last swap.new) (W.read_faults swap.old) (W.read_faults swap.new) (W.write_faults swap.old) (W.write_faults swap.new)
         (W.is_truthful swap.old) (W.is_truthful swap.new) (W.is_honest swap.old) (W.is_honest swap.new) live.old (record live.new { outputs = live.old.outputs }) result }
@@ -204,6 +210,7 @@ fn take_master<W: SwapFile>(
 ) -> Result<StartGoing, EnterFault>
     requires closed { IsClosed live.old }
     ensures takes { W.is_truthful swap.new → IfOk result (λ g. StartTakes (StartWaiting.Master f) end (W.content swap.old) live.old (W.content swap.new) live.new g) }
+    ensures no_more { IfOk result (λ g. LeavesNoMore g (StartWaiting.Master f)) }
     ensures there { IfOk result (λ g. (cells : Store) → IsCallEndThere cells end → IsStartThere cells g) }
     ensures brings { Brings (W.content swap.old) (W.content swap.new) (W.last swap.new) (W.read_faults swap.old) (W.read_faults swap.new) (W.write_faults swap.old) (W.write_faults swap.new)
         (W.is_truthful swap.old) (W.is_truthful swap.new) (W.is_honest swap.old) (W.is_honest swap.new) live.old (record live.new { outputs = live.old.outputs }) result }
@@ -224,6 +231,7 @@ fn take_simul<W: SwapFile>(
 ) -> Result<StartGoing, EnterFault>
     requires closed { IsClosed live.old }
     ensures takes { W.is_truthful swap.new → IfOk result (λ g. StartTakes (StartWaiting.Simul name.now) end (W.content swap.old) live.old (W.content swap.new) live.new g) }
+    ensures no_more { IfOk result (λ g. LeavesNoMore g (StartWaiting.Simul name.now)) }
     ensures there { IfOk result (λ g. (cells : Store) → IsCallEndThere cells end → IsStartThere cells g) }
     ensures brings { Brings (W.content swap.old) (W.content swap.new) (W.last swap.new) (W.read_faults swap.old) (W.read_faults swap.new) (W.write_faults swap.old) (W.write_faults swap.new)
         (W.is_truthful swap.old) (W.is_truthful swap.new) (W.is_honest swap.old) (W.is_honest swap.new) live.old (record live.new { outputs = live.old.outputs }) result }
@@ -249,6 +257,7 @@ pub fn take_end<W: SwapFile>(
 ) -> Result<StartGoing, EnterFault>
     requires closed { IsClosed live.old }
     ensures takes { W.is_truthful swap.new → IfOk result (λ g. StartTakes waiting end (W.content swap.old) live.old (W.content swap.new) live.new g) }
+    ensures no_more { IfOk result (λ g. LeavesNoMore g waiting) }
     ensures there { IfOk result (λ g. (cells : Store) → IsCallEndThere cells end → IsStartThere cells g) }
     ensures brings { Brings (W.content swap.old) (W.content swap.new) (W.last swap.new) (W.read_faults swap.old) (W.read_faults swap.new) (W.write_faults swap.old) (W.write_faults swap.new)
         (W.is_truthful swap.old) (W.is_truthful swap.new) (W.is_honest swap.old) (W.is_honest swap.new) live.old (record live.new { outputs = live.old.outputs }) result }

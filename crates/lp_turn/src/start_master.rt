@@ -1,7 +1,8 @@
 //! Functions of the master at the start.
-ghost use Rattle.std.specs.Prelude.{◌≡◌, ◌∷◌, [], IfOk};
+ghost use Rattle.std.specs.Prelude.{◌≡◌, ◌+◌, ◌*◌, ◌∷◌, [], IfOk, length};
 ghost use Rattle.lp_cells.specs.Cells.{Store};
 ghost use Rattle.lp_values.specs.declared.value.Value.{Value as V};
+ghost use Rattle.lp_turn.specs.Left.{AsksLess, stages_called, stages_loaded, texts_loaded};
 ghost use Rattle.lp_turn.specs.StartSteps.{StartApplies, StartLoads};
 ghost use Rattle.lp_turn.specs.Starting.{AreStartValuesThere, StartGoes};
 ghost use Rattle.lp_turn.specs.Starts.{start_arguments, start_name};
@@ -59,6 +60,7 @@ fn arguments_of(alloc: Global, f: &StartFunction) -> Result<Vec<Value>, AllocErr
 /// A function of the master is called.
 pub(crate) fn apply(alloc: Global, m: ObjId, f: StartFunction) -> Result<StartStep, AllocError>
     ensures applies { IfOk result (λ r. StartApplies m f r) }
+    ensures less { IfOk result (λ r. AsksLess r (stages_loaded f) (texts_loaded f)) }
     ensures there { IfOk result (λ r. (cells : Store) → AreStartValuesThere cells r) }
 {
     let name = name_of(alloc, &f)?;
@@ -76,6 +78,7 @@ pub(crate) fn apply(alloc: Global, m: ObjId, f: StartFunction) -> Result<StartSt
 /// The master is loaded, for a function of it.
 fn load(alloc: Global, f: StartFunction) -> Result<StartStep, AllocError>
     ensures loads { IfOk result (λ r. StartLoads f r) }
+    ensures less { IfOk result (λ r. AsksLess r (stages_called f) (texts_loaded f + 1)) }
     ensures there { IfOk result (λ r. (cells : Store) → AreStartValuesThere cells r) }
 {
     let name = Text::from_str(alloc, "/secure/master")?;
@@ -92,6 +95,7 @@ fn load(alloc: Global, f: StartFunction) -> Result<StartStep, AllocError>
 /// A function of the master is called; the master is loaded first where it does not live.
 pub(crate) fn call_master(live: &Live, f: StartFunction) -> Result<StartStep, AllocError>
     ensures goes { IfOk result (λ r. StartGoes r (StartGoing.Master f) live.now live.now) }
+    ensures less { IfOk result (λ r. AsksLess r (stages_called f) (texts_loaded f + 1)) }
     ensures there { IfOk result (λ r. (cells : Store) → AreStartValuesThere cells r) }
 {
     match master(&live.names) {
@@ -103,6 +107,7 @@ pub(crate) fn call_master(live: &Live, f: StartFunction) -> Result<StartStep, Al
 /// The texts that are left are preloaded, or the driver has started.
 pub(crate) fn preload(live: &Live, mut texts: Texts) -> Result<StartStep, AllocError>
     ensures goes { IfOk result (λ r. StartGoes r (StartGoing.Preloading texts) live.now live.now) }
+    ensures less { IfOk result (λ r. AsksLess r 0 (2 * length texts + 1)) }
     ensures there { IfOk result (λ r. (cells : Store) → AreStartValuesThere cells r) }
 {
     match texts.next() {

@@ -5,6 +5,7 @@ ghost use Rattle.std.specs.Str.{chars};
 ghost use Rattle.std.specs.String.{string_bytes};
 ghost use Rattle.lp_cells.specs.Cells.{IsThere, Store};
 ghost use Rattle.lp_meaning.specs.EventTurns.{items_in, simul_answered, simul_set, starting, text_in};
+ghost use Rattle.lp_turn.specs.Left.{AsksLess, stages_left, stages_loaded, texts_left, texts_loaded};
 ghost use Rattle.lp_turn.specs.StartSteps.{HasSimul, LoadsSimul, loading_simul, start_without, untargeted};
 ghost use Rattle.lp_turn.specs.Starting.{AreStartValuesThere, IsStartThere, StartGoes, StartsWith};
 ghost use Rattle.lp_turn.specs.Starts.{texts_of};
@@ -31,6 +32,7 @@ use std::mem;
 /// Where memory runs out.
 pub fn start(live: &Live) -> Result<StartStep, AllocError>
     ensures begins { IfOk result (λ r. StartsWith starting live.now live.now r) }
+    ensures less { IfOk result (λ r. AsksLess r 9 0) }
     ensures there { IfOk result (λ r. (cells : Store) → AreStartValuesThere cells r) }
 {
     let name = Text::from_str(live.alloc, "/secure/master")?;
@@ -59,6 +61,7 @@ fn note_simul(live: &mut Live, name: Text)
 fn no_target(live: &mut Live) -> Result<StartStep, AllocError>
     requires closed { IsClosed live.old }
     ensures begins { IfOk result (λ r. StartsWith untargeted live.old live.new r) }
+    ensures less { IfOk result (λ r. AsksLess r 4 0) }
     ensures there { IfOk result (λ r. (cells : Store) → AreStartValuesThere cells r) }
     ensures closed { IsClosed live.new }
 {
@@ -71,6 +74,7 @@ fn no_target(live: &mut Live) -> Result<StartStep, AllocError>
 fn ask_simul(alloc: Global, name: &[char], text: String) -> Result<StartStep, AllocError>
     requires text { name.now ≡ chars (string_bytes text) }
     ensures loads { IfOk result (λ r. LoadsSimul name.now r) }
+    ensures less { IfOk result (λ r. AsksLess r 4 0) }
     ensures there { IfOk result (λ r. (cells : Store) → AreStartValuesThere cells r) }
 {
     let wanted = Text::from_slice(alloc, name)?;
@@ -89,6 +93,7 @@ fn ask_simul(alloc: Global, name: &[char], text: String) -> Result<StartStep, Al
 fn load_simul(live: &mut Live, name: &[char]) -> Result<StartStep, AllocError>
     requires closed { IsClosed live.old }
     ensures begins { IfOk result (λ r. StartsWith (loading_simul name.now) live.old live.new r) }
+    ensures less { IfOk result (λ r. AsksLess r 4 0) }
     ensures there { IfOk result (λ r. (cells : Store) → AreStartValuesThere cells r) }
     ensures closed { IsClosed live.new }
 {
@@ -107,6 +112,7 @@ fn load_simul(live: &mut Live, name: &[char]) -> Result<StartStep, AllocError>
 fn set_simul(live: &mut Live, name: &[char]) -> Result<StartStep, AllocError>
     requires closed { IsClosed live.old }
     ensures begins { IfOk result (λ r. StartsWith (simul_set name.now) live.old live.new r) }
+    ensures less { IfOk result (λ r. AsksLess r 4 0) }
     ensures there { IfOk result (λ r. (cells : Store) → AreStartValuesThere cells r) }
     ensures closed { IsClosed live.new }
 {
@@ -121,6 +127,7 @@ fn set_simul(live: &mut Live, name: &[char]) -> Result<StartStep, AllocError>
 fn name_simul(live: &mut Live, t: &Text) -> Result<StartStep, AllocError>
     requires closed { IsClosed live.old }
     ensures begins { IfOk result (λ r. StartsWith (simul_answered (Some t.now)) live.old live.new r) }
+    ensures less { IfOk result (λ r. AsksLess r 4 0) }
     ensures there { IfOk result (λ r. (cells : Store) → AreStartValuesThere cells r) }
     ensures closed { IsClosed live.new }
 {
@@ -144,6 +151,7 @@ fn text_in(v: &Value) -> Option<&Text>
 fn answered(live: &mut Live, v: &Value) -> Result<StartStep, AllocError>
     requires closed { IsClosed live.old }
     ensures goes { IfOk result (λ r. StartGoes r (StartGoing.Answered v.now) live.old live.new) }
+    ensures less { IfOk result (λ r. AsksLess r 4 0) }
     ensures there { IfOk result (λ r. (cells : Store) → AreStartValuesThere cells r) }
     ensures closed { IsClosed live.new }
 {
@@ -203,6 +211,7 @@ fn texts_among(alloc: Global, values: &[Value]) -> Result<Texts, AllocError>
 fn listed(live: &Live, v: &Value) -> Result<StartStep, AllocError>
     requires there { IsThere live.now.cells v.now }
     ensures goes { IfOk result (λ r. StartGoes r (StartGoing.Listed v.now) live.now live.now) }
+    ensures less { IfOk result (λ r. AsksLess r 1 0) }
     ensures there { IfOk result (λ r. (cells : Store) → AreStartValuesThere cells r) }
 {
     let texts = texts_among(live.alloc, items_of(&live.cells, v))?;
@@ -214,6 +223,7 @@ fn listed(live: &Live, v: &Value) -> Result<StartStep, AllocError>
 /// A function of the master has no answer, since there is none.
 fn unanswered(live: &Live, f: StartFunction) -> Result<StartStep, AllocError>
     ensures begins { IfOk result (λ r. StartsWith (start_without f) live.now live.now r) }
+    ensures less { IfOk result (λ r. AsksLess r (stages_loaded f) (texts_loaded f)) }
     ensures there { IfOk result (λ r. (cells : Store) → AreStartValuesThere cells r) }
 {
     match f {
@@ -227,6 +237,7 @@ fn unanswered(live: &Live, f: StartFunction) -> Result<StartStep, AllocError>
 /// A function of the master is called after its load; where it does not live then either, the answer is 0.
 fn call_loaded(live: &Live, f: StartFunction) -> Result<StartStep, AllocError>
     ensures goes { IfOk result (λ r. StartGoes r (StartGoing.Loaded f) live.now live.now) }
+    ensures less { IfOk result (λ r. AsksLess r (stages_loaded f) (texts_loaded f)) }
     ensures there { IfOk result (λ r. (cells : Store) → AreStartValuesThere cells r) }
 {
     match master(&live.names) {
@@ -243,6 +254,7 @@ pub fn go_on(going: StartGoing, live: &mut Live) -> Result<StartStep, AllocError
     requires closed { IsClosed live.old }
     requires there { IsStartThere live.old.cells going }
     ensures goes { IfOk result (λ r. StartGoes r going live.old live.new) }
+    ensures less { IfOk result (λ r. AsksLess r (stages_left going) (texts_left going)) }
     ensures there { IfOk result (λ r. (cells : Store) → AreStartValuesThere cells r) }
     ensures closed { IsClosed live.new }
 {

@@ -38,7 +38,7 @@ use Rattle.lp_vm.specs.Answering.{CanServe}
 use Rattle.lp_vm.specs.Cycle.{Answers, Finishes}
 use Rattle.lp_vm.specs.Going.{CanGo, IsGoing, Turned}
 use Rattle.lp_vm.specs.Laying.{HasText, Lays}
-use Rattle.lp_vm.specs.Requests.{IsRequest, IsRequestThere}
+use Rattle.lp_vm.specs.Requests.{IsRequest, IsRequestThere, place_in}
 use Rattle.lp_vm.specs.Turns.{Calls, CanHalt}
 use Rattle.lp_vm.proofs.Enterings.{can_run}
 use Rattle.lp_vm.proofs.Startings.{same_asker}
@@ -127,7 +127,7 @@ asks_function told0 told1 live0 live1 live2 stack0 stack1 frame0 frame1 budget0 
     }
 
 asks_at : (told : Option Bytes) (live0 live1 : Live) (stack0 stack1 : List Value) (frame0 frame1 : Frame) (budget0 budget1 args : ℕ) (e : Efun) (p : RawProgram) (k : ℕ) (row : FunRow) (f : IsFunction p k row) (a : Around) (m : Moment) (course : Course Value) (asker0 : Asker)
-    → IsGoing p k row f a m course told live0 stack0 frame0 asker0 budget0 → AtEfun f.shapes a m live1 stack1 frame1 budget1 args e → AsksSo (requests.Efun frame1.this e) args told live1 live1 stack1 frame1 asker0 budget1 f.shapes a m
+    → IsGoing p k row f a m course told live0 stack0 frame0 asker0 budget0 → AtEfun f.shapes a m live1 stack1 frame1 budget1 args e → AsksSo (requests.Efun (place_in frame1) e) args told live1 live1 stack1 frame1 asker0 budget1 f.shapes a m
 asks_at told live0 live1 stack0 stack1 frame0 frame1 budget0 budget1 args e p k row f a m course asker0 g d = record {
   waits = d.waits;
   is = (
@@ -138,14 +138,14 @@ asks_at told live0 live1 stack0 stack1 frame0 frame1 budget0 budget1 args e p k 
 
 -- an efun
 pub asks_back : (told : Option Bytes) (live0 live1 : Live) (stack0 stack1 : List Value) (frame0 frame1 : Frame) (budget0 budget1 : ℕ) (call : EfunCall) → Advances (halts.Back call) live0 stack0 frame0 budget0 live1 stack1 frame1 budget1
-    → Asking (requests.Efun frame1.this call.efun) call.args told live0 stack0 frame0 budget0 told live1 live1 stack1 frame1 budget1
+    → Asking (requests.Efun (place_in frame1) call.efun) call.args told live0 stack0 frame0 budget0 told live1 live1 stack1 frame1 budget1
 asks_back told live0 live1 stack0 stack1 frame0 frame1 budget0 budget1 call advances p k row f a m course asker0 g =
     asks_at told live0 live1 stack0 stack1 frame0 frame1 budget0 budget1 call.args call.efun p k row f a m course asker0 g (at_efun f.shapes a m live1 stack1 frame1 budget1 call (advances p k row f a m g.of g.runs))
 
 -- a function of another object, or a simul efun, through `call_other`
 pub asks_other : (told : Option Bytes) (live0 live1 : Live) (stack0 stack1 stack2 : List Value) (frame0 frame1 : Frame) (budget0 budget1 args : ℕ) (call : CallOf) → Advances (halts.Call call) live0 stack0 frame0 budget0 live1 stack1 frame1 budget1
     → question_of call.target ≡ None → Lays call.target frame1.code live1 call.args stack1 args stack2
-    → Asking (requests.Efun frame1.this efuns.CallOther) args told live0 stack0 frame0 budget0 told live1 live1 stack2 frame1 budget1
+    → Asking (requests.Efun (place_in frame1) efuns.CallOther) args told live0 stack0 frame0 budget0 told live1 live1 stack2 frame1 budget1
 asks_other told live0 live1 stack0 stack1 stack2 frame0 frame1 budget0 budget1 args call advances goes lays p k row f a m course asker0 g =
     asks_at told live0 live1 stack0 stack2 frame0 frame1 budget0 budget1 args efuns.CallOther p k row f a m course asker0 g
     (at_other f.shapes a m live1 stack1 stack2 frame1 budget1 args call (advances p k row f a m g.of g.runs) goes lays)

@@ -52,6 +52,7 @@ use Rattle.lp_asking.specs.Beginning.{HasCaller}
 use Rattle.lp_asking.specs.Endings.{IsPlaceIf, cause_of}
 use Rattle.lp_asking.proofs.Courses.{call_ends, entering_deep, entering_spent, over_ends, paid_one}
 use Rattle.lp_vm.specs.Answering.{Answered, Begins, IsAsked}
+use Rattle.lp_vm.proofs.Grown.{grows_same}
 
 -- Numbers
 
@@ -93,6 +94,8 @@ module _ (front : FrontEnd) (told : Option Bytes) (programs : List RawProgram) (
     end = Stops (here x) s;
     ends = subst (λ t. Ends front t (Stops (here x) s)) (sym (ap plainly e)) (over_ends front (Stops (here x) s));
     is = record {
+      programs = programs;
+      grown = grows_same programs;
       world = subst (IsWorldOf told programs live) (sym world) h.world;
       left = left;
       player = player ∙ h.by.player;

@@ -1,5 +1,5 @@
 -- What the device did, from one call to the next.
-use Rattle.std.proofs.Common.{◌≡◌, ◌∙◌, ℕ, List, Option, Result, Ok, Err, refl, ap, sym, subst}
+use Rattle.std.proofs.Common.{◌≡◌, ◌∙◌, ℕ, List, Option, Result, Ok, Err, refl, sym, subst}
 use Rattle.std.specs.Prelude.{IsErrAnd}
 use Rattle.lp_code.specs.declared.program.RawProgram.{RawProgram}
 use Rattle.lp_swapfile.specs.Counts.{Counts}
@@ -12,13 +12,11 @@ use Rattle.lp_residence.specs.declared.answers.EnterFault.{EnterFault}
 use Rattle.lp_residence.specs.declared.answers.EnterFault.TheVariants as enter_faults
 use Rattle.lp_residence.specs.declared.answers.SwapCause.TheVariants as swap_causes
 use Rattle.lp_targets.specs.Brought.{Brings}
-use Rattle.lp_calling.specs.declared.job.CallingFault.{CallingFault}
-use Rattle.lp_calling.specs.declared.job.CallingFault.TheVariants as calling_faults
 use Rattle.lp_vm.specs.declared.fault.VmFault.{VmFault}
 use Rattle.lp_vm.specs.Causes.{IsReadless, Tells, read_fault, read_of}
 use Rattle.lp_vm.specs.Making.{StandsForOne}
 use Rattle.lp_beginning.specs.Beginning.{BringsFirst}
-use Rattle.lp_vm.specs.Faults.{calling_fault, fault_of}
+use Rattle.lp_vm.specs.Faults.{fault_of}
 
 -- Nothing was read.
 pub tells_nothing : (told : Option Bytes) (last : Last) (reads writes : ℕ) (true0 honest0 : Type 0) (live : Live) → Tells told last reads reads writes writes true0 true0 honest0 honest0 live (Ok tt)
@@ -68,11 +66,6 @@ pub tells_fault : {A : Type 0} {told0 told1 : Option Bytes} {last : Last} {reads
 tells_fault {A = A} {told1 = told1} {last = last} {reads0 = reads0} {reads1 = reads1} {writes0 = writes0} {writes1 = writes1} {true0 = true0} {true1 = true1} {honest0 = honest0} {honest1 = honest1} {live1 = live1} {e = e} h programs w stands =
     subst (λ x. Tells told1 last reads0 reads1 writes0 writes1 true0 true1 honest0 honest1 live1 (Err x)) (fault_kept e)
     (record { cause = h.cause; faults = subst (λ b. Counts b reads0 reads1) (fault_same A e) h.faults; write_faults = h.write_faults; truthful = h.truthful; honest = λ z. ((h.honest z).0, λ t. (h.honest z).1 t programs w stands) })
-
--- a fault of an efun that calls LPC is none of a read
-pub calling_readless : (x : CallingFault) (e : VmFault) → e ≡ calling_fault x → IsReadless e
-calling_readless calling_faults.NoMemory e is = ap read_fault is
-calling_readless calling_faults.NotYet e is = ap read_fault is
 
 -- The same where the state changed after what was brought, ..
 pub tells_fault_first : {told0 told1 : Option Bytes} {last : Last} {reads0 reads1 writes0 writes1 : ℕ} {true0 true1 honest0 honest1 : Type 0} {live0 live1 : Live} (e : EnterFault)

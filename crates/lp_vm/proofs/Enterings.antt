@@ -31,7 +31,6 @@ use Rattle.lp_asking.specs.declared.ending.Ending.TheVariants as endings
 use Rattle.lp_asking.specs.declared.ending.Place.{Place}
 use Rattle.lp_reaching.specs.declared.reached.Reached.{Reached}
 use Rattle.lp_frames.specs.declared.entry.Callee.{Callee}
-use Rattle.lp_targets.specs.Callees.{IsWorldOf}
 use Rattle.lp_reaching.specs.Subjects.{Subject, calling_subject, part_of_subject, site_of_subject}
 use Rattle.lp_reaching.specs.Reaching.{IsInMemory, Reaches}
 use Rattle.lp_efuns.specs.Turns.{commands_of}
@@ -43,6 +42,7 @@ use Rattle.lp_vm.specs.Answering.{Begins, CanServe, Entered, IsAsked, IsCalled, 
 use Rattle.lp_vm.specs.Going.{CanGo, Continues, IsLater, IsOutcome, Went}
 use Rattle.lp_vm.proofs.Beginnings.{below_is}
 use Rattle.lp_vm.proofs.Carried.{as_many_there, name_stays, object_there, path_stays}
+use Rattle.lp_vm.proofs.Grown.{grows_same, grows_trans, outcome_grown, place_grown}
 
 -- The place of a stop
 
@@ -54,7 +54,7 @@ place_given programs w mine its (Some at) (Some x) p h = h
 
 -- an outcome whose stop has the function's place
 placed_outcome : (told : Option Bytes) (programs : List RawProgram) (before : List Out) (live : Live) (asker : Asker) (budget : ℕ) (e given : Ending) (mine : Place) (its : course.Place) (end : End Value)
-    → ((w : World) → IsWorldOf told programs live w → w ≡ (outcome_of (plain_end end)).world → IsPlace programs w mine its) → IsPlaced mine e given
+    → ((w : World) → w ≡ (outcome_of (plain_end end)).world → IsPlace programs w mine its) → IsPlaced mine e given
     → IsOutcome told programs before live asker budget e (outcome_of (plain_end end)) → IsOutcome told programs before live asker budget given (outcome_of (plain_end (placed_end its end)))
 placed_outcome told programs before live asker budget (endings.Value v) given mine its (Gives u s) place is h =
     subst (λ x. IsOutcome told programs before live asker budget x (outcome_of (plain_end (Gives u s)))) (sym is) h
@@ -63,17 +63,21 @@ placed_outcome told programs before live asker budget (endings.Stopped stop) giv
 placed_outcome told programs before live asker budget (endings.Stopped stop) given mine its (Stops x s) place is h =
     subst (λ z. IsOutcome told programs before live asker budget z (outcome_of (plain_end (Stops (placed_stop (Some its) x) s)))) (sym is)
     (record {
+      programs = h.programs;
+      grown = h.grown;
       world = h.world;
       left = h.left;
       player = h.player;
       commands = h.commands;
       outputs = h.outputs;
-      answer = record { cause = h.answer.cause; place = place_given programs s.world mine its stop.place x.place (place s.world h.world refl) h.answer.place };
+      answer = record { cause = h.answer.cause; place = place_given h.programs s.world mine its stop.place x.place (place_grown programs h.programs s.world mine its h.grown (place s.world refl)) h.answer.place };
     })
 
 other_asker : (told : Option Bytes) (programs : List RawProgram) (before : List Out) (live : Live) (asker0 asker1 : Asker) (budget : ℕ) (e : Ending) (o : course.Outcome) → asker1.turn ≡ asker0.turn
     → IsOutcome told programs before live asker0 budget e o → IsOutcome told programs before live asker1 budget e o
 other_asker told programs before live asker0 asker1 budget e o same h = record {
+  programs = h.programs;
+  grown = h.grown;
   world = h.world;
   left = h.left;
   player = h.player ∙ ap (λ t. t.player) (sym same);
@@ -122,7 +126,7 @@ entered_ran live0 live1 live2 stack0 stack1 stack2 stack3 frame asker0 asker1 as
       ends = ends;
       is = other_asker told1 programs live0.outputs live2 asker2 asker3 budget2 given (outcome_of (plain_end (placed_end its x.end))) turn
           (placed_outcome told1 programs live0.outputs live2 asker2 budget2 e given (record { this = callee.this; program = callee.program; fun = callee.fun }) its x.end
-          (λ w stands same. subst (λ u. IsPlace programs u (record { this = callee.this; program = callee.program; fun = callee.fun }) its) (sym same) (place_so told0 programs live0 (outcome_of (plain_end x.end)).world a stack0 below asker0 args budget0 callee code caller callers subject h called memory keeps)) is
+          (λ w same. subst (λ u. IsPlace programs u (record { this = callee.this; program = callee.program; fun = callee.fun }) its) (sym same) (place_so told0 programs live0 (outcome_of (plain_end x.end)).world a stack0 below asker0 args budget0 callee code caller callers subject h called memory keeps)) is
           (subst (λ o. IsOutcome told1 programs o live2 asker2 budget2 e (outcome_of (plain_end x.end))) b.before_is (subst (λ ps. IsOutcome told1 ps b.around.before live2 asker2 budget2 e (outcome_of (plain_end x.end))) b.programs_are x.is)));
       left = cut ∙ ap (λ s. take bottom s) x.lies ∙ ap (λ l. take bottom (l ++ x.top)) b.below_is ∙ ap (λ n. take n (below ++ x.top)) lower ∙ take-append_seam below x.top;
     }
@@ -133,7 +137,7 @@ pub served_none : (told : Option Bytes) (live : Live) (stack0 stack1 : List Valu
 served_none told live stack0 stack1 asker args budget t front real programs a below h reached = record {
   outcome = outcome_of (Gives (Plain zero_value) (state_of a));
   has = has_of front a (nothing_called a) (Gives (Plain zero_value) (state_of a)) reached.0 (over_ends front (Gives (Plain zero_value) (state_of a)));
-  is = record { world = h.world; left = h.left; player = h.by.player; commands = h.by.commands; outputs = sym (append-nil live.outputs); answer = refl };
+  is = record { programs = programs; grown = grows_same programs; world = h.world; left = h.left; player = h.by.player; commands = h.by.commands; outputs = sym (append-nil live.outputs); answer = refl };
   left = below_is stack0 stack1 below a.arguments args h.lies h.many t;
 }
 
@@ -158,10 +162,10 @@ can_go told live0 live1 stack0 stack1 frame asker0 asker1 x args budget0 budget1
 -- One turn after another
 
 later_same : (a : Around) → IsLater a a
-later_same a = record { same = refl; programs = refl }
+later_same a = record { same = refl; programs = grows_same a.programs }
 
 later_trans : (a b c : Around) → IsLater a b → IsLater b c → IsLater a c
-later_trans a b c h k = record { same = k.same ∙ ap (λ x. back_in x c) h.same; programs = k.programs ∙ h.programs }
+later_trans a b c h k = record { same = k.same ∙ ap (λ x. back_in x c) h.same; programs = grows_trans a.programs b.programs c.programs h.programs k.programs }
 
 -- none so far
 pub goes_on_same : (told : Option Bytes) (live : Live) (stack : List Value) (frame : Frame) (asker : Asker) (budget : ℕ) → Continues told live stack frame asker budget told live stack frame asker budget
@@ -185,7 +189,7 @@ goes_to_end told0 told1 told2 live0 live1 live2 stack0 stack1 stack2 frame0 fram
     record {
       end = y.end;
       ends = x.back y.end y.ends;
-      is = subst (λ b. IsOutcome told2 a.programs b live2 asker2 budget2 e (outcome_of (plain_end y.end))) (ap (λ b. b.before) x.later.same) (subst (λ ps. IsOutcome told2 ps x.around.before live2 asker2 budget2 e (outcome_of (plain_end y.end))) x.later.programs y.is);
+      is = subst (λ b. IsOutcome told2 a.programs b live2 asker2 budget2 e (outcome_of (plain_end y.end))) (ap (λ b. b.before) x.later.same) (outcome_grown told2 a.programs x.around.programs x.around.before live2 asker2 budget2 e (outcome_of (plain_end y.end)) x.later.programs y.is);
       top = y.top;
       lies = y.lies ∙ ap (λ (b : Around). b.below ++ y.top) x.later.same;
     }

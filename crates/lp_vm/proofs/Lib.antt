@@ -1,5 +1,6 @@
 pub mod Causing
 pub mod Carried
+pub mod Grown
 pub mod Doing
 pub mod Beginnings
 pub mod Enterings
@@ -10,8 +11,16 @@ pub mod Turning
 pub mod Askings
 pub mod Reachings
 pub mod Answered
+pub mod Lookings
+pub mod Behind
 pub mod Workings
 pub mod Cycling
 pub mod Applied
 pub mod Initialised
+pub mod Places
 pub mod Makings
+pub mod MakingBegins
+pub mod Loads
+pub mod LoadCauses
+pub mod ObjectLoads
+pub mod Clones

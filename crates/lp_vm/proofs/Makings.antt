@@ -45,7 +45,7 @@ use Rattle.lp_beginning.specs.declared.job.LoadKind.TheVariants as kinds
 use Rattle.lp_beginning.specs.declared.job.Making.{Making}
 use Rattle.lp_beginning.specs.declared.job.Question.{Question}
 use Rattle.lp_beginning.specs.declared.job.Question.TheVariants as questions
-use Rattle.lp_beginning.specs.Beginning.{Fits}
+use Rattle.lp_beginning.specs.Beginning.{Fits, IsInitialised}
 use Rattle.lp_beginning.specs.Ends.{IsReplyEnd, IsValueEnd, state_at}
 use Rattle.lp_beginning.specs.Feeding.{AsksNext, EndsWith, Feeds, GoesOn, IsLater}
 use Rattle.lp_beginning.specs.Jobs.{asked_of, course_of, kind_of, made_from, next_of, parts_left, rest_from, rest_of}
@@ -53,9 +53,12 @@ use Rattle.lp_vm.specs.declared.request.Request.TheVariants as requests
 use Rattle.lp_vm.specs.Answering.{Answered, CanServe, IsAsked, IsSameAsker, Serves}
 use Rattle.lp_vm.specs.Cycle.{Answers}
 use Rattle.lp_vm.specs.Going.{IsOutcome}
-use Rattle.lp_vm.specs.Making.{CanAskNext, CanMake, CanReachFor, IsAskedFor, IsInitialised, IsMaking, MakeAsks, MakeContinues, Makes, MakesOn, StandsForOne, object_for}
+use Rattle.lp_vm.specs.Growing.{Grows}
+use Rattle.lp_vm.specs.Making.{AsksAt, CanAskNext, CanMake, CanReachFor, IsAskedFor, IsMaking, MakeAsks, MakeContinues, Makes, MakesOn, StandsForOne, object_for}
 use Rattle.lp_vm.proofs.Answered.{setting}
 use Rattle.lp_vm.proofs.Carried.{some_at}
+use Rattle.lp_vm.proofs.Grown.{grows_same, grows_trans, outcome_grown}
+use Rattle.lp_vm.proofs.Places.{asker_there, asks_still}
 use Rattle.lp_vm.proofs.Startings.{same_later}
 use Rattle.lp_vm.proofs.Turning.{world_reached}
 
@@ -148,12 +151,12 @@ end_state (Returned r) t = refl
 end_state (course.Stopped x) t = refl
 
 -- an end in a state for which the live state stands is an outcome
-fit_outcome : (told : Option Bytes) (programs : List RawProgram) (before : List Out) (live : Live) (asker : Asker) (budget : ℕ) (e : Ending) (x : End Reply) → Fits (setting told programs before) live asker.turn budget (state_at x) → IsReplyEnd programs e x
-    → IsOutcome told programs before live asker budget e (outcome_of x)
-fit_outcome told programs before live asker budget (endings.Value v) (Gives r s) f h = record { world = f.world; left = sym f.at.left; player = f.at.player; commands = f.at.commands; outputs = f.at.outputs; answer = h }
-fit_outcome told programs before live asker budget (endings.Value v) (Stops x s) f h = absurd h
-fit_outcome told programs before live asker budget (endings.Stopped stop) (Gives r s) f h = absurd h
-fit_outcome told programs before live asker budget (endings.Stopped stop) (Stops x s) f h = record { world = f.world; left = sym f.at.left; player = f.at.player; commands = f.at.commands; outputs = f.at.outputs; answer = h }
+fit_outcome : (told : Option Bytes) (old programs : List RawProgram) (before : List Out) (live : Live) (asker : Asker) (budget : ℕ) (e : Ending) (x : End Reply) → Grows old programs → Fits (setting told programs before) live asker.turn budget (state_at x)
+    → IsReplyEnd programs e x → IsOutcome told old before live asker budget e (outcome_of x)
+fit_outcome told old programs before live asker budget (endings.Value v) (Gives r s) g f h = record { programs = programs; grown = g; world = f.world; left = sym f.at.left; player = f.at.player; commands = f.at.commands; outputs = f.at.outputs; answer = h }
+fit_outcome told old programs before live asker budget (endings.Value v) (Stops x s) g f h = absurd h
+fit_outcome told old programs before live asker budget (endings.Stopped stop) (Gives r s) g f h = absurd h
+fit_outcome told old programs before live asker budget (endings.Stopped stop) (Stops x s) g f h = record { programs = programs; grown = g; world = f.world; left = sym f.at.left; player = f.at.player; commands = f.at.commands; outputs = f.at.outputs; answer = h }
 
 -- Values that are there
 
@@ -237,8 +240,8 @@ module _ (caller : Option ObjId) (job : Making) (told : Option Bytes) (live : Li
         programs = k.programs;
         asker = asker;
         ask = question (asked_of q) [] k.by k.state;
-        asks = so_asked q job.object (parts_left job) asker caller k.by k.state (next_is job q k.by k.state next) k.making.callers (k.making.parts k.state.world (keeps_same k.state.world));
-        world = k.making.fits.world;
+        asks = so_asked q job.object (parts_left job) asker caller k.by k.state (next_is job q k.by k.state next) k.making.behind.callers (k.making.parts k.state.world (keeps_same k.state.world));
+        world = k.making.behind.fits.world;
       }
 
   pub asks_for_it : (q : Question) → AsksNext job q → CanAskNext caller job told live → object_for q ≡ job.object
@@ -250,15 +253,15 @@ module _ (caller : Option ObjId) (at : Option Place) (job : Making) (told0 told1
     the_ask = question (asked_of asks.question) [] by s
 
     is_by : IsBy asker0 the_ask
-    is_by = record { player = w.fits.at.player; commands = w.fits.at.commands; interactive = w.interactive; loads = w.loads; depth = w.depth }
+    is_by = record { player = w.behind.fits.at.player; commands = w.behind.fits.at.commands; interactive = w.behind.interactive; loads = w.behind.loads; depth = w.behind.depth }
 
     reaches : ReachesIf told1 programs live1 asker0 the_ask found
     reaches =
         asks.finds programs asker0 the_ask
-        (so_asked asks.question job.object (parts_left job) asker0 caller by s (next_is job asks.question by s asks.next) w.callers (w.parts s.world (keeps_same s.world))) w.fits.world
+        (so_asked asks.question job.object (parts_left job) asker0 caller by s (next_is job asks.question by s asks.next) w.behind.callers (w.parts s.world (keeps_same s.world))) w.behind.fits.world
 
     asked : IsAsked told1 programs live1 stack stack asker0 0 budget0 the_ask
-    asked = record { by = is_by; world = world_reached told1 programs live1 asker0 the_ask found reaches; left = sym w.fits.at.left; lies = sym (append-nil stack); many = refl }
+    asked = record { by = is_by; world = world_reached told1 programs live1 asker0 the_ask found reaches; left = sym w.behind.fits.at.left; lies = sym (append-nil stack); many = refl }
 
     course_is : course_of job by s ≡ Asks the_ask (λ o. rest_of job by (end_of_outcome s o))
     course_is = asks.next by s
@@ -281,26 +284,34 @@ module _ (caller : Option ObjId) (at : Option Place) (job : Making) (told0 told1
       state_is : state_at end ≡ t
       state_is = end_state sv.outcome.answer t
 
-      fits_t : Fits (setting told2 programs before) live2 asker2.turn budget2 t
+      -- the programs that are there then
+      abbrev grew : List RawProgram
+      grew = sv.is.programs
+
+      fits_t : Fits (setting told2 grew before) live2 asker2.turn budget2 t
       fits_t = record {
         at = record {
           stands = sv.is.world.stands;
           left = sym sv.is.left;
-          outputs = sv.is.outputs ∙ ap (λ l. l ++ sv.outcome.outputs) (outs ∙ w.fits.at.outputs) ∙ append_assoc before s.outputs sv.outcome.outputs;
+          outputs = sv.is.outputs ∙ ap (λ l. l ++ sv.outcome.outputs) (outs ∙ w.behind.fits.at.outputs) ∙ append_assoc before s.outputs sv.outcome.outputs;
           player = sv.is.player;
           commands = sv.is.commands;
         };
         world = sv.is.world;
       }
 
-      fits_end : Fits (setting told2 programs before) live2 asker2.turn budget2 (state_at end)
-      fits_end = subst (Fits (setting told2 programs before) live2 asker2.turn budget2) (sym state_is) fits_t
+      fits_end : Fits (setting told2 grew before) live2 asker2.turn budget2 (state_at end)
+      fits_end = subst (Fits (setting told2 grew before) live2 asker2.turn budget2) (sym state_is) fits_t
 
-      ends_so : IsValueEnd programs e end
-      ends_so = value_end programs e sv.outcome.answer t sv.is.answer
+      ends_so : IsValueEnd grew e end
+      ends_so = value_end grew e sv.outcome.answer t sv.is.answer
 
       kept : Keeps s.world (state_at end).world
       kept = subst (λ (x : State). Keeps s.world x.world) (sym state_is) can_be.keeps
+
+      -- who asks is at its place still
+      place_then : AsksAt grew at by.scene
+      place_then = asks_still programs grew at by.scene sv.is.grown w.behind.place
 
       -- what follows the outcome, the whole course ends with
       back_by : (c : Course Reply) (x : End Reply) → rest_of job by end ≡ c → Ends front c x → Ends front (course_of job by s) x
@@ -310,20 +321,24 @@ module _ (caller : Option ObjId) (at : Option Place) (job : Making) (told0 told1
       -- it goes on
       goes_on : (job3 : Making) (live3 : Live) → GoesOn job e live2 job3 live3 → IsLater job job3 → MakesOn front caller at (course_of job by s) job3 told2 programs before live3 asker2 budget2 by
       goes_on job3 live3 goes later =
-          let is : rest_of job by end ≡ course_of job3 by (state_at end) = goes.course programs by end ends_so in
+          let is : rest_of job by end ≡ course_of job3 by (state_at end) = goes.course grew by end ends_so in
           let less : OneLess (parts_left job) (parts_left job3) = one_less job.kind job3.kind job.object job3.object (parts_left job) (parts_left job3) by end is in
           record {
+            programs = grew;
+            grown = sv.is.grown;
             state = state_at end;
             making = record {
-              fits = subst (λ l. Fits (setting told2 programs before) l asker2.turn budget2 (state_at end)) (sym goes.same) fits_end;
-              interactive = w.interactive ∙ sym answers.same.interactive;
-              loads = w.loads ∙ ap (λ l. map loading_of (reverse l)) (sym answers.same.loads);
-              callers = w.callers ∙ ap (λ l. reverse (l ++ option_to_list caller)) (sym answers.same.callers);
-              depth = w.depth ∙ ap (λ n. n + 1) (sym answers.same.depth);
+              behind = record {
+                fits = subst (λ l. Fits (setting told2 grew before) l asker2.turn budget2 (state_at end)) (sym goes.same) fits_end;
+                interactive = w.behind.interactive ∙ sym answers.same.interactive;
+                loads = w.behind.loads ∙ ap (λ l. map loading_of (reverse l)) (sym answers.same.loads);
+                callers = w.behind.callers ∙ ap (λ l. reverse (l ++ option_to_list caller)) (sym answers.same.callers);
+                depth = w.behind.depth ∙ ap (λ n. n + 1) (sym answers.same.depth);
+                place = place_then;
+              };
               parts = λ u k.
                   subst (λ o. All (IsInitialised u o) (parts_left job3)) (sym later.object)
                   (All-tail (IsInitialised u job.object) less.part (parts_left job3) (subst (All (IsInitialised u job.object)) less.are (w.parts u (keeps_trans s.world (state_at end).world u kept k))));
-              place = λ u k. w.place u (keeps_trans s.world (state_at end).world u kept k);
             };
             back = λ x h. back_by (course_of job3 by (state_at end)) x is h;
           }
@@ -331,13 +346,13 @@ module _ (caller : Option ObjId) (at : Option Place) (job : Making) (told0 told1
       -- or it ends
       ended : (d : Ending) (live3 : Live) → EndsWith job e at d told2 live2 live3 → Answered front (course_of job by s) told2 programs before live3 stack2 stack asker2 budget2 d
       ended d live3 ends =
-          let x = ends (setting told2 programs before) by asker2.turn budget2 end refl fits_end ends_so (w.place (state_at end).world kept) in
-          record { end = x.end; ends = back_by (Over x.end) x.end x.over (over_ends front x.end); is = fit_outcome told2 programs before live3 asker2 budget2 d x.end x.fits x.is; left = sv.left }
+          let x = ends (setting told2 grew before) by asker2.turn budget2 end refl fits_end ends_so (asker_there grew (state_at end).world at by place_then) in
+          record { end = x.end; ends = back_by (Over x.end) x.end x.over (over_ends front x.end); is = fit_outcome told2 programs grew before live3 asker2 budget2 d x.end sv.is.grown x.fits x.is; left = sv.left }
 
       ended_there : (d : Ending) (live3 : Live) → EndsWith job e at d told2 live2 live3 → IsEndingThere live2.cells d
       ended_there d live3 ends =
-          let x = ends (setting told2 programs before) by asker2.turn budget2 end refl fits_end ends_so (w.place (state_at end).world kept) in
-          rest_ends programs live2.cells job.kind job.object (parts_left job) by end x.end d e x.over x.is ends_so answers.there
+          let x = ends (setting told2 grew before) by asker2.turn budget2 end refl fits_end ends_so (asker_there grew (state_at end).world at by place_then) in
+          rest_ends grew live2.cells job.kind job.object (parts_left job) by end x.end d e x.over x.is ends_so answers.there
 
   -- The answer can be given, ..
   pub make_can : IfSome found (λ x. IsInMemory live1 x.callee x.code) → CanMake caller at job told0 live0 asker0 budget0 → CanServe told1 live1 stack asker0 budget0 (requests.Function found) 0
@@ -362,7 +377,7 @@ module _ (caller : Option ObjId) (at : Option Place) (job : Making) (told0 told1
     pub make_stands : CanMake caller at job told0 live0 asker0 budget0 → StandsForOne told2 live2
     make_stands h =
         let x = sv h.programs h.before h.by h.state h.making h.front h.real outs told2 live2 stack2 asker2 budget2 e answers in
-        (h.programs, x.outcome.world, x.is.world.stands)
+        (x.is.programs, x.outcome.world, x.is.world.stands)
 
     -- .. and the job goes on with it, ..
     pub make_goes : (told3 : Option Bytes) (job3 : Making) (live3 : Live) → told3 ≡ told2 → Feeds fed.Goes job e at told2 live2 job3 live3 → IsLater job job3 → MakeContinues caller at job told0 live0 asker0 budget0 job3 told3 live3 asker2 budget2
@@ -388,7 +403,7 @@ module _ (caller : Option ObjId) (at : Option Place) (job : Making) (told0 told1
 
 -- none so far
 pub makes_same : (caller : Option ObjId) (at : Option Place) (job : Making) (told : Option Bytes) (live : Live) (asker : Asker) (budget : ℕ) → MakeContinues caller at job told live asker budget job told live asker budget
-makes_same caller at job told live asker budget front real programs before by s w = record { state = s; making = w; back = λ e h. h }
+makes_same caller at job told live asker budget front real programs before by s w = record { programs = programs; grown = grows_same programs; state = s; making = w; back = λ e h. h }
 
 -- one more
 pub makes_more : (caller : Option ObjId) (at : Option Place) (job0 job1 job2 : Making) (told0 told1 told2 : Option Bytes) (live0 live1 live2 : Live) (asker0 asker1 asker2 : Asker) (budget0 budget1 budget2 : ℕ)
@@ -396,15 +411,15 @@ pub makes_more : (caller : Option ObjId) (at : Option Place) (job0 job1 job2 : M
     → MakeContinues caller at job0 told0 live0 asker0 budget0 job2 told2 live2 asker2 budget2
 makes_more caller at job0 job1 job2 told0 told1 told2 live0 live1 live2 asker0 asker1 asker2 budget0 budget1 budget2 h n front real programs before by s w =
     let x = h front real programs before by s w in
-    let y = n front real programs before by x.state x.making in
-    record { state = y.state; making = y.making; back = λ e l. x.back e (y.back e l) }
+    let y = n front real x.programs before by x.state x.making in
+    record { programs = y.programs; grown = grows_trans programs x.programs y.programs x.grown y.grown; state = y.state; making = y.making; back = λ e l. x.back e (y.back e l) }
 
 -- it can go on
 pub can_make_on : (caller : Option ObjId) (at : Option Place) (job0 job1 : Making) (told0 told1 : Option Bytes) (live0 live1 : Live) (asker0 asker1 : Asker) (budget0 budget1 : ℕ) → CanMake caller at job0 told0 live0 asker0 budget0
     → MakeContinues caller at job0 told0 live0 asker0 budget0 job1 told1 live1 asker1 budget1 → CanMake caller at job1 told1 live1 asker1 budget1
 can_make_on caller at job0 job1 told0 told1 live0 live1 asker0 asker1 budget0 budget1 h n =
     let x = n h.front h.real h.programs h.before h.by h.state h.making in
-    record { front = h.front; real = h.real; programs = h.programs; before = h.before; by = h.by; state = x.state; making = x.making }
+    record { front = h.front; real = h.real; programs = x.programs; before = h.before; by = h.by; state = x.state; making = x.making }
 
 -- and the end
 pub makes_later : (caller : Option ObjId) (at : Option Place) (job0 job1 : Making) (told0 told1 told2 : Option Bytes) (live0 live1 live2 : Live) (stack0 stack1 stack2 : List Value) (asker0 asker1 asker2 : Asker) (budget0 budget1 budget2 : ℕ) (e : Ending)
@@ -413,8 +428,8 @@ pub makes_later : (caller : Option ObjId) (at : Option Place) (job0 job1 : Makin
 makes_later caller at job0 job1 told0 told1 told2 live0 live1 live2 stack0 stack1 stack2 asker0 asker1 asker2 budget0 budget1 budget2 e goes lies same spends home h = record {
   made = λ front real programs before by s w.
       let x = goes front real programs before by s w in
-      let y = h.made front real programs before by x.state x.making in
-      record { end = y.end; ends = x.back y.end y.ends; is = y.is; left = y.left ∙ lies };
+      let y = h.made front real x.programs before by x.state x.making in
+      record { end = y.end; ends = x.back y.end y.ends; is = outcome_grown told2 programs x.programs before live2 asker2 budget2 e (outcome_of y.end) x.grown y.is; left = y.left ∙ lies };
   same = same_later asker0 asker1 asker2 same h.same;
   spends = le_trans h.spends spends;
   home = home_later live0.objects live1.objects live2.objects home h.home;

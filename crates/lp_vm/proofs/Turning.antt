@@ -47,10 +47,11 @@ use Rattle.lp_asking.proofs.Courses.{asks_ends, over_ends}
 use Rattle.lp_asking.proofs.States.{stop_state}
 use Rattle.lp_vm.specs.declared.request.Request.{Request}
 use Rattle.lp_vm.specs.declared.request.Request.TheVariants as requests
-use Rattle.lp_vm.specs.Requests.{AsksEfun, IsRequest}
+use Rattle.lp_vm.specs.Requests.{AsksEfun, IsRequest, place_in}
 use Rattle.lp_vm.specs.Answering.{IsAsked, IsSameAsker, Served, Serves}
 use Rattle.lp_vm.specs.Going.{EndsSo, GoesOn, IsGoing, IsOutcome}
 use Rattle.lp_vm.proofs.Carried.{caller_later, compiled_still, shadows_still, still_home}
+use Rattle.lp_vm.proofs.Grown.{caller_grown, code_grown, grows_same, still_at}
 use Rattle.lp_vm.proofs.Doing.{Awaited, does_comes, does_end, does_wait}
 use Rattle.lp_vm.proofs.Waiting.{Waits, ask_of}
 
@@ -76,10 +77,10 @@ ended_with : (told : Option Bytes) (programs : List RawProgram) (a : Around) (li
     → IsEndIn e end s → IsOutcome told programs a.before live asker budget e (outcome_of (plain_end end))
 ended_with told programs a live asker budget (endings.Value v) end s w l p c o is =
     subst (λ x. IsOutcome told programs a.before live asker budget (endings.Value v) (outcome_of (plain_end x))) (sym is)
-    (record { world = w; left = l; player = p; commands = c; outputs = o; answer = refl })
+    (record { programs = programs; grown = grows_same programs; world = w; left = l; player = p; commands = c; outputs = o; answer = refl })
 ended_with told programs a live asker budget (endings.Stopped stop) end s w l p c o is =
     subst (λ x. IsOutcome told programs a.before live asker budget (endings.Stopped stop) (outcome_of (plain_end x))) (sym is.1)
-    (record { world = w; left = l; player = p; commands = c; outputs = o; answer = record { cause = is.2; place = no_places programs s.world stop.place is.0.place is.4 is.3 } })
+    (record { programs = programs; grown = grows_same programs; world = w; left = l; player = p; commands = c; outputs = o; answer = record { cause = is.2; place = no_places programs s.world stop.place is.0.place is.4 is.3 } })
 
 -- The course of a function that came to its end is over.
 pub came_to_end : (front : FrontEnd) (p : RawProgram) (k : ℕ) (row : FunRow) (f : IsFunction p k row) (a : Around) (m : Moment) (course : Course Value) (told : Option Bytes) (live0 live1 : Live) (stack0 stack1 : List Value) (frame0 : Frame) (asker : Asker) (budget0 budget1 : ℕ) (e : Ending)
@@ -107,7 +108,7 @@ world_reached told programs live asker a (Some x) h = h.world
 
 pub world_asked : (request : Request) (told : Option Bytes) (programs : List RawProgram) (live : Live) (asker : Asker) (a : Ask) → IsRequest request told programs live asker a → IsWorldOf told programs live a.world
 world_asked (requests.Function found) told programs live asker a h = world_reached told programs live asker a found h
-world_asked (requests.Efun this e) told programs live asker a h = h.1
+world_asked (requests.Efun at e) told programs live asker a h = h.1
 
 -- What is known where a function asks.
 module _ (p : RawProgram) (k : ℕ) (row : FunRow) (f : IsFunction p k row) (a : Around) (m : Moment) (course : Course Value) (told0 : Option Bytes) (live0 live1 : Live) (stack0 stack1 : List Value) (frame0 frame1 : Frame) (asker0 : Asker) (budget0 budget1 args : ℕ)
@@ -135,11 +136,11 @@ module _ (p : RawProgram) (k : ℕ) (row : FunRow) (f : IsFunction p k row) (a :
     what = subst (λ x. Means x q c.what) (g.code ∙ ap (code_in a.programs) (sym code_same)) means;
   }
 
-  pub asks_efun : (e : Efun) → c.what ≡ OfEfun e → AsksEfun asker0 frame1.this e (ask_of a c)
+  pub asks_efun : (e : Efun) → c.what ≡ OfEfun e → AsksEfun a.programs asker0 (place_in frame1) e (ask_of a c)
   asks_efun e what = record {
     scene = a.scene;
     scene_is = refl;
-    this_is = sym c.matches.sits.belongs.this;
+    runs = record { this = sym c.matches.sits.belongs.this; version = sym c.matches.sits.belongs.version; raw = frame1.code; is = c.matches.sits.belongs.program; function = c.matches.sits.belongs.function };
     interactive = g.by.interactive;
     callers = g.by.callers;
     what = what;
@@ -209,13 +210,13 @@ outcome_end told programs before before2 live asker budget e o s b h = by o.answ
     with_reply v course.IsSound h = absurd h
     with_reply v (course.IsFaulty faults) h = absurd h
 
-    returned : (e : Ending) (r : Reply) → IsAnswer programs o.world e (Returned r) → IsAnswer programs o.world e (Returned (Plain (value_in r)))
+    returned : (e : Ending) (r : Reply) → IsAnswer h.programs o.world e (Returned r) → IsAnswer h.programs o.world e (Returned (Plain (value_in r)))
     returned (endings.Value v) r h = with_reply v r h
     returned (endings.Stopped stop) r h = absurd h
 
-    by : (x : Answer) → IsAnswer programs o.world e x → IsOutcome told programs before live asker budget e (outcome_of (plain_end (end_of_answer x (after s o))))
-    by (Returned r) i = record { world = h.world; left = h.left; player = h.player; commands = h.commands; outputs = outs; answer = returned e r i }
-    by (Stopped x) i = record { world = h.world; left = h.left; player = h.player; commands = h.commands; outputs = outs; answer = i }
+    by : (x : Answer) → IsAnswer h.programs o.world e x → IsOutcome told programs before live asker budget e (outcome_of (plain_end (end_of_answer x (after s o))))
+    by (Returned r) i = record { programs = h.programs; grown = h.grown; world = h.world; left = h.left; player = h.player; commands = h.commands; outputs = outs; answer = returned e r i }
+    by (Stopped x) i = record { programs = h.programs; grown = h.grown; world = h.world; left = h.left; player = h.player; commands = h.commands; outputs = outs; answer = i }
 
 -- THE TURN: after the answer the function goes on, with less to do, or it ends.
 abbrev pub TurnsTo : Option Ending → FrontEnd → (p : RawProgram) → (k : ℕ) → (row : FunRow) → IsFunction p k row → Around → Moment → Course Value → Option Bytes → Live → List Value → Frame → Asker → ℕ → Type 0
@@ -246,7 +247,7 @@ module _ (front : FrontEnd) (real : IsFrontEnd front) (p : RawProgram) (k : ℕ)
   can = outcomes_can_be front ask o sv.has
 
   abbrev a3 : Around
-  a3 = record a { told = told2; player = asker3.turn.player; commands = commands_of asker3.turn.commands.items }
+  a3 = record a { told = told2; programs = sv.is.programs; player = asker3.turn.player; commands = commands_of asker3.turn.commands.items }
 
   abbrev m3 : Moment
   m3 = record { place = c.moment.place; stack = c.moment.stack; catches = c.moment.catches; state = after s o }
@@ -269,7 +270,7 @@ module _ (front : FrontEnd) (real : IsFrontEnd front) (p : RawProgram) (k : ℕ)
         part = c.matches.sits.belongs.part;
         base = c.matches.sits.belongs.base;
         function = c.matches.sits.belongs.function;
-        program = c.matches.sits.belongs.program;
+        program = still_at a.programs sv.is.programs frame1.program.0 frame1.code sv.is.grown c.matches.sits.belongs.program;
         code = c.matches.sits.belongs.code;
       };
     };
@@ -279,10 +280,14 @@ module _ (front : FrontEnd) (real : IsFrontEnd front) (p : RawProgram) (k : ℕ)
     commands = sv.is.commands;
   }
 
-  caller_then : IsCaller a.programs o.world a.scene.this a.scene.part p
+  caller_then : IsCaller sv.is.programs o.world a.scene.this a.scene.part p
   caller_then =
-      caller_later a.programs s.world o.world a.scene.this a.scene.part p can.keeps
-      (caller_now p k row f a m course told0 live0 live1 stack0 stack1 frame0 frame1 asker0 budget0 budget1 args g c)
+      caller_grown a.programs sv.is.programs o.world a.scene.this a.scene.part p sv.is.grown
+      (caller_later a.programs s.world o.world a.scene.this a.scene.part p can.keeps
+      (caller_now p k row f a m course told0 live0 live1 stack0 stack1 frame0 frame1 asker0 budget0 budget1 args g c))
+
+  code_then : a.code ≡ code_in sv.is.programs p
+  code_then = g.code ∙ sym (code_grown a.programs sv.is.programs m.state.world.versions a.scene.version p sv.is.grown g.compiled g.of.program)
 
   goes : (at : Moment) (stack : List Value) → push_end (end_of_outcome s o) c.moment.place c.moment.catches c.moment.stack ≡ Goes at → Matches a3 live3 stack frame4 budget3 at → IsFit live3 stack
       → TurnsTo None front p k row f a m course told2 live3 stack frame4 asker3 budget3
@@ -292,9 +297,9 @@ module _ (front : FrontEnd) (real : IsFrontEnd front) (p : RawProgram) (k : ℕ)
           around = a3;
           moment = at;
           rest = w.goes o;
-          later = record { same = refl; programs = refl };
+          later = record { same = refl; programs = sv.is.grown };
           going = record {
-            of = record { program = g.of.program; locals = g.of.locals; variables = g.of.variables; rows = g.of.rows; places = g.of.places; heights = g.of.heights };
+            of = record { program = still_at a.programs sv.is.programs a.scene.version.0 p sv.is.grown g.of.program; locals = g.of.locals; variables = g.of.variables; rows = g.of.rows; places = g.of.places; heights = g.of.heights };
             runs = record {
               matches = h;
               shaped = subst (NextMatches f.shapes) e (c.shaped o);
@@ -305,10 +310,10 @@ module _ (front : FrontEnd) (real : IsFrontEnd front) (p : RawProgram) (k : ℕ)
             told_is = refl;
             player = refl;
             commands = refl;
-            compiled = subst (λ x. AreCompiled a.programs x.world.versions) (sym st) sv.is.world.compiled;
+            compiled = subst (λ x. AreCompiled sv.is.programs x.world.versions) (sym st) sv.is.world.compiled;
             shadows = subst (λ x. All (λ z. is_live x.world z.shadow ≡ true) x.world.shadows) (sym st) sv.is.world.shadows;
-            caller = subst (λ x. IsCaller a.programs x.world a.scene.this a.scene.part p) (sym st) caller_then;
-            code = g.code;
+            caller = subst (λ x. IsCaller sv.is.programs x.world a.scene.this a.scene.part p) (sym st) caller_then;
+            code = code_then;
             does = subst (λ x. Does a.code a.scene x (w.goes o)) e (w.does o can);
           };
           back = λ end h. subst (λ t. Ends front t end) (sym w.is) (asks_ends front ask w.goes o end sv.has can h);
@@ -334,4 +339,4 @@ module _ (front : FrontEnd) (real : IsFrontEnd front) (p : RawProgram) (k : ℕ)
 
   pub turns : (r : Option Ending) → Resumes r 0 e stack3 frame1 stack4 frame4 → IsFit live3 stack4 → TurnsTo r front p k row f a m course told2 live3 stack4 frame4 asker3 budget3
   turns r h fit =
-      resumed r (h c.low [] a3 live3 budget3 m3 (end_of_outcome s o) (sv.left ∙ sym (append-nil c.low)) refl (end_for a.programs o.world e o.answer (after s o) sv.is.answer) waits) fit
+      resumed r (h c.low [] a3 live3 budget3 m3 (end_of_outcome s o) (sv.left ∙ sym (append-nil c.low)) refl (end_for sv.is.programs o.world e o.answer (after s o) sv.is.answer) waits) fit

@@ -1,6 +1,5 @@
 -- Efuns that a running function calls begin.
-use Rattle.std.specs.Prelude.{◌≡◌, ◌≤◌, ◌⊎◌, ℕ, List, Option, None, Bool, true, false}
-use Rattle.lp_values.specs.declared.id.ObjId.{ObjId}
+use Rattle.std.specs.Prelude.{◌≡◌, ◌≤◌, ℕ, List, Option, None, Bool, true, false}
 use Rattle.lp_values.specs.declared.value.Value.{Value}
 use Rattle.lp_instr.specs.declared.efun.Efun.{Efun}
 use Rattle.lp_instr.specs.declared.efun.Efun.TheVariants as efuns
@@ -12,13 +11,13 @@ use Rattle.lp_efuns.specs.declared.answer.Answer.TheVariants as answers
 use Rattle.lp_efuns.specs.Plain.{is_plain}
 use Rattle.lp_calling.specs.declared.job.Job.{Job}
 use Rattle.lp_calling.specs.Beginning.{is_calling}
-use Rattle.lp_calling.specs.Targets.{NeedsLoad}
 use Rattle.lp_calling.specs.Jobs.{IsJobOn, IsReady}
 use Rattle.lp_asking.specs.declared.asker.Asker.{Asker}
 use Rattle.lp_asking.specs.declared.ending.Cause.{Cause}
 use Rattle.lp_asking.specs.declared.ending.Cause.TheVariants as causes
 use Rattle.lp_asking.specs.declared.ending.Ending.{Ending}
 use Rattle.lp_asking.specs.declared.ending.Ending.TheVariants as endings
+use Rattle.lp_asking.specs.declared.ending.Place.{Place}
 use Rattle.lp_vm.specs.declared.efuns.EfunBegun.{EfunBegun}
 use Rattle.lp_vm.specs.declared.efuns.EfunBegun.TheVariants as begun
 use Rattle.lp_vm.specs.declared.request.Request.TheVariants as requests
@@ -42,22 +41,21 @@ abbrev pub is_ending : Efun → Bool
 is_ending efuns.Destruct = true
 is_ending _ = false
 
--- An efun is not carried out yet: it is neither one that is answered at once nor one that goes on as a job, or an object would
--- have to be loaded for it.
-abbrev pub IsNotYet : Live → Efun → List Value → Type 0
-IsNotYet live e vs = ((is_plain e ≡ false) × (is_calling e ≡ false) × (is_ending e ≡ false)) ⊎ NeedsLoad live e vs
+-- An efun is not carried out yet: it is neither one that is answered at once nor one that goes on as a job.
+abbrev pub IsNotYet : Efun → Type 0
+IsNotYet e = (is_plain e ≡ false) × (is_calling e ≡ false) × (is_ending e ≡ false)
 
 -- An efun goes on as a job. That can work, and however it ends, the efun is answered by that.
-pub record HasBegunEfun (this : ObjId) (efun : Efun) (args : ℕ) (live0 : Live) (stack0 : List Value) (asker0 : Asker) (budget0 : ℕ) (job : Job) (live1 : Live) (stack1 : List Value) (asker1 : Asker) (budget1 : ℕ) : Type 0 where
+pub record HasBegunEfun (at : Place) (efun : Efun) (args : ℕ) (live0 : Live) (stack0 : List Value) (asker0 : Asker) (budget0 : ℕ) (job : Job) (live1 : Live) (stack1 : List Value) (asker1 : Asker) (budget1 : ℕ) : Type 0 where
   pub spends : budget1 ≤ budget0
   pub fit : IsFit live1 stack1
   pub on : IsJobOn job stack1
   pub ready : IsReady live1.objects job
-  pub can : (told : Option Bytes) → CanServe told live0 stack0 asker0 budget0 (requests.Efun this efun) args → CanWork this job told live1 stack1 asker1 budget1
+  pub can : (told : Option Bytes) → CanServe told live0 stack0 asker0 budget0 (requests.Efun at efun) args → CanWork at job told live1 stack1 asker1 budget1
   pub answers : (told0 told1 : Option Bytes) (live2 : Live) (stack2 : List Value) (asker2 : Asker) (budget2 : ℕ) (e : Ending)
-      → Works this job told0 live1 stack1 asker1 budget1 told1 live2 stack2 asker2 budget2 e → Answers (requests.Efun this efun) args told0 live0 stack0 asker0 budget0 told1 live2 stack2 asker2 budget2 e
+      → Works at job told0 live1 stack1 asker1 budget1 told1 live2 stack2 asker2 budget2 e → Answers (requests.Efun at efun) args told0 live0 stack0 asker0 budget0 told1 live2 stack2 asker2 budget2 e
 
 -- An efun begins: it is answered at once, or goes on as a job.
-abbrev pub StartsEfun : EfunBegun → ObjId → Efun → ℕ → Live → List Value → Asker → ℕ → Live → List Value → Asker → ℕ → Type 0
-StartsEfun (begun.Answered e) this efun args live0 stack0 asker0 budget0 live1 stack1 asker1 budget1 = (told : Option Bytes) → Answers (requests.Efun this efun) args told live0 stack0 asker0 budget0 told live1 stack1 asker1 budget1 e
-StartsEfun (begun.Works job) this efun args live0 stack0 asker0 budget0 live1 stack1 asker1 budget1 = HasBegunEfun this efun args live0 stack0 asker0 budget0 job live1 stack1 asker1 budget1
+abbrev pub StartsEfun : EfunBegun → Place → Efun → ℕ → Live → List Value → Asker → ℕ → Live → List Value → Asker → ℕ → Type 0
+StartsEfun (begun.Answered e) at efun args live0 stack0 asker0 budget0 live1 stack1 asker1 budget1 = (told : Option Bytes) → Answers (requests.Efun at efun) args told live0 stack0 asker0 budget0 told live1 stack1 asker1 budget1 e
+StartsEfun (begun.Works job) at efun args live0 stack0 asker0 budget0 live1 stack1 asker1 budget1 = HasBegunEfun at efun args live0 stack0 asker0 budget0 job live1 stack1 asker1 budget1

@@ -20,6 +20,7 @@ use Rattle.lp_step_laws.specs.Running.{IsOf, Runs}
 use Rattle.lp_frames.specs.Returns.{back_in}
 use Rattle.lp_part_laws.specs.Versions.{AreCompiled}
 use Rattle.lp_targets.specs.Callees.{IsWorldOf}
+use Rattle.lp_vm.specs.Growing.{Grows}
 use Rattle.lp_reaching.specs.Compiled.{IsCaller}
 use Rattle.lp_asking.specs.declared.asker.Asker.{Asker}
 use Rattle.lp_asking.specs.declared.ending.Ending.{Ending}
@@ -27,9 +28,11 @@ use Rattle.lp_efuns.specs.Turns.{commands_of}
 use Rattle.lp_asking.specs.Asking.{code_in, loading_of}
 use Rattle.lp_asking.specs.Endings.{IsAnswer, plain_end}
 
--- AN OUTCOME: the state stands for its world, budget, player and commands; what it put out follows what was there; and so the
--- call ended.
-pub record IsOutcome (told : Option Bytes) (programs : List RawProgram) (before : List Out) (live : Live) (asker : Asker) (budget : ℕ) (e : Ending) (o : Outcome) : Type 0 where
+-- AN OUTCOME: the state stands for its world, budget, player and commands, with the programs that were there and those that loads
+-- put behind them; what it put out follows what was there; and so the call ended.
+pub record IsOutcome (told : Option Bytes) (old : List RawProgram) (before : List Out) (live : Live) (asker : Asker) (budget : ℕ) (e : Ending) (o : Outcome) : Type 0 where
+  pub programs : List RawProgram
+  pub grown : Grows old programs
   pub world : IsWorldOf told programs live o.world
   pub left : budget ≡ o.budget
   pub player : o.player ≡ asker.turn.player
@@ -72,10 +75,11 @@ pub record CanGo (told : Option Bytes) (live : Live) (stack : List Value) (frame
   pub course : Course Value
   pub going : IsGoing p k row function around moment course told live stack frame asker budget
 
--- what stays while the function runs, though calls may change what the swap file tells, player and commands
+-- what stays while the function runs, though calls may change what the swap file tells, player and commands, and loads put more
+-- programs behind those that are there
 pub record IsLater (a b : Around) : Type 0 where
   pub same : b ≡ back_in a b
-  pub programs : b.programs ≡ a.programs
+  pub programs : Grows a.programs b.programs
 
 -- THE RUN GOES ON with what is left of the course: what that ends with, the whole ends with.
 pub record GoesOn (front : FrontEnd) (p : RawProgram) (k : ℕ) (row : FunRow) (f : IsFunction p k row) (a : Around) (course : Course Value) (told : Option Bytes) (live : Live) (stack : List Value) (frame : Frame) (asker : Asker) (budget : ℕ) : Type 0 where

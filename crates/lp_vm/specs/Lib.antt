@@ -1,3 +1,4 @@
+pub mod Growing
 pub mod Faults
 pub mod Causes
 pub mod Going
@@ -7,9 +8,15 @@ pub mod Working
 pub mod Cycle
 pub mod Laying
 pub mod Efuns
+pub mod Looking
 pub mod Beginning
 pub mod Turns
+pub mod Making
+pub mod Loading
+pub mod Loaded
 pub mod Jobs
 pub mod Applying
 pub mod Initialising
-pub mod Making
+pub mod LoadFaults
+pub mod Cloning
+pub mod ObjectLoading

@@ -1,5 +1,5 @@
 -- An object that was made begins: its job goes on for a course of the meaning.
-use Rattle.std.specs.Prelude.{◌≡◌, ◌+◌, ◌≤◌, ◌++◌, ℕ, List, Option, Some, All, codes, map, reverse, true}
+use Rattle.std.specs.Prelude.{◌≡◌, ◌+◌, ◌≤◌, ◌++◌, ⊤, ℕ, List, Option, Some, None, All, codes, map, reverse}
 use Rattle.std.specs.Option.{option_to_list}
 use Rattle.lp_values.specs.declared.id.ObjId.{ObjId}
 use Rattle.lp_values.specs.declared.value.Value.{Value}
@@ -7,8 +7,7 @@ use Rattle.lp_code.specs.declared.program.RawProgram.{RawProgram}
 use Rattle.lp_events.specs.declared.out.Out.{Out}
 use Rattle.lp_swapfile.specs.Device.{Bytes}
 use Rattle.lp_language.specs.World.{Keeps, World}
-use Rattle.lp_language.specs.Course.{Ask, Course, End, Reply, State}
-use Rattle.lp_language.specs.Resolve.{Part, heritage_of, part_at}
+use Rattle.lp_language.specs.Course.{Ask, Course, End, Reply, Scene, State}
 use Rattle.lp_meaning.specs.Askers as meaning
 use Rattle.lp_meaning.specs.Closing.{Ends}
 use Rattle.lp_meaning.specs.FrontEnd.{FrontEnd}
@@ -23,15 +22,16 @@ use Rattle.lp_asking.specs.declared.ending.Ending.{Ending}
 use Rattle.lp_asking.specs.declared.ending.Place.{Place}
 use Rattle.lp_asking.specs.Asking.{loading_of}
 use Rattle.lp_asking.specs.Endings.{IsEndingThere}
-use Rattle.lp_initialisers.specs.Rows.{has_initialisers}
 use Rattle.lp_reaching.specs.declared.reached.Reached.{Reached}
 use Rattle.lp_reaching.specs.Reaching.{Applies, Initialises, ReachesIf}
 use Rattle.lp_beginning.specs.declared.job.Making.{Making}
 use Rattle.lp_beginning.specs.declared.job.Question.{Question}
 use Rattle.lp_beginning.specs.declared.job.Question.TheVariants as questions
-use Rattle.lp_beginning.specs.Beginning.{Fits}
-use Rattle.lp_beginning.specs.Feeding.{AsksNext, IsAskerAt}
+use Rattle.lp_beginning.specs.Beginning.{Fits, IsInitialised}
+use Rattle.lp_beginning.specs.Feeding.{AsksNext}
 use Rattle.lp_beginning.specs.Jobs.{course_of, parts_left}
+use Rattle.lp_vm.specs.Growing.{Grows}
+use Rattle.lp_vm.specs.Requests.{RunsAt}
 use Rattle.lp_vm.specs.Answering.{Answered, IsSameAsker}
 
 -- What the job asks
@@ -68,22 +68,27 @@ pub record MakeAsks (found : Option Reached) (caller : Option ObjId) (job : Maki
 
 -- How it begins
 
--- a part of an object's program is there, and has initialisers
-pub record IsInitialised (w : World) (o : ObjId) (part : ℕ) : Type 0 where
-  pub place : Part
-  pub at : part_at (heritage_of w o) part ≡ Some place
-  pub has : has_initialisers place.tree ≡ true
+-- who asks is the function that runs there, or the driver
+abbrev pub AsksAt : List RawProgram → Option Place → Option Scene → Type 0
+AsksAt programs None None = ⊤
+AsksAt programs None (Some c) = ⊥
+AsksAt programs (Some at) None = ⊥
+AsksAt programs (Some at) (Some c) = RunsAt programs at c
 
--- The state stands for a state of the meaning, in which who asks has what was handed down, and the caller as its latest. In
--- each world to which that leads the parts that are left have initialisers, and this is the place of who asks.
-pub record IsMaking (caller : Option ObjId) (at : Option Place) (job : Making) (told : Option Bytes) (programs : List RawProgram) (before : List Out) (live : Live) (asker : Asker) (budget : ℕ) (by : meaning.Asker) (s : State) : Type 0 where
+-- The state stands for a state of the meaning, in which who asks has what was handed down, and the caller as its latest; and this
+-- is the place of who asks.
+pub record IsBehind (caller : Option ObjId) (at : Option Place) (told : Option Bytes) (programs : List RawProgram) (before : List Out) (live : Live) (asker : Asker) (budget : ℕ) (by : meaning.Asker) (s : State) : Type 0 where
   pub fits : Fits (record { told = told; programs = programs; before = before }) live asker.turn budget s
   pub interactive : by.interactive ≡ asker.interactive
   pub loads : by.loads ≡ map loading_of (reverse asker.loads.items)
   pub callers : callers_behind by.scene ≡ reverse (asker.callers.items ++ option_to_list caller)
   pub depth : depth_behind by.scene ≡ asker.depth + 1
+  pub place : AsksAt programs at by.scene
+
+-- And in each such world the parts that are left of a job have initialisers.
+pub record IsMaking (caller : Option ObjId) (at : Option Place) (job : Making) (told : Option Bytes) (programs : List RawProgram) (before : List Out) (live : Live) (asker : Asker) (budget : ℕ) (by : meaning.Asker) (s : State) : Type 0 where
+  pub behind : IsBehind caller at told programs before live asker budget by s
   pub parts : (w : World) → Keeps s.world w → All (IsInitialised w job.object) (parts_left job)
-  pub place : (w : World) → Keeps s.world w → IsAskerAt programs w at by
 
 -- so in some world, with a front end
 pub record CanMake (caller : Option ObjId) (at : Option Place) (job : Making) (told : Option Bytes) (live : Live) (asker : Asker) (budget : ℕ) : Type 0 where
@@ -100,7 +105,9 @@ abbrev pub CanAskNext : Option ObjId → Making → Option Bytes → Live → Ty
 CanAskNext caller job told live = (at : Option Place) × (asker : Asker) × (budget : ℕ) × CanMake caller at job told live asker budget
 
 -- THE JOB GOES ON with what is left of the course: what that ends with, the whole ends with.
-pub record MakesOn (front : FrontEnd) (caller : Option ObjId) (at : Option Place) (course : Course Reply) (job : Making) (told : Option Bytes) (programs : List RawProgram) (before : List Out) (live : Live) (asker : Asker) (budget : ℕ) (by : meaning.Asker) : Type 0 where
+pub record MakesOn (front : FrontEnd) (caller : Option ObjId) (at : Option Place) (course : Course Reply) (job : Making) (told : Option Bytes) (old : List RawProgram) (before : List Out) (live : Live) (asker : Asker) (budget : ℕ) (by : meaning.Asker) : Type 0 where
+  pub programs : List RawProgram
+  pub grown : Grows old programs
   pub state : State
   pub making : IsMaking caller at job told programs before live asker budget by state
   pub back : (e : End Reply) → Ends front (course_of job by state) e → Ends front course e

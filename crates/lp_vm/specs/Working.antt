@@ -1,17 +1,17 @@
 -- A job of an efun works for a course of the meaning.
-use Rattle.std.specs.Prelude.{◌≡◌, ◌++◌, ℕ, List, Option, Some, None, IsAscii, codes, length, map, reverse}
+use Rattle.std.specs.Prelude.{◌≡◌, ◌++◌, ⊤, ℕ, List, Option, Some, None, codes, length, map, reverse}
 use Rattle.lp_values.specs.declared.id.ObjId.{ObjId}
 use Rattle.lp_values.specs.declared.value.Value.{Value}
 use Rattle.lp_code.specs.declared.program.RawProgram.{RawProgram}
 use Rattle.lp_events.specs.declared.out.Out.{Out}
 use Rattle.lp_swapfile.specs.Device.{Bytes}
-use Rattle.lp_language.specs.Course.{Ask, Course, End, Scene, State, outcome_of}
+use Rattle.lp_language.specs.Course.{Ask, Course, End, Load, Scene, State, Wanted, outcome_of}
 use Rattle.lp_meaning.specs.Askers as meaning
 use Rattle.lp_meaning.specs.Closing.{Ends}
 use Rattle.lp_meaning.specs.FrontEnd.{FrontEnd}
 use Rattle.lp_front_end.specs.FrontEnds.{IsFrontEnd}
 use Rattle.lp_world.specs.declared.live.Live.{Live}
-use Rattle.lp_efuns.specs.Turns.{At}
+use Rattle.lp_beginning.specs.Beginning.{Fits}
 use Rattle.lp_calling.specs.declared.job.Job.{Job}
 use Rattle.lp_calling.specs.declared.job.Question.{Question}
 use Rattle.lp_calling.specs.declared.job.Question.TheVariants as questions
@@ -19,19 +19,29 @@ use Rattle.lp_calling.specs.Jobs.{course_of}
 use Rattle.lp_targets.specs.Callees.{IsWorldOf}
 use Rattle.lp_asking.specs.declared.asker.Asker.{Asker}
 use Rattle.lp_asking.specs.declared.ending.Ending.{Ending}
+use Rattle.lp_asking.specs.declared.ending.Place.{Place}
 use Rattle.lp_asking.specs.Asking.{loading_of}
 use Rattle.lp_asking.specs.Endings.{plain_end}
 use Rattle.lp_reaching.specs.declared.reached.Reached.{Reached}
 use Rattle.lp_reaching.specs.Reaching.{Applies, AsksOutside, ReachesIf}
+use Rattle.lp_vm.specs.Growing.{Grows}
+use Rattle.lp_vm.specs.Requests.{RunsAt}
 use Rattle.lp_vm.specs.Going.{IsOutcome}
 
 -- What a job asks
 
 -- On behalf of a function of this object that called its efun, a job asks so: for a function of another object as that
--- function would, and for `catch_tell` as the driver applies it, with the object as the latest caller.
+-- function would, for `catch_tell` as the driver applies it, with the object as the latest caller, and for a load.
 abbrev pub IsAskedSo : Question → Asker → ObjId → Ask → Type 0
 IsAskedSo (questions.Other ob name) asker this a = AsksOutside asker this ob name a
 IsAskedSo (questions.CatchTell ob) asker this a = Applies asker (Some this) ob (codes "catch_tell") a
+IsAskedSo (questions.Load name) asker this a = a.what ≡ Load name Wanted
+
+-- it asks for a function
+abbrev pub IsCall : Question → Type 0
+IsCall (questions.Other ob name) = ⊤
+IsCall (questions.CatchTell ob) = ⊤
+IsCall (questions.Load name) = ⊥
 
 -- in some world it asks so
 pub record CanReach (this : ObjId) (question : Question) (told : Option Bytes) (live : Live) : Type 0 where
@@ -46,29 +56,23 @@ abbrev pub FindsAsked : ObjId → Question → Option Bytes → Live → Option 
 FindsAsked this question told0 live0 told1 live1 r =
     (programs : List RawProgram) (asker : Asker) (a : Ask) → IsAskedSo question asker this a → IsWorldOf told0 programs live0 a.world → ReachesIf told1 programs live1 asker a r
 
--- the name of a function that is asked for has a letter that is not of ASCII
-abbrev pub IsUnspelled : Question → Type 0
-IsUnspelled (questions.Other ob name) = IsAscii name → ⊥
-IsUnspelled (questions.CatchTell ob) = ⊥
-
 -- How it works
 
 -- The state stands for a state of the meaning, at which the job stands with these values above those below; it asks on behalf
--- of a function of this object, to which was handed down what who asks has.
-pub record IsWorking (this : ObjId) (job : Job) (told : Option Bytes) (programs : List RawProgram) (before : List Out) (live : Live) (stack : List Value) (asker : Asker) (budget : ℕ) (by : meaning.Asker) (c : Scene) (s : State) (low own : List Value) : Type 0 where
-  pub world : IsWorldOf told programs live s.world
-  pub at : At (record { told = told; programs = programs; before = before }) live asker.turn budget s
+-- of the function at a place, to which was handed down what who asks has.
+pub record IsWorking (at : Place) (job : Job) (told : Option Bytes) (programs : List RawProgram) (before : List Out) (live : Live) (stack : List Value) (asker : Asker) (budget : ℕ) (by : meaning.Asker) (c : Scene) (s : State) (low own : List Value) : Type 0 where
+  pub fits : Fits (record { told = told; programs = programs; before = before }) live asker.turn budget s
   pub scene : by.scene ≡ Some c
   pub interactive : by.interactive ≡ asker.interactive
   pub loads : by.loads ≡ map loading_of (reverse asker.loads.items)
-  pub this_is : c.this ≡ this
+  pub runs : RunsAt programs at c
   pub callers : c.callers ≡ reverse asker.callers.items
   pub depth : c.depth ≡ asker.depth
   pub lies : stack ≡ low ++ own
   pub height : length low ≡ job.low
 
 -- so in some world, with a front end
-pub record CanWork (this : ObjId) (job : Job) (told : Option Bytes) (live : Live) (stack : List Value) (asker : Asker) (budget : ℕ) : Type 0 where
+pub record CanWork (at : Place) (job : Job) (told : Option Bytes) (live : Live) (stack : List Value) (asker : Asker) (budget : ℕ) : Type 0 where
   pub front : FrontEnd
   pub real : IsFrontEnd front
   pub programs : List RawProgram
@@ -78,13 +82,15 @@ pub record CanWork (this : ObjId) (job : Job) (told : Option Bytes) (live : Live
   pub state : State
   pub low : List Value
   pub own : List Value
-  pub working : IsWorking this job told programs before live stack asker budget by scene state low own
+  pub working : IsWorking at job told programs before live stack asker budget by scene state low own
 
 -- THE WORK GOES ON with what is left of the course: what that ends with, the whole ends with.
-pub record WorksOn (front : FrontEnd) (this : ObjId) (course : Course Value) (job : Job) (told : Option Bytes) (programs : List RawProgram) (before : List Out) (live : Live) (stack : List Value) (asker : Asker) (budget : ℕ) (by : meaning.Asker) (c : Scene) (low : List Value) : Type 0 where
+pub record WorksOn (front : FrontEnd) (at : Place) (course : Course Value) (job : Job) (told : Option Bytes) (old : List RawProgram) (before : List Out) (live : Live) (stack : List Value) (asker : Asker) (budget : ℕ) (by : meaning.Asker) (c : Scene) (low : List Value) : Type 0 where
+  pub programs : List RawProgram
+  pub grown : Grows old programs
   pub state : State
   pub own : List Value
-  pub working : IsWorking this job told programs before live stack asker budget by c state low own
+  pub working : IsWorking at job told programs before live stack asker budget by c state low own
   pub back : (e : End Value) → Ends front (course_of job own by state) e → Ends front course e
 
 -- IT ENDS as the course does, and nothing is left of it on the stack.
@@ -95,17 +101,17 @@ pub record WorkedTo (front : FrontEnd) (course : Course Value) (told : Option By
   pub left : stack ≡ low
 
 -- in every world in which it worked
-abbrev pub Worked : ObjId → Job → Option Bytes → Live → List Value → Asker → ℕ → Option Bytes → Live → List Value → Asker → ℕ → Ending → Type 0
-Worked this job told0 live0 stack0 asker0 budget0 told1 live1 stack1 asker1 budget1 e =
+abbrev pub Worked : Place → Job → Option Bytes → Live → List Value → Asker → ℕ → Option Bytes → Live → List Value → Asker → ℕ → Ending → Type 0
+Worked at job told0 live0 stack0 asker0 budget0 told1 live1 stack1 asker1 budget1 e =
     (front : FrontEnd) (real : IsFrontEnd front) (programs : List RawProgram) (before : List Out) (by : meaning.Asker) (c : Scene) (s : State) (low own : List Value)
-    → IsWorking this job told0 programs before live0 stack0 asker0 budget0 by c s low own → WorkedTo front (course_of job own by s) told1 programs before live1 stack1 low asker1 budget1 e
+    → IsWorking at job told0 programs before live0 stack0 asker0 budget0 by c s low own → WorkedTo front (course_of job own by s) told1 programs before live1 stack1 low asker1 budget1 e
 
-abbrev pub WorkContinues : ObjId → Job → Option Bytes → Live → List Value → Asker → ℕ → Job → Option Bytes → Live → List Value → Asker → ℕ → Type 0
-WorkContinues this job0 told0 live0 stack0 asker0 budget0 job1 told1 live1 stack1 asker1 budget1 =
+abbrev pub WorkContinues : Place → Job → Option Bytes → Live → List Value → Asker → ℕ → Job → Option Bytes → Live → List Value → Asker → ℕ → Type 0
+WorkContinues at job0 told0 live0 stack0 asker0 budget0 job1 told1 live1 stack1 asker1 budget1 =
     (front : FrontEnd) (real : IsFrontEnd front) (programs : List RawProgram) (before : List Out) (by : meaning.Asker) (c : Scene) (s : State) (low own : List Value)
-    → IsWorking this job0 told0 programs before live0 stack0 asker0 budget0 by c s low own → WorksOn front this (course_of job0 own by s) job1 told1 programs before live1 stack1 asker1 budget1 by c low
+    → IsWorking at job0 told0 programs before live0 stack0 asker0 budget0 by c s low own → WorksOn front at (course_of job0 own by s) job1 told1 programs before live1 stack1 asker1 budget1 by c low
 
 -- what an answer leads to: on, or to the end
-abbrev pub WorkTurned : Option Ending → ObjId → Job → Option Bytes → Live → List Value → Asker → ℕ → Job → Option Bytes → Live → List Value → Asker → ℕ → Type 0
-WorkTurned None this job0 told0 live0 stack0 asker0 budget0 job1 told1 live1 stack1 asker1 budget1 = WorkContinues this job0 told0 live0 stack0 asker0 budget0 job1 told1 live1 stack1 asker1 budget1
-WorkTurned (Some e) this job0 told0 live0 stack0 asker0 budget0 job1 told1 live1 stack1 asker1 budget1 = Worked this job0 told0 live0 stack0 asker0 budget0 told1 live1 stack1 asker1 budget1 e
+abbrev pub WorkTurned : Option Ending → Place → Job → Option Bytes → Live → List Value → Asker → ℕ → Job → Option Bytes → Live → List Value → Asker → ℕ → Type 0
+WorkTurned None at job0 told0 live0 stack0 asker0 budget0 job1 told1 live1 stack1 asker1 budget1 = WorkContinues at job0 told0 live0 stack0 asker0 budget0 job1 told1 live1 stack1 asker1 budget1
+WorkTurned (Some e) at job0 told0 live0 stack0 asker0 budget0 job1 told1 live1 stack1 asker1 budget1 = Worked at job0 told0 live0 stack0 asker0 budget0 told1 live1 stack1 asker1 budget1 e

@@ -1,19 +1,17 @@
-//! What a question of a job reaches.
-ghost use Rattle.std.specs.Prelude.{◌≡◌, IfErr, IfOk, IfSome, IsAscii, IsSome};
+//! What a question of a job for a function reaches.
+ghost use Rattle.std.specs.Prelude.{◌≡◌, ◌≤◌, IfErr, IfOk, IfSome, IsSome, length};
 ghost use Rattle.lp_calling.specs.declared.job.Question.TheVariants as questions;
-ghost use Rattle.lp_calling.specs.Jobs.{object_of};
 ghost use Rattle.lp_step.specs.Steps.{KeepsVariables};
 ghost use Rattle.lp_world.specs.Closed.{IsClosed};
 ghost use Rattle.lp_world.specs.Rows.{row_at};
 ghost use Rattle.lp_reaching.specs.Reaching.{IsInMemory};
 ghost use Rattle.lp_vm.specs.Causes.{Tells, read_of};
 ghost use Rattle.lp_vm.specs.declared.fault.VmFault.TheVariants.{NotYet};
-ghost use Rattle.lp_vm.specs.Working.{CanReach, FindsAsked, IsUnspelled};
+ghost use Rattle.lp_vm.specs.Working.{CanReach, FindsAsked};
 
 use crate::fault::VmFault;
-use crate::naming::name_of;
+use crate::naming::{name_of, spell};
 use lp_asking::truth::Truthful;
-use lp_calling::job::Question;
 use lp_reaching::applying::find_applied;
 use lp_reaching::outside::find_outside;
 use lp_reaching::reached::Reached;
@@ -21,8 +19,42 @@ use lp_values::id::ObjId;
 use lp_values::text::Text;
 use lp_world::live::Live;
 
-/// A function of an object, by its name, as the object of the efun's caller calls it.
-fn reach_other<W: Truthful>(
+/// A function of an object, by its name of at most 64 letters, as the object of the efun's caller calls it. The name takes no
+/// memory.
+fn reach_short<W: Truthful>(
+    live: &mut Live,
+    swap: &mut W,
+    this: ObjId,
+    ob: ObjId,
+    name: &Text,
+) -> Result<Option<Reached>, VmFault>
+    requires closed { IsClosed live.old }
+    requires object { IsSome (row_at live.old.objects ob.0) }
+    requires can { CanReach this (questions.Other ob name.now) (W.content swap.old) live.old }
+    requires few { length name.now ≤ 64 }
+    ensures found { IfOk result (λ r. FindsAsked this (questions.Other ob name.now) (W.content swap.old) live.old (W.content swap.new) live.new r) }
+    ensures there { IfOk result (λ r. IfSome r (λ x. IsInMemory live.new x.callee x.code)) }
+    ensures closed { IsClosed live.new }
+    ensures home { KeepsVariables live.old.objects live.new.objects }
+    ensures cells { live.new.cells ≡ live.old.cells }
+    ensures outputs { live.new.outputs ≡ live.old.outputs }
+    ensures yet { IfErr result (λ f. f ≡ NotYet → ⊥) }
+    ensures tells { Tells (W.content swap.new) (W.last swap.new) (W.read_faults swap.old) (W.read_faults swap.new) (W.write_faults swap.old) (W.write_faults swap.new)
+        (W.is_truthful swap.old) (W.is_truthful swap.new) (W.is_honest swap.old) (W.is_honest swap.new) live.new (read_of result) }
+{
+    let mut room = [0; 64];
+    let letters = name.as_slice();
+    if !spell(letters, &mut room) {
+        return Ok(None);
+    }
+    match str::from_utf8(&room[..letters.len()]) {
+        Ok(spelled) => Ok(find_outside(live, swap, this, ob, spelled)?),
+        Err(_) => Ok(None),
+    }
+}
+
+/// The same by a name of any length.
+fn reach_long<W: Truthful>(
     live: &mut Live,
     swap: &mut W,
     this: ObjId,
@@ -38,18 +70,52 @@ fn reach_other<W: Truthful>(
     ensures home { KeepsVariables live.old.objects live.new.objects }
     ensures cells { live.new.cells ≡ live.old.cells }
     ensures outputs { live.new.outputs ≡ live.old.outputs }
-    ensures yet { IfErr result (λ f. f ≡ NotYet → IsAscii name.now → ⊥) }
+    ensures yet { IfErr result (λ f. f ≡ NotYet → ⊥) }
     ensures tells { Tells (W.content swap.new) (W.last swap.new) (W.read_faults swap.old) (W.read_faults swap.new) (W.write_faults swap.old) (W.write_faults swap.new)
         (W.is_truthful swap.old) (W.is_truthful swap.new) (W.is_honest swap.old) (W.is_honest swap.new) live.new (read_of result) }
 {
     match name_of(live.alloc, name)? {
         Some(name) => Ok(find_outside(live, swap, this, ob, name.as_str())?),
-        None => Err(VmFault::NotYet),
+        None => Ok(None),
     }
 }
 
-/// `catch_tell` of an object, as an efun of this object applies it.
-fn reach_catch_tell<W: Truthful>(
+/// A function of an object, by its name, as an object calls it in which a function called the job's efun. What is needed for the
+/// function comes into memory. A name that is not of ASCII is that of no function.
+///
+/// # Errors
+/// `NoMemory` and `Swap` as where a running function asks.
+pub fn reach_other<W: Truthful>(
+    live: &mut Live,
+    swap: &mut W,
+    this: ObjId,
+    ob: ObjId,
+    name: &Text,
+) -> Result<Option<Reached>, VmFault>
+    requires closed { IsClosed live.old }
+    requires object { IsSome (row_at live.old.objects ob.0) }
+    requires can { CanReach this (questions.Other ob name.now) (W.content swap.old) live.old }
+    ensures found { IfOk result (λ r. FindsAsked this (questions.Other ob name.now) (W.content swap.old) live.old (W.content swap.new) live.new r) }
+    ensures there { IfOk result (λ r. IfSome r (λ x. IsInMemory live.new x.callee x.code)) }
+    ensures closed { IsClosed live.new }
+    ensures home { KeepsVariables live.old.objects live.new.objects }
+    ensures cells { live.new.cells ≡ live.old.cells }
+    ensures outputs { live.new.outputs ≡ live.old.outputs }
+    ensures yet { IfErr result (λ f. f ≡ NotYet → ⊥) }
+    ensures tells { Tells (W.content swap.new) (W.last swap.new) (W.read_faults swap.old) (W.read_faults swap.new) (W.write_faults swap.old) (W.write_faults swap.new)
+        (W.is_truthful swap.old) (W.is_truthful swap.new) (W.is_honest swap.old) (W.is_honest swap.new) live.new (read_of result) }
+{
+    if name.as_slice().len() <= 64 {
+        return reach_short(live, swap, this, ob, name);
+    }
+    reach_long(live, swap, this, ob, name)
+}
+
+/// `catch_tell` of an object, as an efun of this object applies it. What is needed for the function comes into memory.
+///
+/// # Errors
+/// `NoMemory` and `Swap` as where a running function asks.
+pub fn reach_catch_tell<W: Truthful>(
     live: &mut Live,
     swap: &mut W,
     this: ObjId,
@@ -69,34 +135,4 @@ fn reach_catch_tell<W: Truthful>(
         (W.is_truthful swap.old) (W.is_truthful swap.new) (W.is_honest swap.old) (W.is_honest swap.new) live.new (read_of result) }
 {
     Ok(find_applied(live, swap, Some(this), ob, "catch_tell")?)
-}
-
-/// The function that a question of a job reaches, if there is one. A function of this object called the job's efun. What is
-/// needed for the function comes into memory.
-///
-/// # Errors
-/// `NoMemory` and `Swap` as where a running function asks; `NotYet` where a name is not of ASCII.
-pub fn reach<W: Truthful>(
-    live: &mut Live,
-    swap: &mut W,
-    this: ObjId,
-    question: &Question,
-) -> Result<Option<Reached>, VmFault>
-    requires closed { IsClosed live.old }
-    requires object { IsSome (row_at live.old.objects (object_of question.now).0) }
-    requires can { CanReach this question.now (W.content swap.old) live.old }
-    ensures found { IfOk result (λ r. FindsAsked this question.now (W.content swap.old) live.old (W.content swap.new) live.new r) }
-    ensures there { IfOk result (λ r. IfSome r (λ x. IsInMemory live.new x.callee x.code)) }
-    ensures closed { IsClosed live.new }
-    ensures home { KeepsVariables live.old.objects live.new.objects }
-    ensures cells { live.new.cells ≡ live.old.cells }
-    ensures outputs { live.new.outputs ≡ live.old.outputs }
-    ensures yet { IfErr result (λ f. f ≡ NotYet → IsUnspelled question.now) }
-    ensures tells { Tells (W.content swap.new) (W.last swap.new) (W.read_faults swap.old) (W.read_faults swap.new) (W.write_faults swap.old) (W.write_faults swap.new)
-        (W.is_truthful swap.old) (W.is_truthful swap.new) (W.is_honest swap.old) (W.is_honest swap.new) live.new (read_of result) }
-{
-    match question {
-        Question::Other(ob, name) => reach_other(live, swap, this, *ob, name),
-        Question::CatchTell(ob) => reach_catch_tell(live, swap, this, *ob),
-    }
 }

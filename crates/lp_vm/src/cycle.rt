@@ -1,27 +1,45 @@
-//! What is asked is answered: functions run, and efuns work.
-ghost use Rattle.std.specs.Prelude.{IfOk};
+//! What is asked is answered: functions run, efuns work, and files are loaded.
+ghost use Rattle.std.specs.Prelude.{IfOk, IsAscii, IsSome};
 ghost use Rattle.lp_calling.specs.Jobs.{IsJobOn, IsReady};
+ghost use Rattle.lp_cloning.specs.declared.job.Cloning.TheVariants as stages;
+ghost use Rattle.lp_instr.specs.declared.efun.Efun.TheVariants as efuns;
+ghost use Rattle.lp_loading.specs.declared.job.Going.TheVariants as goings;
 ghost use Rattle.lp_step.specs.Steps.{IsFit};
+ghost use Rattle.lp_world.specs.Rows.{variables_at};
 ghost use Rattle.lp_vm.specs.declared.request.Request.TheVariants as requests;
 ghost use Rattle.lp_vm.specs.Answering.{CanServe};
 ghost use Rattle.lp_vm.specs.Causes.{Tells, read_of};
+ghost use Rattle.lp_vm.specs.Cloning.{CanClone, Clones};
 ghost use Rattle.lp_vm.specs.Cycle.{Answers, Finishes, Works};
 ghost use Rattle.lp_vm.specs.Going.{CanGo};
+ghost use Rattle.lp_vm.specs.Loading.{CanLoad, CanLoadOn, Loads, LoadsOn};
+ghost use Rattle.lp_vm.specs.Making.{CanMake, Makes};
 ghost use Rattle.lp_vm.specs.Working.{CanWork};
 
-use crate::efuns::{EfunBegun, begin_efun};
+use crate::cloning::{begin_clone, clone_loaded, is_clone};
+use crate::efuns::EfunBegun;
 use crate::entering::{Started, close, start};
 use crate::fault::VmFault;
 use crate::halting::{Halted, go_back, run_to_halt};
+use crate::loaded::loaded_ending;
+use crate::loading::{answer_of, begin_load, feed_load, letters_of, pop_load, step_load, unpaid};
+use crate::looking::start_efun;
+use crate::making::{ask_next, feed_on};
 use crate::request::Request;
 use crate::working::{Stepped, feed_back, step_job};
 use lp_asking::asker::Asker;
-use lp_asking::ending::Ending;
+use lp_asking::ending::{Ending, Place};
 use lp_asking::truth::Truthful;
+use lp_beginning::job::{Fed as Made, Making};
 use lp_calling::job::Job;
+use lp_cloning::feed::cloned;
+use lp_cloning::job::{Begun as CloneBegun, Cloning};
+use lp_cloning::laws::law_loads_through;
 use lp_instr::efun::Efun;
+use lp_loading::job::{Answer, Begun, Fed, Going, LoadJob, Purpose, Step};
 use lp_reaching::reached::Reached;
 use lp_values::id::ObjId;
+use lp_values::text::Text;
 use lp_values::value::Value;
 use lp_world::frame::Frame;
 use lp_world::live::Live;
@@ -58,7 +76,7 @@ pub fn answer<W: Truthful>(
     }
 }
 
-/// A job of an efun that a function of this object called goes on to its end.
+/// A job of an efun that the function at a place called goes on to its end.
 #[cycle(calls)]
 fn work<W: Truthful>(
     alloc: Global,
@@ -66,23 +84,41 @@ fn work<W: Truthful>(
     swap: &mut W,
     stack: &mut Vec<Value>,
     asker: &mut Asker,
-    this: ObjId,
+    at: Place,
     mut job: Job,
     budget: &mut u64,
 ) -> Result<Ending, VmFault>
     requires on { IsJobOn job stack.old.items }
     requires ready { IsReady live.old.objects job }
     requires fit { IsFit live.old stack.old.items }
-    requires can { CanWork this job (W.content swap.old) live.old stack.old.items asker.old budget.old }
-    ensures works { IfOk result (λ e. Works this job (W.content swap.old) live.old stack.old.items asker.old budget.old (W.content swap.new) live.new stack.new.items asker.new budget.new e) }
+    requires can { CanWork at job (W.content swap.old) live.old stack.old.items asker.old budget.old }
+    ensures works { IfOk result (λ e. Works at job (W.content swap.old) live.old stack.old.items asker.old budget.old (W.content swap.new) live.new stack.new.items asker.new budget.new e) }
     ensures tells { Tells (W.content swap.new) (W.last swap.new) (W.read_faults swap.old) (W.read_faults swap.new) (W.write_faults swap.old) (W.write_faults swap.new)
         (W.is_truthful swap.old) (W.is_truthful swap.new) (W.is_honest swap.old) (W.is_honest swap.new) live.new (read_of result) }
 {
     'questions: loop {
-        match step_job(live, swap, stack, asker, this, &mut job, budget)? {
+        match step_job(live, swap, stack, asker, at, &mut job, budget)? {
             Stepped::Ended(ending) => return Ok(ending),
             Stepped::Asks(reached, args) => {
                 let ending = answer(alloc, live, swap, stack, asker, reached, args, budget)?;
+                if let Some(ending) = feed_back(&mut job, live, stack, ending)? {
+                    return Ok(ending);
+                }
+            }
+            Stepped::Loads(name) => {
+                let answer = load(
+                    alloc,
+                    live,
+                    swap,
+                    stack,
+                    asker,
+                    Some(at.this),
+                    Some(at),
+                    name.as_slice(),
+                    Purpose::Wanted,
+                    budget,
+                )?;
+                let ending = loaded_ending(alloc, &name, answer)?;
                 if let Some(ending) = feed_back(&mut job, live, stack, ending)? {
                     return Ok(ending);
                 }
@@ -91,7 +127,7 @@ fn work<W: Truthful>(
     }
 }
 
-/// An efun that a function of this object calls is carried out, with so many arguments on top of the stack, which are taken.
+/// An efun that the function at a place calls is carried out, with so many arguments on top of the stack, which are taken.
 #[cycle(calls)]
 fn call_efun<W: Truthful>(
     alloc: Global,
@@ -99,20 +135,23 @@ fn call_efun<W: Truthful>(
     swap: &mut W,
     stack: &mut Vec<Value>,
     asker: &mut Asker,
-    this: ObjId,
+    at: Place,
     efun: Efun,
     args: u32,
     budget: &mut u64,
 ) -> Result<Ending, VmFault>
     requires fit { IsFit live.old stack.old.items }
-    requires can { CanServe (W.content swap.old) live.old stack.old.items asker.old budget.old (requests.Efun this efun) args }
-    ensures answers { IfOk result (λ e. Answers (requests.Efun this efun) args (W.content swap.old) live.old stack.old.items asker.old budget.old (W.content swap.new) live.new stack.new.items asker.new budget.new e) }
+    requires can { CanServe (W.content swap.old) live.old stack.old.items asker.old budget.old (requests.Efun at efun) args }
+    ensures answers { IfOk result (λ e. Answers (requests.Efun at efun) args (W.content swap.old) live.old stack.old.items asker.old budget.old (W.content swap.new) live.new stack.new.items asker.new budget.new e) }
     ensures tells { Tells (W.content swap.new) (W.last swap.new) (W.read_faults swap.old) (W.read_faults swap.new) (W.write_faults swap.old) (W.write_faults swap.new)
         (W.is_truthful swap.old) (W.is_truthful swap.new) (W.is_honest swap.old) (W.is_honest swap.new) live.new (read_of result) }
 {
-    match begin_efun(live, stack, asker, this, efun, args, budget)? {
+    if is_clone(efun) {
+        return call_clone(alloc, live, swap, stack, asker, at, args, budget);
+    }
+    match start_efun(live, swap, stack, asker, at, efun, args, budget)? {
         EfunBegun::Answered(ending) => Ok(ending),
-        EfunBegun::Works(job) => work(alloc, live, swap, stack, asker, this, job, budget),
+        EfunBegun::Works(job) => work(alloc, live, swap, stack, asker, at, job, budget),
     }
 }
 
@@ -138,8 +177,8 @@ fn serve<W: Truthful>(
         Request::Function(reached) => answer(
             alloc, live, swap, stack, asker, reached, args, budget,
         ),
-        Request::Efun(this, efun) => call_efun(
-            alloc, live, swap, stack, asker, this, efun, args, budget,
+        Request::Efun(at, efun) => call_efun(
+            alloc, live, swap, stack, asker, at, efun, args, budget,
         ),
     }
 }
@@ -170,5 +209,219 @@ fn go<W: Truthful>(
                 }
             }
         }
+    }
+}
+
+/// An object that was made begins: its job goes on to its end. The caller is the object for which an efun makes it, if one does,
+/// and for the log the place of who asks is given.
+#[cycle(calls)]
+fn make<W: Truthful>(
+    alloc: Global,
+    live: &mut Live,
+    swap: &mut W,
+    stack: &mut Vec<Value>,
+    asker: &mut Asker,
+    caller: Option<ObjId>,
+    at: Option<Place>,
+    mut making: Making,
+    budget: &mut u64,
+) -> Result<Ending, VmFault>
+    requires object { IsSome (variables_at live.old.objects making.object) }
+    requires fit { IsFit live.old stack.old.items }
+    requires can { CanMake caller at making (W.content swap.old) live.old asker.old budget.old }
+    ensures makes { IfOk result (λ e. Makes caller at making (W.content swap.old) live.old stack.old.items asker.old budget.old (W.content swap.new) live.new stack.new.items asker.new budget.new e) }
+    ensures tells { Tells (W.content swap.new) (W.last swap.new) (W.read_faults swap.old) (W.read_faults swap.new) (W.write_faults swap.old) (W.write_faults swap.new)
+        (W.is_truthful swap.old) (W.is_truthful swap.new) (W.is_honest swap.old) (W.is_honest swap.new) live.new (read_of result) }
+{
+    'parts: loop {
+        let reached = ask_next(live, swap, caller, &making)?;
+        let ending = answer(alloc, live, swap, stack, asker, reached, 0, budget)?;
+        match feed_on(&mut making, live, swap, at, ending)? {
+            Made::Goes => {}
+            Made::Ends(ending) => return Ok(ending),
+        }
+    }
+}
+
+/// A load that was paid for goes on to its end. The caller is the object for which an efun asks for it, if one does, and for the
+/// log the place of who asks is given.
+#[cycle(calls)]
+fn load_on<W: Truthful>(
+    alloc: Global,
+    live: &mut Live,
+    swap: &mut W,
+    stack: &mut Vec<Value>,
+    asker: &mut Asker,
+    caller: Option<ObjId>,
+    at: Option<Place>,
+    mut job: LoadJob,
+    budget: &mut u64,
+) -> Result<Answer, VmFault>
+    requires ascii { IsAscii job.name }
+    requires fit { IsFit live.old stack.old.items }
+    requires can { CanLoadOn caller at job (W.content swap.old) live.old asker.old budget.old }
+    ensures loads { IfOk result (λ r. LoadsOn caller at job goings.Simul (W.content swap.old) live.old stack.old.items asker.old budget.old (W.content swap.new) live.new stack.new.items asker.new budget.new r) }
+    ensures tells { Tells (W.content swap.new) (W.last swap.new) (W.read_faults swap.old) (W.read_faults swap.new) (W.write_faults swap.old) (W.write_faults swap.new)
+        (W.is_truthful swap.old) (W.is_truthful swap.new) (W.is_honest swap.old) (W.is_honest swap.new) live.new (read_of result) }
+{
+    let mut going = Going::Simul;
+    'loads: loop {
+        match step_load(live, swap, asker, &job, going)? {
+            Step::Ends(answer) => return Ok(answer),
+            Step::Makes(making) => {
+                let ending = make(alloc, live, swap, stack, asker, caller, at, making, budget)?;
+                return Ok(answer_of(ending));
+            }
+            Step::Asks(name, waiting) => {
+                let letters = letters_of(alloc, &name)?;
+                let answer = load(
+                    alloc,
+                    live,
+                    swap,
+                    stack,
+                    asker,
+                    caller,
+                    at,
+                    letters.as_slice(),
+                    Purpose::Inherited,
+                    budget,
+                )?;
+                match feed_load(&mut job, live, waiting, answer)? {
+                    Fed::Goes(next) => going = next,
+                    Fed::Ends(answer) => return Ok(answer),
+                }
+            }
+        }
+    }
+}
+
+/// A file is loaded by its name on behalf of who asks: 1000 are paid first, or the budget is spent. The caller is the object for
+/// which an efun asks for it, if one does, and for the log the place of who asks is given.
+///
+/// # Errors
+/// `NoMemory`, also where the swap file gave other bytes of the same digest; `Swap` where it failed or gave bytes of another
+/// digest; `NotYet` where the name, or that of an `inherit`, has letters beyond ASCII, a number of the program has no room, a live
+/// object has the name already, or a function asks what is not carried out yet. Nothing is said of the state then.
+#[cycle(calls)]
+pub fn load<W: Truthful>(
+    alloc: Global,
+    live: &mut Live,
+    swap: &mut W,
+    stack: &mut Vec<Value>,
+    asker: &mut Asker,
+    caller: Option<ObjId>,
+    at: Option<Place>,
+    name: &[char],
+    purpose: Purpose,
+    budget: &mut u64,
+) -> Result<Answer, VmFault>
+    requires fit { IsFit live.old stack.old.items }
+    requires can { CanLoad caller at (W.content swap.old) live.old asker.old budget.old }
+    ensures loads { IfOk result (λ r. Loads caller at name.now purpose (W.content swap.old) live.old stack.old.items asker.old budget.old (W.content swap.new) live.new stack.new.items asker.new budget.new r) }
+    ensures tells { Tells (W.content swap.new) (W.last swap.new) (W.read_faults swap.old) (W.read_faults swap.new) (W.write_faults swap.old) (W.write_faults swap.new)
+        (W.is_truthful swap.old) (W.is_truthful swap.new) (W.is_honest swap.old) (W.is_honest swap.new) live.new (read_of result) }
+{
+    match begin_load(alloc, asker, name, purpose, budget)? {
+        Begun::Spent => Ok(unpaid()),
+        Begun::Runs(job) => {
+            let answer = load_on(alloc, live, swap, stack, asker, caller, at, job, budget)?;
+            pop_load(asker);
+            Ok(answer)
+        }
+    }
+}
+
+/// `clone_object` goes on with the load of its blueprint, and with what that gave.
+#[cycle(calls)]
+fn load_clone<W: Truthful>(
+    alloc: Global,
+    live: &mut Live,
+    swap: &mut W,
+    stack: &mut Vec<Value>,
+    asker: &mut Asker,
+    at: Place,
+    name: String,
+    budget: &mut u64,
+) -> Result<Ending, VmFault>
+    requires fit { IsFit live.old stack.old.items }
+    requires can { CanClone at (stages.Load name) (W.content swap.old) live.old asker.old budget.old }
+    ensures clones { IfOk result (λ e. Clones at (stages.Load name) (W.content swap.old) live.old stack.old.items asker.old budget.old (W.content swap.new) live.new stack.new.items asker.new budget.new e) }
+    ensures tells { Tells (W.content swap.new) (W.last swap.new) (W.read_faults swap.old) (W.read_faults swap.new) (W.write_faults swap.old) (W.write_faults swap.new)
+        (W.is_truthful swap.old) (W.is_truthful swap.new) (W.is_honest swap.old) (W.is_honest swap.new) live.new (read_of result) }
+{
+    law_loads_through();
+    let text = Text::from_str(alloc, name.as_str())?;
+    let answer = load(
+        alloc,
+        live,
+        swap,
+        stack,
+        asker,
+        Some(at.this),
+        Some(at),
+        text.as_slice(),
+        Purpose::Wanted,
+        budget,
+    )?;
+    let ending = loaded_ending(alloc, &text, answer)?;
+    match clone_loaded(live, swap, name, ending)? {
+        CloneBegun::Ends(ending) => Ok(ending),
+        CloneBegun::Runs(cloning) => match cloning {
+            Cloning::Make(making) => {
+                let ending = make(
+                    alloc,
+                    live,
+                    swap,
+                    stack,
+                    asker,
+                    Some(at.this),
+                    Some(at),
+                    making,
+                    budget,
+                )?;
+                Ok(cloned(ending))
+            }
+            Cloning::Load(_) => Err(VmFault::NoMemory),
+        },
+    }
+}
+
+/// `clone_object`, which the function at a place calls, is carried out, with so many arguments on top of the stack, which are taken.
+#[cycle(calls)]
+fn call_clone<W: Truthful>(
+    alloc: Global,
+    live: &mut Live,
+    swap: &mut W,
+    stack: &mut Vec<Value>,
+    asker: &mut Asker,
+    at: Place,
+    args: u32,
+    budget: &mut u64,
+) -> Result<Ending, VmFault>
+    requires fit { IsFit live.old stack.old.items }
+    requires can { CanServe (W.content swap.old) live.old stack.old.items asker.old budget.old (requests.Efun at efuns.CloneObject) args }
+    ensures answers { IfOk result (λ e. Answers (requests.Efun at efuns.CloneObject) args (W.content swap.old) live.old stack.old.items asker.old budget.old (W.content swap.new) live.new stack.new.items asker.new budget.new e) }
+    ensures tells { Tells (W.content swap.new) (W.last swap.new) (W.read_faults swap.old) (W.read_faults swap.new) (W.write_faults swap.old) (W.write_faults swap.new)
+        (W.is_truthful swap.old) (W.is_truthful swap.new) (W.is_honest swap.old) (W.is_honest swap.new) live.new (read_of result) }
+{
+    match begin_clone(live, swap, stack, args, budget)? {
+        CloneBegun::Ends(ending) => Ok(ending),
+        CloneBegun::Runs(cloning) => match cloning {
+            Cloning::Load(name) => load_clone(alloc, live, swap, stack, asker, at, name, budget),
+            Cloning::Make(making) => {
+                let ending = make(
+                    alloc,
+                    live,
+                    swap,
+                    stack,
+                    asker,
+                    Some(at.this),
+                    Some(at),
+                    making,
+                    budget,
+                )?;
+                Ok(cloned(ending))
+            }
+        },
     }
 }

@@ -3,7 +3,6 @@ ghost use Rattle.std.specs.Prelude.{◌≡◌, ◌-◌, ◌≤◌, IfErr, IfOk, 
 ghost use Rattle.lp_cells.specs.Cells.{Store};
 ghost use Rattle.lp_efuns.specs.Plain.{IsAnswerThere, is_plain};
 ghost use Rattle.lp_calling.specs.Beginning.{is_calling};
-ghost use Rattle.lp_calling.specs.Targets.{NeedsLoad};
 ghost use Rattle.lp_step.specs.Steps.{IsFit};
 ghost use Rattle.lp_asking.specs.declared.ending.Ending.TheVariants as endings;
 ghost use Rattle.lp_asking.specs.Endings.{IsEndingThere};
@@ -15,7 +14,7 @@ ghost use Rattle.lp_vm.specs.Efuns.{IsNotYet, StartsEfun, ending_of, is_ending};
 
 use crate::fault::VmFault;
 use lp_asking::asker::Asker;
-use lp_asking::ending::{Cause, Ending, Stop};
+use lp_asking::ending::{Cause, Ending, Place, Stop};
 use lp_asking::resume::drop_top;
 use lp_calling::begin::{begin, is_calling};
 use lp_calling::job::{Begun, Job};
@@ -24,7 +23,6 @@ use lp_efuns::answer::Answer;
 use lp_efuns::caller::Caller;
 use lp_efuns::plain::{call_plain, is_plain};
 use lp_instr::efun::Efun;
-use lp_values::id::ObjId;
 use lp_values::value::Value;
 use lp_world::live::Live;
 
@@ -58,7 +56,7 @@ pub fn ending_of(answer: Answer) -> Ending
 }
 
 /// So many values on top, the topmost last.
-fn topmost(stack: &Vec<Value>, n: u32) -> &[Value]
+pub(crate) fn topmost(stack: &Vec<Value>, n: u32) -> &[Value]
     requires { n ≤ length stack.now.items }
     ensures { result.now ≡ drop (length stack.now.items - n) stack.now.items }
 {
@@ -71,19 +69,19 @@ fn plain(
     live: &mut Live,
     stack: &mut Vec<Value>,
     asker: &mut Asker,
-    this: ObjId,
+    at: Place,
     efun: Efun,
     args: u32,
     budget: &mut u64,
 ) -> Result<EfunBegun, VmFault>
     requires plain { is_plain efun ≡ true }
     requires fit { IsFit live.old stack.old.items }
-    requires can { CanStart live.old stack.old.items asker.old budget.old (requests.Efun this efun) args }
-    ensures starts { IfOk result (λ r. StartsEfun r this efun args live.old stack.old.items asker.old budget.old live.new stack.new.items asker.new budget.new) }
+    requires can { CanStart live.old stack.old.items asker.old budget.old (requests.Efun at efun) args }
+    ensures starts { IfOk result (λ r. StartsEfun r at efun args live.old stack.old.items asker.old budget.old live.new stack.new.items asker.new budget.new) }
     ensures fault { IfErr result (λ f. f ≡ NoMemory) }
 {
     let caller = Caller {
-        this,
+        this: at.this,
         interactive: asker.interactive,
         callers: asker.callers.as_slice(),
     };
@@ -104,20 +102,19 @@ fn calling(
     live: &Live,
     stack: &mut Vec<Value>,
     asker: &Asker,
-    this: ObjId,
+    at: Place,
     efun: Efun,
     args: u32,
     budget: &mut u64,
 ) -> Result<EfunBegun, VmFault>
     requires calling { is_calling efun ≡ true }
     requires fit { IsFit live.now stack.old.items }
-    requires can { CanStart live.now stack.old.items asker.now budget.old (requests.Efun this efun) args }
-    ensures starts { IfOk result (λ r. StartsEfun r this efun args live.now stack.old.items asker.now budget.old live.now stack.new.items asker.now budget.new) }
-    ensures fault { IfErr result IsReadless }
-    ensures yet { IfErr result (λ f. f ≡ NotYet → NeedsLoad live.now efun (drop (length stack.old.items - args) stack.old.items)) }
+    requires can { CanStart live.now stack.old.items asker.now budget.old (requests.Efun at efun) args }
+    ensures starts { IfOk result (λ r. StartsEfun r at efun args live.now stack.old.items asker.now budget.old live.now stack.new.items asker.now budget.new) }
+    ensures fault { IfErr result (λ f. f ≡ NoMemory) }
 {
     let caller = Caller {
-        this,
+        this: at.this,
         interactive: asker.interactive,
         callers: asker.callers.as_slice(),
     };
@@ -132,17 +129,17 @@ fn destructing(
     live: &mut Live,
     stack: &mut Vec<Value>,
     asker: &Asker,
-    this: ObjId,
+    at: Place,
     args: u32,
     budget: &mut u64,
 ) -> Result<EfunBegun, VmFault>
     requires fit { IsFit live.old stack.old.items }
-    requires can { CanStart live.old stack.old.items asker.now budget.old (requests.Efun this Efun.Destruct) args }
-    ensures starts { IfOk result (λ r. StartsEfun r this Efun.Destruct args live.old stack.old.items asker.now budget.old live.new stack.new.items asker.now budget.new) }
+    requires can { CanStart live.old stack.old.items asker.now budget.old (requests.Efun at Efun.Destruct) args }
+    ensures starts { IfOk result (λ r. StartsEfun r at Efun.Destruct args live.old stack.old.items asker.now budget.old live.new stack.new.items asker.now budget.new) }
     ensures fault { IfErr result (λ f. f ≡ NoMemory) }
 {
     let caller = Caller {
-        this,
+        this: at.this,
         interactive: asker.interactive,
         callers: asker.callers.as_slice(),
     };
@@ -159,48 +156,48 @@ fn ending(
     live: &mut Live,
     stack: &mut Vec<Value>,
     asker: &Asker,
-    this: ObjId,
+    at: Place,
     efun: Efun,
     args: u32,
     budget: &mut u64,
 ) -> Result<EfunBegun, VmFault>
     requires fit { IsFit live.old stack.old.items }
-    requires can { CanStart live.old stack.old.items asker.now budget.old (requests.Efun this efun) args }
-    ensures starts { IfOk result (λ r. StartsEfun r this efun args live.old stack.old.items asker.now budget.old live.new stack.new.items asker.now budget.new) }
+    requires can { CanStart live.old stack.old.items asker.now budget.old (requests.Efun at efun) args }
+    ensures starts { IfOk result (λ r. StartsEfun r at efun args live.old stack.old.items asker.now budget.old live.new stack.new.items asker.now budget.new) }
     ensures fault { IfErr result IsReadless }
     ensures yet { IfErr result (λ f. f ≡ NotYet → is_ending efun ≡ false) }
 {
     match efun {
-        Efun::Destruct => destructing(live, stack, asker, this, args, budget),
+        Efun::Destruct => destructing(live, stack, asker, at, args, budget),
         _ => Err(VmFault::NotYet),
     }
 }
 
-/// An efun begins that a function of this object calls, with so many arguments on top of the stack, which are taken: it is
+/// An efun begins that the function at a place calls, with so many arguments on top of the stack, which are taken: it is
 /// answered, or goes on as a job.
 ///
 /// # Errors
-/// `NoMemory`; `NotYet` of an efun that is not carried out yet, and where an object would have to be loaded.
+/// `NoMemory`; `NotYet` of an efun that is not carried out yet.
 pub fn begin_efun(
     live: &mut Live,
     stack: &mut Vec<Value>,
     asker: &mut Asker,
-    this: ObjId,
+    at: Place,
     efun: Efun,
     args: u32,
     budget: &mut u64,
 ) -> Result<EfunBegun, VmFault>
     requires fit { IsFit live.old stack.old.items }
-    requires can { CanStart live.old stack.old.items asker.old budget.old (requests.Efun this efun) args }
-    ensures starts { IfOk result (λ r. StartsEfun r this efun args live.old stack.old.items asker.old budget.old live.new stack.new.items asker.new budget.new) }
+    requires can { CanStart live.old stack.old.items asker.old budget.old (requests.Efun at efun) args }
+    ensures starts { IfOk result (λ r. StartsEfun r at efun args live.old stack.old.items asker.old budget.old live.new stack.new.items asker.new budget.new) }
     ensures fault { IfErr result IsReadless }
-    ensures yet { IfErr result (λ f. f ≡ NotYet → IsNotYet live.old efun (drop (length stack.old.items - args) stack.old.items)) }
+    ensures yet { IfErr result (λ f. f ≡ NotYet → IsNotYet efun) }
 {
     if is_plain(efun) {
-        return plain(live, stack, asker, this, efun, args, budget);
+        return plain(live, stack, asker, at, efun, args, budget);
     }
     if is_calling(efun) {
-        return calling(live, stack, asker, this, efun, args, budget);
+        return calling(live, stack, asker, at, efun, args, budget);
     }
-    ending(live, stack, asker, this, efun, args, budget)
+    ending(live, stack, asker, at, efun, args, budget)
 }

@@ -1,7 +1,7 @@
 //! Why a call is not answered.
 ghost use Rattle.std.specs.Prelude.{◌≡◌};
 ghost use Rattle.lp_vm.specs.declared.fault.VmFault.TheVariants.{NoMemory};
-ghost use Rattle.lp_vm.specs.Faults.{calling_fault, fault_of};
+ghost use Rattle.lp_vm.specs.Faults.{fault_of};
 
 use lp_calling::job::CallingFault;
 use lp_efuns::answer::EfunFault;
@@ -19,8 +19,7 @@ pub enum VmFault {
     /// The swap file failed, or gave bytes of another digest.
     #[error("the swap file did not give what was written")]
     Swap(SwapCause),
-    /// An efun was called that is not carried out yet; or an object would have to be loaded; or the name of a function that is
-    /// called is not of ASCII.
+    /// An efun was called that is not carried out yet; or a file cannot be loaded yet.
     #[error("not carried out yet")]
     NotYet,
 }
@@ -69,12 +68,9 @@ impl From<EfunFault> for VmFault {
 }
 
 impl From<CallingFault> for VmFault {
-    ghost from_gives = { λ x e. e ≡ calling_fault x };
+    ghost from_gives = { λ _ e. e ≡ NoMemory };
 
-    fn from(e: CallingFault) -> VmFault {
-        match e {
-            CallingFault::NoMemory => VmFault::NoMemory,
-            CallingFault::NotYet => VmFault::NotYet,
-        }
+    fn from(_e: CallingFault) -> VmFault {
+        VmFault::NoMemory
     }
 }

@@ -8,13 +8,14 @@ ghost use Rattle.lp_asking.specs.Endings.{IsEndingThere};
 ghost use Rattle.lp_asking.specs.Resuming.{Resumes};
 ghost use Rattle.lp_vm.specs.declared.fault.VmFault.TheVariants.{NoMemory};
 ghost use Rattle.lp_vm.specs.Causes.{Tells, read_of};
+ghost use Rattle.lp_vm.specs.Requests.{place_in};
 ghost use Rattle.lp_vm.specs.Turns.{CanHalt, Halts};
 
 use crate::fault::VmFault;
 use crate::laying::lay_below;
 use crate::request::Request;
 use lp_asking::advance::{Halt, advance};
-use lp_asking::ending::Ending;
+use lp_asking::ending::{Ending, Place};
 use lp_asking::question::{Question, question_of};
 use lp_asking::resume::resume;
 use lp_asking::truth::Truthful;
@@ -57,6 +58,17 @@ fn reach_inside<W: Truthful>(
     Ok(find(live, swap, frame.this, frame.part, &frame.code, question)?)
 }
 
+/// Where the function of a frame stands.
+fn place_in(frame: &Frame) -> Place
+    ensures { result ≡ place_in frame.now }
+{
+    Place {
+        this: frame.this,
+        program: frame.program,
+        fun: frame.fun,
+    }
+}
+
 /// A function runs until it asks or ends. A call of another object, or of a simul efun, is `call_other`.
 pub fn run_to_halt<W: Truthful>(
     alloc: Global,
@@ -73,11 +85,11 @@ pub fn run_to_halt<W: Truthful>(
 {
     match advance(alloc, live, stack, frame, budget)? {
         Halt::Ended(ending) => Ok(Halted::Ended(ending)),
-        Halt::Back(call) => Ok(Halted::Asks(Request::Efun(frame.this, call.efun), call.args)),
+        Halt::Back(call) => Ok(Halted::Asks(Request::Efun(place_in(frame), call.efun), call.args)),
         Halt::Call(call) => match question_of(call.target) {
             None => {
                 let args = lay_below(live, stack, &frame.code, call.target, call.args)?;
-                Ok(Halted::Asks(Request::Efun(frame.this, Efun::CallOther), args))
+                Ok(Halted::Asks(Request::Efun(place_in(frame), Efun::CallOther), args))
             }
             Some(question) => {
                 let reached = reach_inside(live, swap, frame, question)?;

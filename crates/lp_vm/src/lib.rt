@@ -6,6 +6,7 @@
 
 mod asking;
 pub mod calling;
+mod cloning;
 pub mod cycle;
 mod efuns;
 mod entering;
@@ -13,7 +14,11 @@ pub mod fault;
 mod halting;
 pub mod initialising;
 mod laying;
-pub mod making;
+mod loaded;
+mod loading;
+mod looking;
+mod making;
 mod naming;
+pub mod object_loading;
 pub mod request;
 mod working;

@@ -1,17 +1,15 @@
-//! Objects that were made begin: what their jobs ask, and how they go on.
+//! Objects that were made begin: what their jobs ask, and how they take what was answered.
 ghost use Rattle.std.specs.Prelude.{◌≡◌, IfOk, IfSome, IsSome, OnOk};
-ghost use Rattle.lp_step.specs.Steps.{IsFit, KeepsVariables};
+ghost use Rattle.lp_step.specs.Steps.{KeepsVariables};
 ghost use Rattle.lp_world.specs.Closed.{IsClosed};
-ghost use Rattle.lp_world.specs.Rows.{row_at, variables_at};
+ghost use Rattle.lp_world.specs.Rows.{row_at};
 ghost use Rattle.lp_reaching.specs.Reaching.{IsInMemory};
 ghost use Rattle.lp_beginning.specs.declared.job.Question.TheVariants as questions;
 ghost use Rattle.lp_beginning.specs.Feeding.{Feeds, LeavesLess};
 ghost use Rattle.lp_vm.specs.Causes.{Tells, read_of};
-ghost use Rattle.lp_vm.specs.Making.{CanAskNext, CanMake, CanReachFor, FindsFor, MakeAsks, Makes, StandsForOne, object_for};
+ghost use Rattle.lp_vm.specs.Making.{CanAskNext, CanReachFor, FindsFor, MakeAsks, StandsForOne, object_for};
 
-use crate::cycle::answer;
 use crate::fault::VmFault;
-use lp_asking::asker::Asker;
 use lp_asking::ending::{Ending, Place};
 use lp_asking::truth::Truthful;
 use lp_beginning::feed::feed;
@@ -21,9 +19,7 @@ use lp_reaching::applying::find_applied;
 use lp_reaching::initialising::find_initialisers;
 use lp_reaching::reached::Reached;
 use lp_values::id::ObjId;
-use lp_values::value::Value;
 use lp_world::live::Live;
-use std::alloc::Global;
 
 /// The initialisers of a part of a new object's program.
 fn reach_initialisers<W: Truthful>(
@@ -99,7 +95,7 @@ fn reach_for<W: Truthful>(
 ///
 /// # Errors
 /// `NoMemory` and `Swap` as where a running function asks.
-fn ask_next<W: Truthful>(
+pub fn ask_next<W: Truthful>(
     live: &mut Live,
     swap: &mut W,
     caller: Option<ObjId>,
@@ -124,7 +120,7 @@ fn ask_next<W: Truthful>(
 ///
 /// # Errors
 /// `NoMemory` and `Swap` as where the program of the place of a stop comes into memory.
-fn feed_on<W: Truthful>(
+pub fn feed_on<W: Truthful>(
     making: &mut Making,
     live: &mut Live,
     swap: &mut W,
@@ -143,38 +139,4 @@ fn feed_on<W: Truthful>(
         (W.is_truthful swap.old) (W.is_truthful swap.new) (W.is_honest swap.old) (W.is_honest swap.new) live.new (read_of result) }
 {
     Ok(feed(making, live, swap, at, ending)?)
-}
-
-/// An object that was made begins: its job goes on to its end. The caller is the object for which an efun makes it, if one does,
-/// and for the log the place of who asks is given.
-///
-/// # Errors
-/// `NoMemory`, also where the swap file gave other bytes of the same digest; `Swap` where it failed or gave bytes of another
-/// digest; `NotYet` where a function asks what is not carried out yet. Nothing is said of the state then.
-pub fn make<W: Truthful>(
-    alloc: Global,
-    live: &mut Live,
-    swap: &mut W,
-    stack: &mut Vec<Value>,
-    asker: &mut Asker,
-    caller: Option<ObjId>,
-    at: Option<Place>,
-    mut making: Making,
-    budget: &mut u64,
-) -> Result<Ending, VmFault>
-    requires object { IsSome (variables_at live.old.objects making.object) }
-    requires fit { IsFit live.old stack.old.items }
-    requires can { CanMake caller at making (W.content swap.old) live.old asker.old budget.old }
-    ensures makes { IfOk result (λ e. Makes caller at making (W.content swap.old) live.old stack.old.items asker.old budget.old (W.content swap.new) live.new stack.new.items asker.new budget.new e) }
-    ensures tells { Tells (W.content swap.new) (W.last swap.new) (W.read_faults swap.old) (W.read_faults swap.new) (W.write_faults swap.old) (W.write_faults swap.new)
-        (W.is_truthful swap.old) (W.is_truthful swap.new) (W.is_honest swap.old) (W.is_honest swap.new) live.new (read_of result) }
-{
-    'questions: loop {
-        let reached = ask_next(live, swap, caller, &making)?;
-        let ending = answer(alloc, live, swap, stack, asker, reached, 0, budget)?;
-        match feed_on(&mut making, live, swap, at, ending)? {
-            Fed::Goes => {}
-            Fed::Ends(ending) => return Ok(ending),
-        }
-    }
 }

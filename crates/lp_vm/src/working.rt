@@ -1,24 +1,28 @@
 //! Jobs of efuns go on by one question after another.
-ghost use Rattle.std.specs.Prelude.{◌≡◌, IfErr, IfOk, IfSome, OnOk};
-ghost use Rattle.lp_calling.specs.Jobs.{IsAsking, IsJobOn, IsReady};
-ghost use Rattle.lp_step.specs.Steps.{IsFit};
+ghost use Rattle.std.specs.Prelude.{◌≡◌, IfErr, IfOk, IfSome, IsSome, OnOk};
+ghost use Rattle.lp_calling.specs.declared.job.Question.TheVariants as questions;
+ghost use Rattle.lp_calling.specs.Jobs.{IsAsking, IsJobOn, IsReady, object_of};
+ghost use Rattle.lp_step.specs.Steps.{IsFit, KeepsVariables};
+ghost use Rattle.lp_world.specs.Closed.{IsClosed};
+ghost use Rattle.lp_world.specs.Rows.{row_at};
 ghost use Rattle.lp_asking.specs.Endings.{IsEndingThere};
-ghost use Rattle.lp_vm.specs.declared.fault.VmFault.TheVariants.{NoMemory};
+ghost use Rattle.lp_vm.specs.declared.fault.VmFault.TheVariants.{NoMemory, NotYet};
 ghost use Rattle.lp_vm.specs.Causes.{Tells, read_of};
-ghost use Rattle.lp_vm.specs.Jobs.{FedOn, Feeds, StepsTo};
-ghost use Rattle.lp_vm.specs.Working.{CanWork};
+ghost use Rattle.lp_vm.specs.Jobs.{AsksFor, FedOn, Feeds, IsStepThere, StepsTo};
+ghost use Rattle.lp_vm.specs.Working.{CanReach, CanWork};
 
-use crate::asking::reach;
+use crate::asking::{reach_catch_tell, reach_other};
 use crate::efuns::ending_of;
 use crate::fault::VmFault;
 use lp_asking::asker::Asker;
-use lp_asking::ending::Ending;
+use lp_asking::ending::{Ending, Place};
 use lp_asking::truth::Truthful;
 use lp_calling::feed::feed;
-use lp_calling::job::{Job, Step};
+use lp_calling::job::{Job, Question, Step};
 use lp_calling::next::{next, stop};
 use lp_reaching::reached::Reached;
 use lp_values::id::ObjId;
+use lp_values::text::Text;
 use lp_values::value::Value;
 use lp_world::live::Live;
 
@@ -29,6 +33,8 @@ pub enum Stepped {
     Ended(Ending),
     /// It asks what reaches this, with so many arguments on top of the stack.
     Asks(Option<Reached>, u32),
+    /// It asks for a load by this name.
+    Loads(Text),
 }
 
 /// A count of arguments as the machine has it.
@@ -45,24 +51,108 @@ fn count_of(n: usize) -> Result<u32, VmFault>
     }
 }
 
-/// A job goes on until it asks or ends. A function of this object called its efun.
+/// A question for a function of another object, with so many arguments.
+fn ask_other<W: Truthful>(
+    live: &mut Live,
+    swap: &mut W,
+    this: ObjId,
+    ob: ObjId,
+    name: &Text,
+    args: u32,
+) -> Result<Stepped, VmFault>
+    requires closed { IsClosed live.old }
+    requires object { IsSome (row_at live.old.objects ob.0) }
+    requires can { CanReach this (questions.Other ob name.now) (W.content swap.old) live.old }
+    ensures asks { IfOk result (λ r. AsksFor r this (questions.Other ob name.now) args (W.content swap.old) live.old (W.content swap.new) live.new) }
+    ensures there { IfOk result (IsStepThere live.new) }
+    ensures closed { IsClosed live.new }
+    ensures home { KeepsVariables live.old.objects live.new.objects }
+    ensures cells { live.new.cells ≡ live.old.cells }
+    ensures outputs { live.new.outputs ≡ live.old.outputs }
+    ensures yet { IfErr result (λ f. f ≡ NotYet → ⊥) }
+    ensures tells { Tells (W.content swap.new) (W.last swap.new) (W.read_faults swap.old) (W.read_faults swap.new) (W.write_faults swap.old) (W.write_faults swap.new)
+        (W.is_truthful swap.old) (W.is_truthful swap.new) (W.is_honest swap.old) (W.is_honest swap.new) live.new (read_of result) }
+{
+    let reached = reach_other(live, swap, this, ob, name)?;
+    Ok(Stepped::Asks(reached, args))
+}
+
+/// A question for `catch_tell` of an object, with so many arguments.
+fn ask_catch_tell<W: Truthful>(
+    live: &mut Live,
+    swap: &mut W,
+    this: ObjId,
+    ob: ObjId,
+    args: u32,
+) -> Result<Stepped, VmFault>
+    requires closed { IsClosed live.old }
+    requires object { IsSome (row_at live.old.objects ob.0) }
+    requires can { CanReach this (questions.CatchTell ob) (W.content swap.old) live.old }
+    ensures asks { IfOk result (λ r. AsksFor r this (questions.CatchTell ob) args (W.content swap.old) live.old (W.content swap.new) live.new) }
+    ensures there { IfOk result (IsStepThere live.new) }
+    ensures closed { IsClosed live.new }
+    ensures home { KeepsVariables live.old.objects live.new.objects }
+    ensures cells { live.new.cells ≡ live.old.cells }
+    ensures outputs { live.new.outputs ≡ live.old.outputs }
+    ensures yet { IfErr result (λ f. f ≡ NotYet → ⊥) }
+    ensures tells { Tells (W.content swap.new) (W.last swap.new) (W.read_faults swap.old) (W.read_faults swap.new) (W.write_faults swap.old) (W.write_faults swap.new)
+        (W.is_truthful swap.old) (W.is_truthful swap.new) (W.is_honest swap.old) (W.is_honest swap.new) live.new (read_of result) }
+{
+    let reached = reach_catch_tell(live, swap, this, ob)?;
+    Ok(Stepped::Asks(reached, args))
+}
+
+/// What a question of a job asks for, with so many arguments: what reaches a function, or a load. A function of this object called
+/// the job's efun. What is needed for a function comes into memory.
 ///
 /// # Errors
-/// `NoMemory`, `Swap` and `NotYet` as those of what it asks.
+/// `NoMemory` and `Swap` as where a running function asks.
+fn ask<W: Truthful>(
+    live: &mut Live,
+    swap: &mut W,
+    this: ObjId,
+    question: Question,
+    args: u32,
+) -> Result<Stepped, VmFault>
+    requires closed { IsClosed live.old }
+    requires object { IfSome (object_of question) (λ o. IsSome (row_at live.old.objects o.0)) }
+    requires can { CanReach this question (W.content swap.old) live.old }
+    ensures asks { IfOk result (λ r. AsksFor r this question args (W.content swap.old) live.old (W.content swap.new) live.new) }
+    ensures there { IfOk result (IsStepThere live.new) }
+    ensures closed { IsClosed live.new }
+    ensures home { KeepsVariables live.old.objects live.new.objects }
+    ensures cells { live.new.cells ≡ live.old.cells }
+    ensures outputs { live.new.outputs ≡ live.old.outputs }
+    ensures yet { IfErr result (λ f. f ≡ NotYet → ⊥) }
+    ensures tells { Tells (W.content swap.new) (W.last swap.new) (W.read_faults swap.old) (W.read_faults swap.new) (W.write_faults swap.old) (W.write_faults swap.new)
+        (W.is_truthful swap.old) (W.is_truthful swap.new) (W.is_honest swap.old) (W.is_honest swap.new) live.new (read_of result) }
+{
+    match question {
+        Question::Other(ob, name) => ask_other(live, swap, this, ob, &name, args),
+        Question::CatchTell(ob) => ask_catch_tell(live, swap, this, ob, args),
+        Question::Load(name) => Ok(Stepped::Loads(name)),
+    }
+}
+
+/// A job goes on until it asks or ends. The function at this place called its efun.
+///
+/// # Errors
+/// `NoMemory`, and `Swap` as that of what it asks.
 pub fn step_job<W: Truthful>(
     live: &mut Live,
     swap: &mut W,
     stack: &mut Vec<Value>,
     asker: &Asker,
-    this: ObjId,
+    at: Place,
     job: &mut Job,
     budget: &mut u64,
 ) -> Result<Stepped, VmFault>
     requires on { IsJobOn job.old stack.old.items }
     requires ready { IsReady live.old.objects job.old }
     requires fit { IsFit live.old stack.old.items }
-    requires can { CanWork this job.old (W.content swap.old) live.old stack.old.items asker.now budget.old }
-    ensures steps { IfOk result (λ r. StepsTo r this job.old (W.content swap.old) live.old stack.old.items asker.now budget.old job.new (W.content swap.new) live.new stack.new.items budget.new) }
+    requires can { CanWork at job.old (W.content swap.old) live.old stack.old.items asker.now budget.old }
+    ensures steps { IfOk result (λ r. StepsTo r at job.old (W.content swap.old) live.old stack.old.items asker.now budget.old job.new (W.content swap.new) live.new stack.new.items budget.new) }
+    ensures yet { IfErr result (λ f. f ≡ NotYet → ⊥) }
     ensures tells { Tells (W.content swap.new) (W.last swap.new) (W.read_faults swap.old) (W.read_faults swap.new) (W.write_faults swap.old) (W.write_faults swap.new)
         (W.is_truthful swap.old) (W.is_truthful swap.new) (W.is_honest swap.old) (W.is_honest swap.new) live.new (read_of result) }
 {
@@ -70,8 +160,7 @@ pub fn step_job<W: Truthful>(
         Step::Ends(answer) => Ok(Stepped::Ended(ending_of(answer))),
         Step::Asks(question, n) => {
             let args = count_of(n)?;
-            let reached = reach(live, swap, this, &question)?;
-            Ok(Stepped::Asks(reached, args))
+            ask(live, swap, at.this, question, args)
         }
     }
 }
@@ -92,7 +181,7 @@ pub fn feed_back(
     requires fit { IsFit live.now stack.old.items }
     requires there { IsEndingThere live.now.cells ending }
     ensures feeds { IfOk result (λ r. Feeds r ending job.old live.now stack.old.items job.new stack.new.items) }
-    ensures on { IfOk result (λ r. FedOn r job.old job.new stack.new.items) }
+    ensures on { IfOk result (λ r. FedOn r job.old job.new live.now stack.new.items) }
     ensures fit { OnOk result (IsFit live.now stack.new.items) }
     ensures same { IfOk result (λ r. IfSome r (λ e. e ≡ ending)) }
     ensures fault { IfErr result (λ f. f ≡ NoMemory) }

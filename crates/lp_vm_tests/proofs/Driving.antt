@@ -65,7 +65,7 @@ called old new stack rest was asker args budget left ob name e one d s n meant f
     let g = s.world in
     let a = asked_by g.world stack was budget ob name in
     let served = meant one.0 one.1 g.programs a [] (is_asked g.programs old g.world stack was args budget ob name d g.is n) (applies g.world stack was budget ob name d) in
-    record { world = record { programs = g.programs; world = served.outcome.world; is = served.is.world }; closed = fit.closed }
+    record { world = record { programs = served.is.programs; world = served.outcome.world; is = served.is.world }; closed = fit.closed }
 
 pub still_driver : (was asker : Asker) → IsSameAsker was asker → IsDriver was → IsDriver asker
 still_driver was asker same d = record { callers = same.callers ∙ d.callers; depth = same.depth ∙ d.depth }

@@ -21,6 +21,8 @@ pub mod loading;
 #[cfg(test)]
 mod modifiers;
 #[cfg(test)]
+mod names;
+#[cfg(test)]
 mod outside;
 pub mod playing;
 pub mod present;

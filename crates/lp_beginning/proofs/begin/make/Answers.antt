@@ -1,4 +1,4 @@
-use Rattle.std.proofs.Common.{ap, sym}
+use Rattle.std.proofs.Common.{ap, refl, sym}
 use Rattle.std.specs.Str.{chars}
 use Rattle.lp_language.specs.Course.{State}
 use Rattle.lp_meaning.specs.WorldSteps as steps
@@ -9,7 +9,8 @@ use Rattle.lp_world.specs.declared.live.Live.{Live}
 use Rattle.lp_making.specs.Objects.{zeros}
 use Rattle.std.specs.Prelude.{Some}
 use Rattle.lp_beginning.specs.Beginning.{IsRefusedFor}
-use Rattle.lp_beginning.proofs.Made.{fits_with, made_course, new_home, others_home, refused_so, same_home}
+use Rattle.lp_beginning.specs.declared.job.Making.{Making}
+use Rattle.lp_beginning.proofs.Made.{fits_with, made_course, new_home, others_home, parts_made, refused_so, same_home}
 use Rattle.std.proofs.Common.{subst}
 use Rattle.lp_beginning.proofs.begin.make.Goals as goal
 
@@ -19,7 +20,12 @@ returns-in-Ok-clause-made c = λ g by turn budget s f e.
     let name = chars c.args.name.now in
     let x = fits_with g c.args.live.now c.new_object.new.live turn budget s name c.args.version (zeros (variables_in (row_at c.args.live.now.versions c.args.version.0))) e0.after e0.stands f in
     let t : State = record s { world = steps.with_new_object s.world name c.args.version } in
-    (t, x.0, made_course g.told g.programs c.args.live.now c.args.kind c.in-Ok.object c.args.parts.items by s name c.args.version f.world.stands e0.serial e x.1)
+    let job : Making = record { kind = c.args.kind; object = c.in-Ok.object; parts = c.args.parts; done = 0 } in (
+      t,
+      x.0,
+      made_course g.told g.programs c.args.live.now c.args.kind c.in-Ok.object c.args.parts.items by s name c.args.version f.world.stands e0.serial e x.1,
+      parts_made g.told g.programs c.args.live.now s.world name c.args.version job f.world.stands e0.serial e refl,
+    )
 
 pub returns-in-Ok-clause-home : goal.returns-in-Ok-clause-home
 returns-in-Ok-clause-home c =

@@ -7,7 +7,7 @@ use Rattle.lp_efuns.specs.declared.answer.Answer.TheVariants as answers
 use Rattle.lp_calling.specs.declared.job.Begun.TheVariants as begun
 use Rattle.lp_calling.specs.Beginning.{Starts}
 use Rattle.std.specs.Str.{chars}
-use Rattle.lp_calling.proofs.Calling.{clone_unnamed, no_call_starts, unnamed_loads}
+use Rattle.lp_calling.proofs.Calling.{clone_unnamed, no_call_starts}
 use Rattle.lp_calling.proofs.call.begin_unnamed.Goals as goal
 
 pub returns-then-is_clone_name-clause-starts : goal.returns-then-is_clone_name-clause-starts
@@ -17,5 +17,5 @@ returns-then-is_clone_name-clause-starts c =
     (no_call_starts caller c.args.live.now c.args.low c.args.stack.now.items c.begin_error.new.stack.items k.1
     (clone_unnamed c.args.live.now (drop c.args.low c.args.stack.now.items) (chars c.args.name.now) c.requires.unnamed (sym c.is_clone_name.ensures ∙ c.if-is_clone_name.true)))) c.begin_error.ensures.ends
 
-pub returns-clause-yet : goal.returns-clause-yet
-returns-clause-yet c = λ q. unnamed_loads c.args.live.now (drop c.args.low c.args.stack.now.items) (chars c.args.name.now) c.requires.unnamed (sym c.is_clone_name.ensures ∙ c.if-is_clone_name.false)
+pub begin_target-requires-clause-other : goal.begin_target-requires-clause-other
+begin_target-requires-clause-other c = sym c.is_clone_name.ensures ∙ c.if-is_clone_name.false

@@ -12,6 +12,16 @@ returns-in-Call-clause-takes c =
     IfOk-weaker c.take_value.result _ _
     (λ t k. subst (λ s. StageTakes s c.args.v (live_in c.args.objects.now) c.args.low c.args.stack.now.items t c.take_value.new.stack.items) (sym c.in-Call.is) (k c.in-Call.field-0 c.in-Call.field-1 (live_in c.args.objects.now))) c.take_value.ensures.takes
 
+pub returns-in-Load-clause-takes : goal.returns-in-Load-clause-takes
+returns-in-Load-clause-takes c =
+    IfOk-weaker c.take_value-in-Load.result _ _
+    (λ t k. subst (λ s. StageTakes s c.args.v (live_in c.args.objects.now) c.args.low c.args.stack.now.items t c.take_value-in-Load.new.stack.items) (sym c.in-Load.is) (k c.in-Load.field-0 (live_in c.args.objects.now))) c.take_value-in-Load.ensures.loaded
+
+pub returns-in-Target-clause-takes : goal.returns-in-Target-clause-takes
+returns-in-Target-clause-takes c =
+    subst (λ s. StageTakes s c.args.v (live_in c.args.objects.now) c.args.low c.args.stack.now.items c.take_target.result c.args.stack.now.items) (sym c.in-Target.is)
+    (c.take_target.ensures.takes c.in-Target.field-0 c.args.low c.args.stack.now.items)
+
 pub returns-in-Tell-clause-takes : goal.returns-in-Tell-clause-takes
 returns-in-Tell-clause-takes c =
     subst (λ s. StageTakes s c.args.v (live_in c.args.objects.now) c.args.low c.args.stack.now.items stages.Zero c.args.stack.now.items) (sym c.in-Tell.is)

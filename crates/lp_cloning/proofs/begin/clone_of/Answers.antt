@@ -1,3 +1,7 @@
+use Rattle.std.proofs.Common.{IfErr}
+use Rattle.lp_meaning.specs.FileLoads.{clone_name}
+use Rattle.lp_cloning.specs.Faults.{IsTakenFor}
+use Rattle.lp_cloning.proofs.Telling.{taken_want, tells_either, tells_none}
 use Rattle.std.proofs.Common.{◌≡◌, ◌∙◌, ap, sym, false}
 use Rattle.std.specs.Prelude.{map}
 use Rattle.std.specs.Str.{chars}
@@ -31,4 +35,17 @@ returns-in-None-clause-starts g c =
     let name = chars (string_bytes c.args.name) in
     let plain : is_clone_name name ≡ false = ap (λ b. is_clone_name (chars b)) (sym c.as_str.ensures.value) ∙ sym c.if-is_clone_name.ensures in
     λ budget k by turn s q f.
-    (s, f, clone_lost k live turn budget s name by plain f (c.in-None.ensures (map named_of s.world.objects) f.world.stands.names ∙ ap (λ z. named.object_named (map named_of s.world.objects) (chars z)) c.as_str-2.ensures.value))
+    (s, f, clone_lost k live turn budget s name by plain f (c.in-None.ensures (map named_of s.world.objects) f.world.stands.names ∙ ap (λ z. named.object_named (map named_of s.world.objects) (chars z)) c.as_str-2.ensures.value), tt)
+
+pub returns-then-is_clone_name-clause-tells : goal.returns-then-is_clone_name-clause-tells
+returns-then-is_clone_name-clause-tells g c = tells_either (g.W.SwapFile.content c.args.swap.now) (g.W.SwapFile.last c.args.swap.now) (g.W.SwapFile.read_faults c.args.swap.now) (g.W.SwapFile.write_faults c.args.swap.now) (g.W.SwapFile.is_truthful c.args.swap.now) (g.W.SwapFile.is_honest c.args.swap.now) c.args.live.now c.error_begun.result c.error_begun.ensures.fault
+
+pub returns-then-is_clone_name-clause-refused : goal.returns-then-is_clone_name-clause-refused
+returns-then-is_clone_name-clause-refused g c = taken_want (g.W.SwapFile.content c.args.swap.now) c.args.live.now (λ w. clone_name w (chars (string_bytes c.args.name))) c.error_begun.result c.error_begun.ensures.fault
+
+pub returns-in-Some-clause-refused : goal.returns-in-Some-clause-refused
+returns-in-Some-clause-refused g c =
+    subst (λ t. IfErr c.clone_live.result (IsTakenFor (g.W.SwapFile.content c.args.swap.now) c.args.live.now (λ w. clone_name w (chars t)))) c.as_str-in-Some.ensures.value c.clone_live.ensures.refused
+
+pub returns-in-None-clause-tells : goal.returns-in-None-clause-tells
+returns-in-None-clause-tells g c = tells_none (g.W.SwapFile.content c.args.swap.now) (g.W.SwapFile.last c.args.swap.now) (g.W.SwapFile.read_faults c.args.swap.now) (g.W.SwapFile.write_faults c.args.swap.now) (g.W.SwapFile.is_truthful c.args.swap.now) (g.W.SwapFile.is_honest c.args.swap.now) c.args.live.now

@@ -1,3 +1,5 @@
+use Rattle.lp_meaning.specs.FileLoads.{clone_name}
+use Rattle.lp_cloning.proofs.Telling.{taken_want, tells_either}
 use Rattle.std.proofs.Common.{◌∙◌, sym}
 use Rattle.std.specs.Str.{chars}
 use Rattle.lp_values.specs.declared.error.ErrorKind.TheVariants.{NoClone}
@@ -30,4 +32,10 @@ returns-clause-starts g c =
     if_ok c.error_begun.result (λ r i.
     error_starts NoClone r (made_of name v) told live i
     (λ k by turn b s q f. uncloned_same name v by s (pragma_same k.told k.programs live s.world v x.0 f.world.stands f.world.compiled x.1 ∙ sym (c.if-not-is_no_clone.ensures x.0 x.1))))
-    c.error_begun.ensures
+    c.error_begun.ensures.error
+
+pub returns-clause-tells : goal.returns-clause-tells
+returns-clause-tells g c = tells_either (g.W.SwapFile.content c.args.swap.now) (g.W.SwapFile.last c.args.swap.now) (g.W.SwapFile.read_faults c.args.swap.now) (g.W.SwapFile.write_faults c.args.swap.now) (g.W.SwapFile.is_truthful c.args.swap.now) (g.W.SwapFile.is_honest c.args.swap.now) c.args.live.now c.error_begun.result c.error_begun.ensures.fault
+
+pub returns-clause-refused : goal.returns-clause-refused
+returns-clause-refused g c = taken_want (g.W.SwapFile.content c.args.swap.now) c.args.live.now (λ w. clone_name w (chars c.args.name.now)) c.error_begun.result c.error_begun.ensures.fault

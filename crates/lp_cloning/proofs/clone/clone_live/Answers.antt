@@ -1,3 +1,4 @@
+use Rattle.lp_cloning.proofs.Telling.{tells_no_memory}
 use Rattle.std.specs.Str.{chars}
 use Rattle.lp_meaning.specs.FileLoads.{cloning}
 use Rattle.lp_targets.proofs.Lookups.{if_ok}
@@ -15,3 +16,6 @@ returns-in-Some-clause-starts g c =
     starts_as r (made_of name c.in-Some.version) (λ by s. cloning by name c.args.o s) told live c.clone_version.new.live
     (λ k by turn b s q f. cloning_same k live turn b s name c.args.o x.0 c.in-Some.version by f x.1 x.2) h)
     c.clone_version.ensures.starts
+
+pub returns-in-None-clause-tells : goal.returns-in-None-clause-tells
+returns-in-None-clause-tells g c = tells_no_memory (g.W.SwapFile.content c.args.swap.now) (g.W.SwapFile.last c.args.swap.now) (g.W.SwapFile.read_faults c.args.swap.now) (g.W.SwapFile.write_faults c.args.swap.now) (g.W.SwapFile.is_truthful c.args.swap.now) (g.W.SwapFile.is_honest c.args.swap.now) c.args.live.now

@@ -1,3 +1,5 @@
+use Rattle.lp_meaning.specs.FileLoads.{clone_name}
+use Rattle.lp_cloning.proofs.Telling.{taken_want, tells_either}
 use Rattle.std.proofs.Common.{sym, true, false}
 use Rattle.std.specs.Prelude.{map}
 use Rattle.std.specs.Str.{chars}
@@ -29,4 +31,10 @@ returns-clause-starts g c =
     if_ok c.error_begun.result (λ r i.
     error_starts TooMany r (made_roomy name v) told live i
     (λ k by turn b s q f. full_same name v by s (sym (room_told k.told k.programs live s.world false f.world.stands (c.if-has_room.ensures (map named_of s.world.objects) f.world.stands.names)))))
-    c.error_begun.ensures
+    c.error_begun.ensures.error
+
+pub returns-clause-tells : goal.returns-clause-tells
+returns-clause-tells g c = tells_either (g.W.SwapFile.content c.args.swap.now) (g.W.SwapFile.last c.args.swap.now) (g.W.SwapFile.read_faults c.args.swap.now) (g.W.SwapFile.write_faults c.args.swap.now) (g.W.SwapFile.is_truthful c.args.swap.now) (g.W.SwapFile.is_honest c.args.swap.now) c.args.live.now c.error_begun.result c.error_begun.ensures.fault
+
+pub returns-clause-refused : goal.returns-clause-refused
+returns-clause-refused g c = taken_want (g.W.SwapFile.content c.args.swap.now) c.args.live.now (λ w. clone_name w (chars c.args.name.now)) c.error_begun.result c.error_begun.ensures.fault

@@ -1,3 +1,5 @@
+use Rattle.lp_meaning.specs.FileLoads.{clone_name}
+use Rattle.lp_cloning.proofs.Telling.{taken_want, tells_either}
 use Rattle.std.specs.Str.{chars}
 use Rattle.lp_values.specs.declared.error.ErrorKind.TheVariants.{BadTarget}
 use Rattle.lp_meaning.specs.FileLoads.{cloning}
@@ -24,4 +26,10 @@ returns-clause-starts g c =
     let name = chars c.args.name.now in
     if_ok c.error_begun.result (λ r i.
     error_starts BadTarget r (λ by s. clone_loaded by name c.args.v s) told live i (λ k by turn b s q f. loaded_none k live turn b s name c.args.v by f c.in-None.ensures))
-    c.error_begun.ensures
+    c.error_begun.ensures.error
+
+pub returns-clause-tells : goal.returns-clause-tells
+returns-clause-tells g c = tells_either (g.W.SwapFile.content c.args.swap.now) (g.W.SwapFile.last c.args.swap.now) (g.W.SwapFile.read_faults c.args.swap.now) (g.W.SwapFile.write_faults c.args.swap.now) (g.W.SwapFile.is_truthful c.args.swap.now) (g.W.SwapFile.is_honest c.args.swap.now) c.args.live.now c.error_begun.result c.error_begun.ensures.fault
+
+pub returns-clause-refused : goal.returns-clause-refused
+returns-clause-refused g c = taken_want (g.W.SwapFile.content c.args.swap.now) c.args.live.now (λ w. clone_name w (chars c.args.name.now)) c.error_begun.result c.error_begun.ensures.fault

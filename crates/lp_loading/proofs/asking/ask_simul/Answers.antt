@@ -1,5 +1,5 @@
 use Rattle.lp_loading.proofs.SimulFirst.{simul_goes}
 use Rattle.lp_loading.proofs.asking.ask_simul.Goals as goal
 
-pub returns : goal.returns
-returns c = λ job loads told live budget turn m. simul_goes job loads told live budget turn c.args.name m
+pub returns-clause-goes : goal.returns-clause-goes
+returns-clause-goes c = λ job loads told live budget turn m. simul_goes job loads told live budget turn c.args.name m

@@ -2,6 +2,7 @@ use Rattle.std.proofs.Common.{◌<◌}
 use Rattle.lp_loading.specs.Present.{all_made, out_count}
 use Rattle.lp_loading.proofs.Parents.{is_unknown, made_found, refused_found}
 use Rattle.lp_loading.proofs.Worlds.{worlds_are_ready}
+use Rattle.lp_loading.proofs.Brought.{none_brought}
 use Rattle.lp_loading.proofs.compiling.attempt.Goals as goal
 
 pub compile_present-requires : goal.compile_present-requires
@@ -20,3 +21,6 @@ returns-in-Err-clause-found g c =
     let e = c.refused.ensures in
     refused_found c.law_compiled_is_sound.ensures c.law_refused_is_told.ensures c.law_stores_are_read.ensures c.law_files_are_of_names.ensures (g.W.SwapFile.content c.args.swap.now) (g.W.SwapFile.content c.refused.new.swap) c.args.live.now c.refused.new.live
     (all_made c.args.made.now) c.args.path.now c.args.own c.args.simuls.now c.in-Err.fault c.refused.result (out_count c.refused.new.live.versions < out_count c.args.live.now.versions) c.in-Err.ensures.fault e.worlds e.store e.found
+
+pub returns-in-Ok-clause-brings : goal.returns-in-Ok-clause-brings
+returns-in-Ok-clause-brings g c = none_brought (g.W.SwapFile.content c.args.swap.now) (g.W.SwapFile.last c.args.swap.now) (g.W.SwapFile.read_faults c.args.swap.now) (g.W.SwapFile.write_faults c.args.swap.now) (g.W.SwapFile.is_truthful c.args.swap.now) (g.W.SwapFile.is_honest c.args.swap.now) c.args.live.now

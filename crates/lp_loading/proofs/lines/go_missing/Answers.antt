@@ -35,5 +35,5 @@ pub returns-clause-goes : goal.returns-clause-goes
 returns-clause-goes c =
     let letters = c.as_slice.ensures.value ∙ c.in_ok-letters.ensures ∙ ap chars c.as_str.ensures ∙ chars-IsAscii c.in_ok-name.name c.in_ok-name.ensures.ascii in
     λ told0 live0 told1 budget turn h.
-    c.in_ok-ask_missing.ensures c.args.file.now c.args.job.now c.args.loads.now told0 live0 told1 c.args.live.now budget turn h c.in_ok-name.ensures.file
+    c.in_ok-ask_missing.ensures.goes c.args.file.now c.args.job.now c.args.loads.now told0 live0 told1 c.args.live.now budget turn h c.in_ok-name.ensures.file
     (ap (λ x. is_under_way x (loads_of c.args.loads.now)) (sym letters) ∙ sym c.is_under_way.ensures ∙ c.if-is_under_way.false) (sym c.is_too_deep.ensures ∙ c.if-is_too_deep.false)

@@ -1,20 +1,56 @@
-use Rattle.std.proofs.Common.{◌≡◌, None, arith, subst}
-use Rattle.std.specs.Prelude.{IfSome}
+use Rattle.std.proofs.Common.{◌≡◌, None, Some, arith, subst, ◌∙◌, All, ap, refl, sym, Option, ℕ}
+use Rattle.std.specs.Prelude.{IfSome, IsSome}
 use Rattle.std.proofs.Math.Nat.{le_refl, le_trans}
 use Rattle.lp_run.proofs.Together.{home_later, home_same}
-use Rattle.lp_step.specs.Steps.{IsFit}
+use Rattle.lp_step.specs.Steps.{IsFit, KeepsVariables}
 use Rattle.lp_asking.specs.Resuming.{Resumes}
 use Rattle.lp_vm.specs.Beginning.{HasEntered, Starts}
-use Rattle.lp_vm.specs.Efuns.{HasBegunEfun, StartsEfun}
-use Rattle.lp_vm.specs.Jobs.{FedOn, Feeds, StepsTo, WorkAsks}
+use Rattle.lp_vm.specs.declared.request.Request.TheVariants as requests
+use Rattle.lp_vm.specs.Cycle.{Answers}
+use Rattle.lp_vm.specs.Efuns.{HasBegunEfun}
+use Rattle.lp_vm.specs.Looking.{BeginsEfun}
+use Rattle.lp_asking.specs.Endings.{IsEndingThere}
+use Rattle.lp_vm.specs.Jobs.{FedOn, Feeds, StepsTo, WorkAsks, WorkLoads}
 use Rattle.lp_vm.specs.Turns.{Calls, Halts}
-use Rattle.lp_vm.specs.Working.{WorkContinues}
-use Rattle.lp_vm.proofs.Workings.{asked_ends, can_work_on, works_later, works_more, works_same}
+use Rattle.lp_vm.specs.Working.{CanWork, WorkContinues}
+use Rattle.lp_vm.proofs.Workings.{asked_ends, can_work_on, loaded_ends, works_later, works_more, works_same}
 use Rattle.lp_targets.proofs.Lookups.{if_ok}
-use Rattle.lp_vm.proofs.Causing.{tells_more, tells_nothing}
+use Rattle.lp_vm.proofs.Causing.{tells_more, tells_nothing, read_exit}
 use Rattle.lp_vm.proofs.Cycling.{call_can, call_continues, call_finishes, finishes_later}
 use Rattle.lp_vm.proofs.Enterings.{goes_on_more, goes_on_same}
 use Rattle.lp_vm.proofs.Startings.{same_asker, same_later}
+use Rattle.std.specs.Str.{IsAscii}
+use Rattle.lp_cells.specs.Cells.{IsThere}
+use Rattle.lp_efuns.specs.declared.caller.Turn.{Turn}
+use Rattle.lp_swapfile.specs.Device.{Bytes}
+use Rattle.lp_world.specs.Rows.{variables_at}
+use Rattle.lp_loading.specs.declared.job.Fed.TheVariants as fed
+use Rattle.lp_loading.specs.declared.job.Going.TheVariants as goings
+use Rattle.lp_loading.specs.declared.job.LoadJob.{LoadJob}
+use Rattle.lp_loading.specs.declared.job.Purpose.TheVariants as purposes
+use Rattle.lp_loading.specs.declared.job.Step.TheVariants as steps
+use Rattle.lp_loading.specs.Going.{Takes}
+use Rattle.lp_loading.specs.Loads.{turns_left}
+use Rattle.lp_loading.specs.Steps.{EndsThere, GoesReading, MakesHome}
+use Rattle.lp_vm.specs.Loading.{BeginsLoad, CannotPay, LeadsOn, LoadBegins, LoadContinues, Loads, LoadsOn}
+use Rattle.lp_vm.proofs.Loads.{can_load_on, load_ascii, load_can_ask, load_can_go, load_can_make, load_ended, load_ends, load_goes, load_lies, load_made, load_paid, load_unpaid, load_went, loads_later, loads_more, loads_same}
+use Rattle.lp_values.specs.declared.id.ObjId.{ObjId}
+use Rattle.lp_vm.specs.Causes.{Tells}
+use Rattle.lp_vm.specs.Making.{MakeContinues}
+use Rattle.lp_vm.proofs.Makings.{can_make_on, make_can, make_ends, make_goes, make_lies, make_stands, makes_later, makes_more, still_there}
+use Rattle.lp_beginning.specs.Feeding as feeding
+use Rattle.std.specs.Str.{chars}
+use Rattle.std.specs.String.{string_bytes}
+use Rattle.lp_instr.specs.declared.efun.Efun.TheVariants as efuns
+use Rattle.lp_cloning.specs.declared.job.Begun.TheVariants as begun
+use Rattle.lp_cloning.specs.declared.job.Cloning.TheVariants as stages
+use Rattle.lp_cloning.specs.Beginning.{Begins, IsHome, IsReady}
+use Rattle.lp_cloning.specs.Feeding.{LoadedAs}
+use Rattle.lp_vm.specs.declared.request.Request.TheVariants as requests
+use Rattle.lp_vm.specs.Cloning.{CanClone, Clones, IsBegunThere}
+use Rattle.lp_vm.specs.Cycle.{Answers}
+use Rattle.lp_vm.specs.Loaded.{loaded_ending}
+use Rattle.lp_vm.proofs.Clones.{clone_answered, clone_answers, clone_can, clone_can_make, clone_load_can, clone_load_ends, clone_load_goes, clone_load_stands, clone_made}
 use Rattle.lp_vm.proofs.cycle.+calls.Goals as goal
 
 pub answer-start-requires-clause-can : goal.answer-start-requires-clause-can
@@ -104,25 +140,24 @@ go-turns-preserved g t c =
 
 -- Efuns
 
-pub call_efun-begin_efun-requires-clause-can : goal.call_efun-begin_efun-requires-clause-can
-call_efun-begin_efun-requires-clause-can g t c = (g.W.SwapFile.content c.args.swap.now, c.requires.can)
-
 pub call_efun-returns-in-Answered-clause-answers : goal.call_efun-returns-in-Answered-clause-answers
-call_efun-returns-in-Answered-clause-answers g t c =
-    subst (λ r. StartsEfun r c.args.this c.args.efun c.args.args c.args.live.now c.args.stack.now.items c.args.asker.now c.args.budget.now c.begin_efun.new.live c.begin_efun.new.stack.items c.begin_efun.new.asker c.begin_efun.new.budget) c.in-Answered.is c.in_ok-ending.ensures.starts (g.W.SwapFile.content c.args.swap.now)
+call_efun-returns-in-Answered-clause-answers g t c = subst (λ r. BeginsEfun r c.args.at c.args.efun c.args.args (g.W.SwapFile.content c.args.swap.now) c.args.live.now c.args.stack.now.items c.args.asker.now c.args.budget.now (g.W.SwapFile.content c.start_efun.new.swap) c.start_efun.new.live c.start_efun.new.stack.items c.start_efun.new.asker c.start_efun.new.budget) c.in-Answered.is c.in_ok-ending.ensures.begins
 
 pub call_efun-work-requires : goal.call_efun-work-requires
 call_efun-work-requires g t c =
-    let h : HasBegunEfun c.args.this c.args.efun c.args.args c.args.live.now c.args.stack.now.items c.args.asker.now c.args.budget.now c.in-Works.job c.begin_efun.new.live c.begin_efun.new.stack.items c.begin_efun.new.asker c.begin_efun.new.budget =
-    subst (λ r. StartsEfun r c.args.this c.args.efun c.args.args c.args.live.now c.args.stack.now.items c.args.asker.now c.args.budget.now c.begin_efun.new.live c.begin_efun.new.stack.items c.begin_efun.new.asker c.begin_efun.new.budget) c.in-Works.is c.in_ok-ending.ensures.starts in
-    let less = h.spends in
-    λ κs within. (omega (arith, less), (within, (h.on, (h.ready, (h.fit, h.can (g.W.SwapFile.content c.args.swap.now) c.requires.can)))))
+    let h : (g.W.SwapFile.content c.start_efun.new.swap ≡ g.W.SwapFile.content c.args.swap.now) × HasBegunEfun c.args.at c.args.efun c.args.args c.args.live.now c.args.stack.now.items c.args.asker.now c.args.budget.now c.in-Works.job c.start_efun.new.live c.start_efun.new.stack.items c.start_efun.new.asker c.start_efun.new.budget =
+    subst (λ r. BeginsEfun r c.args.at c.args.efun c.args.args (g.W.SwapFile.content c.args.swap.now) c.args.live.now c.args.stack.now.items c.args.asker.now c.args.budget.now (g.W.SwapFile.content c.start_efun.new.swap) c.start_efun.new.live c.start_efun.new.stack.items c.start_efun.new.asker c.start_efun.new.budget) c.in-Works.is c.in_ok-ending.ensures.begins in
+    let less = h.1.spends in
+    λ κs within. (omega (arith, less), (within, (h.1.on, (h.1.ready, (h.1.fit, subst (λ x. CanWork c.args.at c.in-Works.job x c.start_efun.new.live c.start_efun.new.stack.items c.start_efun.new.asker c.start_efun.new.budget) (sym h.0) (h.1.can (g.W.SwapFile.content c.args.swap.now) c.requires.can))))))
 
 pub call_efun-returns-in-Works-clause-answers : goal.call_efun-returns-in-Works-clause-answers
 call_efun-returns-in-Works-clause-answers g t c =
-    let h : HasBegunEfun c.args.this c.args.efun c.args.args c.args.live.now c.args.stack.now.items c.args.asker.now c.args.budget.now c.in-Works.job c.begin_efun.new.live c.begin_efun.new.stack.items c.begin_efun.new.asker c.begin_efun.new.budget =
-    subst (λ r. StartsEfun r c.args.this c.args.efun c.args.args c.args.live.now c.args.stack.now.items c.args.asker.now c.args.budget.now c.begin_efun.new.live c.begin_efun.new.stack.items c.begin_efun.new.asker c.begin_efun.new.budget) c.in-Works.is c.in_ok-ending.ensures.starts in
-    if_ok c.work.result (λ e works. h.answers (g.W.SwapFile.content c.args.swap.now) (g.W.SwapFile.content c.work.new.swap) c.work.new.live c.work.new.stack.items c.work.new.asker c.work.new.budget e works) c.work.ensures.works
+    let h : (g.W.SwapFile.content c.start_efun.new.swap ≡ g.W.SwapFile.content c.args.swap.now) × HasBegunEfun c.args.at c.args.efun c.args.args c.args.live.now c.args.stack.now.items c.args.asker.now c.args.budget.now c.in-Works.job c.start_efun.new.live c.start_efun.new.stack.items c.start_efun.new.asker c.start_efun.new.budget =
+    subst (λ r. BeginsEfun r c.args.at c.args.efun c.args.args (g.W.SwapFile.content c.args.swap.now) c.args.live.now c.args.stack.now.items c.args.asker.now c.args.budget.now (g.W.SwapFile.content c.start_efun.new.swap) c.start_efun.new.live c.start_efun.new.stack.items c.start_efun.new.asker c.start_efun.new.budget) c.in-Works.is c.in_ok-ending.ensures.begins in
+    if_ok c.work.result
+    (λ e works. subst (λ x. Answers (requests.Efun c.args.at c.args.efun) c.args.args x c.args.live.now c.args.stack.now.items c.args.asker.now c.args.budget.now (g.W.SwapFile.content c.work.new.swap) c.work.new.live c.work.new.stack.items c.work.new.asker c.work.new.budget e) h.0
+    (h.1.answers (g.W.SwapFile.content c.start_efun.new.swap) (g.W.SwapFile.content c.work.new.swap) c.work.new.live c.work.new.stack.items c.work.new.asker c.work.new.budget e works))
+    c.work.ensures.works
 
 -- Jobs
 
@@ -136,72 +171,432 @@ work-questions-init g t c = record {
   spends = le_refl c.args.budget.now;
   home = home_same c.args.live.now.objects;
   tells = tells_nothing (g.W.SwapFile.content c.args.swap.now) (g.W.SwapFile.last c.args.swap.now) (g.W.SwapFile.read_faults c.args.swap.now) (g.W.SwapFile.write_faults c.args.swap.now) (g.W.SwapFile.is_truthful c.args.swap.now) (g.W.SwapFile.is_honest c.args.swap.now) c.args.live.now;
-  goes = works_same c.args.this c.args.job (g.W.SwapFile.content c.args.swap.now) c.args.live.now c.args.stack.now.items c.args.asker.now c.args.budget.now;
+  goes = works_same c.args.at c.args.job (g.W.SwapFile.content c.args.swap.now) c.args.live.now c.args.stack.now.items c.args.asker.now c.args.budget.now;
 }
 
 pub work-returns-in-Ended-clause-works : goal.work-returns-in-Ended-clause-works
 work-returns-in-Ended-clause-works g t c =
-    works_later c.args.this c.args.job c.questions.job (g.W.SwapFile.content c.args.swap.now) (g.W.SwapFile.content c.questions.swap) (g.W.SwapFile.content c.step_job.new.swap) c.args.live.now c.questions.live c.step_job.new.live c.args.stack.now.items c.questions.stack.items c.step_job.new.stack.items
+    works_later c.args.at c.args.job c.questions.job (g.W.SwapFile.content c.args.swap.now) (g.W.SwapFile.content c.questions.swap) (g.W.SwapFile.content c.step_job.new.swap) c.args.live.now c.questions.live c.step_job.new.live c.args.stack.now.items c.questions.stack.items c.step_job.new.stack.items
     c.args.asker.now c.questions.asker c.questions.asker c.args.budget.now c.questions.budget c.step_job.new.budget c.in-Ended.ending c.questions.invariant.goes c.questions.invariant.same c.questions.invariant.spends c.questions.invariant.home
-    (subst (λ x. StepsTo x c.args.this c.questions.job (g.W.SwapFile.content c.questions.swap) c.questions.live c.questions.stack.items c.questions.asker c.questions.budget c.step_job.new.job (g.W.SwapFile.content c.step_job.new.swap) c.step_job.new.live c.step_job.new.stack.items c.step_job.new.budget) c.in-Ended.is c.in_ok-ending.ensures.steps)
+    (subst (λ x. StepsTo x c.args.at c.questions.job (g.W.SwapFile.content c.questions.swap) c.questions.live c.questions.stack.items c.questions.asker c.questions.budget c.step_job.new.job (g.W.SwapFile.content c.step_job.new.swap) c.step_job.new.live c.step_job.new.stack.items c.step_job.new.budget) c.in-Ended.is c.in_ok-ending.ensures.steps)
 
 pub work-answer-requires : goal.work-answer-requires
 work-answer-requires g t c =
-    let k : WorkAsks c.in-Asks.reached c.in-Asks.args c.args.this c.questions.job (g.W.SwapFile.content c.questions.swap) c.questions.live c.questions.stack.items c.questions.asker c.questions.budget c.step_job.new.job (g.W.SwapFile.content c.step_job.new.swap) c.step_job.new.live c.step_job.new.stack.items c.step_job.new.budget =
-    subst (λ x. StepsTo x c.args.this c.questions.job (g.W.SwapFile.content c.questions.swap) c.questions.live c.questions.stack.items c.questions.asker c.questions.budget c.step_job.new.job (g.W.SwapFile.content c.step_job.new.swap) c.step_job.new.live c.step_job.new.stack.items c.step_job.new.budget) c.in-Asks.is c.in_ok-ending.ensures.steps in
+    let k : WorkAsks c.in-Asks.reached c.in-Asks.args c.args.at c.questions.job (g.W.SwapFile.content c.questions.swap) c.questions.live c.questions.stack.items c.questions.asker c.questions.budget c.step_job.new.job (g.W.SwapFile.content c.step_job.new.swap) c.step_job.new.live c.step_job.new.stack.items c.step_job.new.budget =
+    subst (λ x. StepsTo x c.args.at c.questions.job (g.W.SwapFile.content c.questions.swap) c.questions.live c.questions.stack.items c.questions.asker c.questions.budget c.step_job.new.job (g.W.SwapFile.content c.step_job.new.swap) c.step_job.new.live c.step_job.new.stack.items c.step_job.new.budget) c.in-Asks.is c.in_ok-ending.ensures.steps in
     let less = k.spends in
     let more = c.questions.invariant.spends in
     λ κs within. (omega (arith, less, more), (within, (k.fit, k.can c.questions.invariant.can)))
 
 pub work-feed_back-requires-clause-on : goal.work-feed_back-requires-clause-on
 work-feed_back-requires-clause-on g t c =
-    let k : WorkAsks c.in-Asks.reached c.in-Asks.args c.args.this c.questions.job (g.W.SwapFile.content c.questions.swap) c.questions.live c.questions.stack.items c.questions.asker c.questions.budget c.step_job.new.job (g.W.SwapFile.content c.step_job.new.swap) c.step_job.new.live c.step_job.new.stack.items c.step_job.new.budget =
-    subst (λ x. StepsTo x c.args.this c.questions.job (g.W.SwapFile.content c.questions.swap) c.questions.live c.questions.stack.items c.questions.asker c.questions.budget c.step_job.new.job (g.W.SwapFile.content c.step_job.new.swap) c.step_job.new.live c.step_job.new.stack.items c.step_job.new.budget) c.in-Asks.is c.in_ok-ending.ensures.steps in
+    let k : WorkAsks c.in-Asks.reached c.in-Asks.args c.args.at c.questions.job (g.W.SwapFile.content c.questions.swap) c.questions.live c.questions.stack.items c.questions.asker c.questions.budget c.step_job.new.job (g.W.SwapFile.content c.step_job.new.swap) c.step_job.new.live c.step_job.new.stack.items c.step_job.new.budget =
+    subst (λ x. StepsTo x c.args.at c.questions.job (g.W.SwapFile.content c.questions.swap) c.questions.live c.questions.stack.items c.questions.asker c.questions.budget c.step_job.new.job (g.W.SwapFile.content c.step_job.new.swap) c.step_job.new.live c.step_job.new.stack.items c.step_job.new.budget) c.in-Asks.is c.in_ok-ending.ensures.steps in
     k.on (g.W.SwapFile.content c.answer.new.swap) c.answer.new.live c.answer.new.stack.items c.answer.new.asker c.answer.new.budget c.in_ok-ending-in-Asks.ending c.questions.invariant.can c.in_ok-ending-in-Asks.ensures.answers
 
 pub work-feed_back-requires-clause-asking : goal.work-feed_back-requires-clause-asking
 work-feed_back-requires-clause-asking g t c =
-    let k : WorkAsks c.in-Asks.reached c.in-Asks.args c.args.this c.questions.job (g.W.SwapFile.content c.questions.swap) c.questions.live c.questions.stack.items c.questions.asker c.questions.budget c.step_job.new.job (g.W.SwapFile.content c.step_job.new.swap) c.step_job.new.live c.step_job.new.stack.items c.step_job.new.budget =
-    subst (λ x. StepsTo x c.args.this c.questions.job (g.W.SwapFile.content c.questions.swap) c.questions.live c.questions.stack.items c.questions.asker c.questions.budget c.step_job.new.job (g.W.SwapFile.content c.step_job.new.swap) c.step_job.new.live c.step_job.new.stack.items c.step_job.new.budget) c.in-Asks.is c.in_ok-ending.ensures.steps in
+    let k : WorkAsks c.in-Asks.reached c.in-Asks.args c.args.at c.questions.job (g.W.SwapFile.content c.questions.swap) c.questions.live c.questions.stack.items c.questions.asker c.questions.budget c.step_job.new.job (g.W.SwapFile.content c.step_job.new.swap) c.step_job.new.live c.step_job.new.stack.items c.step_job.new.budget =
+    subst (λ x. StepsTo x c.args.at c.questions.job (g.W.SwapFile.content c.questions.swap) c.questions.live c.questions.stack.items c.questions.asker c.questions.budget c.step_job.new.job (g.W.SwapFile.content c.step_job.new.swap) c.step_job.new.live c.step_job.new.stack.items c.step_job.new.budget) c.in-Asks.is c.in_ok-ending.ensures.steps in
     k.asking
 
 pub work-returns-in-Some-clause-works : goal.work-returns-in-Some-clause-works
 work-returns-in-Some-clause-works g t c =
-    let k : WorkAsks c.in-Asks.reached c.in-Asks.args c.args.this c.questions.job (g.W.SwapFile.content c.questions.swap) c.questions.live c.questions.stack.items c.questions.asker c.questions.budget c.step_job.new.job (g.W.SwapFile.content c.step_job.new.swap) c.step_job.new.live c.step_job.new.stack.items c.step_job.new.budget =
-    subst (λ x. StepsTo x c.args.this c.questions.job (g.W.SwapFile.content c.questions.swap) c.questions.live c.questions.stack.items c.questions.asker c.questions.budget c.step_job.new.job (g.W.SwapFile.content c.step_job.new.swap) c.step_job.new.live c.step_job.new.stack.items c.step_job.new.budget) c.in-Asks.is c.in_ok-ending.ensures.steps in
-    works_later c.args.this c.args.job c.questions.job (g.W.SwapFile.content c.args.swap.now) (g.W.SwapFile.content c.questions.swap) (g.W.SwapFile.content c.answer.new.swap) c.args.live.now c.questions.live c.answer.new.live c.args.stack.now.items c.questions.stack.items c.feed_back.new.stack.items
+    let k : WorkAsks c.in-Asks.reached c.in-Asks.args c.args.at c.questions.job (g.W.SwapFile.content c.questions.swap) c.questions.live c.questions.stack.items c.questions.asker c.questions.budget c.step_job.new.job (g.W.SwapFile.content c.step_job.new.swap) c.step_job.new.live c.step_job.new.stack.items c.step_job.new.budget =
+    subst (λ x. StepsTo x c.args.at c.questions.job (g.W.SwapFile.content c.questions.swap) c.questions.live c.questions.stack.items c.questions.asker c.questions.budget c.step_job.new.job (g.W.SwapFile.content c.step_job.new.swap) c.step_job.new.live c.step_job.new.stack.items c.step_job.new.budget) c.in-Asks.is c.in_ok-ending.ensures.steps in
+    works_later c.args.at c.args.job c.questions.job (g.W.SwapFile.content c.args.swap.now) (g.W.SwapFile.content c.questions.swap) (g.W.SwapFile.content c.answer.new.swap) c.args.live.now c.questions.live c.answer.new.live c.args.stack.now.items c.questions.stack.items c.feed_back.new.stack.items
     c.args.asker.now c.questions.asker c.answer.new.asker c.args.budget.now c.questions.budget c.answer.new.budget c.in-Some.ending c.questions.invariant.goes c.questions.invariant.same c.questions.invariant.spends c.questions.invariant.home
-    (asked_ends c.args.this c.questions.job c.step_job.new.job c.feed_back.new.job c.in-Asks.reached c.in-Asks.args (g.W.SwapFile.content c.questions.swap) (g.W.SwapFile.content c.step_job.new.swap) (g.W.SwapFile.content c.answer.new.swap) c.questions.live c.step_job.new.live c.answer.new.live
+    (asked_ends c.args.at c.questions.job c.step_job.new.job c.feed_back.new.job c.in-Asks.reached c.in-Asks.args (g.W.SwapFile.content c.questions.swap) (g.W.SwapFile.content c.step_job.new.swap) (g.W.SwapFile.content c.answer.new.swap) c.questions.live c.step_job.new.live c.answer.new.live
     c.questions.stack.items c.step_job.new.stack.items c.answer.new.stack.items c.feed_back.new.stack.items c.questions.asker c.answer.new.asker c.questions.budget c.step_job.new.budget c.answer.new.budget c.in_ok-ending-in-Asks.ending c.in-Some.ending k c.in_ok-ending-in-Asks.ensures.answers
     (subst (λ r. Feeds r c.in_ok-ending-in-Asks.ending c.step_job.new.job c.answer.new.live c.answer.new.stack.items c.feed_back.new.job c.feed_back.new.stack.items) c.in-Some.is c.in_ok-ending-in-Asks-2.ensures.feeds)
     (subst (λ r. IfSome r (λ e. e ≡ c.in_ok-ending-in-Asks.ending)) c.in-Some.is c.in_ok-ending-in-Asks-2.ensures.same) c.in_ok-ending-in-Asks-2.ensures.fit)
 
+pub work-questions-preserved-in_default : goal.work-questions-preserved-in_default
+work-questions-preserved-in_default g t c =
+    let k : WorkAsks c.in-Asks.reached c.in-Asks.args c.args.at c.questions.job (g.W.SwapFile.content c.questions.swap) c.questions.live c.questions.stack.items c.questions.asker c.questions.budget c.step_job.new.job (g.W.SwapFile.content c.step_job.new.swap) c.step_job.new.live c.step_job.new.stack.items c.step_job.new.budget =
+    subst (λ x. StepsTo x c.args.at c.questions.job (g.W.SwapFile.content c.questions.swap) c.questions.live c.questions.stack.items c.questions.asker c.questions.budget c.step_job.new.job (g.W.SwapFile.content c.step_job.new.swap) c.step_job.new.live c.step_job.new.stack.items c.step_job.new.budget) c.in-Asks.is c.in_ok-ending.ensures.steps in
+    let on : FedOn None c.step_job.new.job c.feed_back.new.job c.answer.new.live c.feed_back.new.stack.items = subst (λ r. FedOn r c.step_job.new.job c.feed_back.new.job c.answer.new.live c.feed_back.new.stack.items) c.in_default.is c.in_ok-ending-in-Asks-2.ensures.on in
+    let more : WorkContinues c.args.at c.questions.job (g.W.SwapFile.content c.questions.swap) c.questions.live c.questions.stack.items c.questions.asker c.questions.budget c.feed_back.new.job (g.W.SwapFile.content c.answer.new.swap) c.answer.new.live c.feed_back.new.stack.items c.answer.new.asker c.answer.new.budget =
+    k.turns c.feed_back.new.job (g.W.SwapFile.content c.answer.new.swap) c.answer.new.live c.answer.new.stack.items c.feed_back.new.stack.items c.answer.new.asker c.answer.new.budget c.in_ok-ending-in-Asks.ending None c.in_ok-ending-in-Asks.ensures.answers
+    (subst (λ r. Feeds r c.in_ok-ending-in-Asks.ending c.step_job.new.job c.answer.new.live c.answer.new.stack.items c.feed_back.new.job c.feed_back.new.stack.items) c.in_default.is c.in_ok-ending-in-Asks-2.ensures.feeds) in
+    record {
+      can = can_work_on c.args.at c.questions.job c.feed_back.new.job (g.W.SwapFile.content c.questions.swap) (g.W.SwapFile.content c.answer.new.swap) c.questions.live c.answer.new.live c.questions.stack.items c.feed_back.new.stack.items c.questions.asker c.answer.new.asker c.questions.budget c.answer.new.budget c.questions.invariant.can more;
+      on = on.0;
+      ready = on.1;
+      fit = c.in_ok-ending-in-Asks-2.ensures.fit;
+      same = same_later c.args.asker.now c.questions.asker c.answer.new.asker c.questions.invariant.same c.in_ok-ending-in-Asks.ensures.answers.same;
+      spends = le_trans (le_trans c.in_ok-ending-in-Asks.ensures.answers.spends k.spends) c.questions.invariant.spends;
+      home = home_later c.args.live.now.objects c.questions.live.objects c.answer.new.live.objects c.questions.invariant.home (home_later c.questions.live.objects c.step_job.new.live.objects c.answer.new.live.objects k.home c.in_ok-ending-in-Asks.ensures.answers.home);
+      tells = tells_more c.questions.invariant.tells (tells_more c.in_ok-ending.ensures.tells c.in_ok-ending-in-Asks.ensures.tells);
+      goes = works_more c.args.at c.args.job c.questions.job c.feed_back.new.job (g.W.SwapFile.content c.args.swap.now) (g.W.SwapFile.content c.questions.swap) (g.W.SwapFile.content c.answer.new.swap) c.args.live.now c.questions.live c.answer.new.live c.args.stack.now.items c.questions.stack.items c.feed_back.new.stack.items
+          c.args.asker.now c.questions.asker c.answer.new.asker c.args.budget.now c.questions.budget c.answer.new.budget c.questions.invariant.goes more;
+    }
+
+-- and loads that they ask for
+
+pub work-load-requires : goal.work-load-requires
+work-load-requires g t c =
+    let k : WorkLoads c.in-Loads.name c.args.at c.questions.job (g.W.SwapFile.content c.questions.swap) c.questions.live c.questions.stack.items c.questions.asker c.questions.budget c.step_job.new.job (g.W.SwapFile.content c.step_job.new.swap) c.step_job.new.live c.step_job.new.stack.items c.step_job.new.budget =
+    subst (λ x. StepsTo x c.args.at c.questions.job (g.W.SwapFile.content c.questions.swap) c.questions.live c.questions.stack.items c.questions.asker c.questions.budget c.step_job.new.job (g.W.SwapFile.content c.step_job.new.swap) c.step_job.new.live c.step_job.new.stack.items c.step_job.new.budget) c.in-Loads.is c.in_ok-ending.ensures.steps in
+    let less = k.spends in
+    let more = c.questions.invariant.spends in
+    λ κs within. (omega (arith, less, more), (within, (k.fit, k.can c.questions.invariant.can)))
+
+pub work-feed_back-requires-in-Loads-clause-on : goal.work-feed_back-requires-in-Loads-clause-on
+work-feed_back-requires-in-Loads-clause-on g t c =
+    let k : WorkLoads c.in-Loads.name c.args.at c.questions.job (g.W.SwapFile.content c.questions.swap) c.questions.live c.questions.stack.items c.questions.asker c.questions.budget c.step_job.new.job (g.W.SwapFile.content c.step_job.new.swap) c.step_job.new.live c.step_job.new.stack.items c.step_job.new.budget =
+    subst (λ x. StepsTo x c.args.at c.questions.job (g.W.SwapFile.content c.questions.swap) c.questions.live c.questions.stack.items c.questions.asker c.questions.budget c.step_job.new.job (g.W.SwapFile.content c.step_job.new.swap) c.step_job.new.live c.step_job.new.stack.items c.step_job.new.budget) c.in-Loads.is c.in_ok-ending.ensures.steps in
+    let loads : Loads (Some c.args.at.this) (Some c.args.at) c.in-Loads.name purposes.Wanted (g.W.SwapFile.content c.step_job.new.swap) c.step_job.new.live c.step_job.new.stack.items c.questions.asker c.step_job.new.budget (g.W.SwapFile.content c.load.new.swap) c.load.new.live c.load.new.stack.items c.load.new.asker c.load.new.budget c.in_ok-answer-in-Loads.answer =
+    subst (λ n. Loads (Some c.args.at.this) (Some c.args.at) n purposes.Wanted (g.W.SwapFile.content c.step_job.new.swap) c.step_job.new.live c.step_job.new.stack.items c.questions.asker c.step_job.new.budget (g.W.SwapFile.content c.load.new.swap) c.load.new.live c.load.new.stack.items c.load.new.asker c.load.new.budget c.in_ok-answer-in-Loads.answer) c.as_slice.ensures c.in_ok-answer-in-Loads.ensures.loads in
+    k.on (g.W.SwapFile.content c.load.new.swap) c.load.new.live c.load.new.stack.items c.load.new.asker c.load.new.budget c.in_ok-answer-in-Loads.answer c.questions.invariant.can loads
+
+pub work-returns-in-Some-2-clause-works : goal.work-returns-in-Some-2-clause-works
+work-returns-in-Some-2-clause-works g t c =
+    let k : WorkLoads c.in-Loads.name c.args.at c.questions.job (g.W.SwapFile.content c.questions.swap) c.questions.live c.questions.stack.items c.questions.asker c.questions.budget c.step_job.new.job (g.W.SwapFile.content c.step_job.new.swap) c.step_job.new.live c.step_job.new.stack.items c.step_job.new.budget =
+    subst (λ x. StepsTo x c.args.at c.questions.job (g.W.SwapFile.content c.questions.swap) c.questions.live c.questions.stack.items c.questions.asker c.questions.budget c.step_job.new.job (g.W.SwapFile.content c.step_job.new.swap) c.step_job.new.live c.step_job.new.stack.items c.step_job.new.budget) c.in-Loads.is c.in_ok-ending.ensures.steps in
+    let loads : Loads (Some c.args.at.this) (Some c.args.at) c.in-Loads.name purposes.Wanted (g.W.SwapFile.content c.step_job.new.swap) c.step_job.new.live c.step_job.new.stack.items c.questions.asker c.step_job.new.budget (g.W.SwapFile.content c.load.new.swap) c.load.new.live c.load.new.stack.items c.load.new.asker c.load.new.budget c.in_ok-answer-in-Loads.answer =
+    subst (λ n. Loads (Some c.args.at.this) (Some c.args.at) n purposes.Wanted (g.W.SwapFile.content c.step_job.new.swap) c.step_job.new.live c.step_job.new.stack.items c.questions.asker c.step_job.new.budget (g.W.SwapFile.content c.load.new.swap) c.load.new.live c.load.new.stack.items c.load.new.asker c.load.new.budget c.in_ok-answer-in-Loads.answer) c.as_slice.ensures c.in_ok-answer-in-Loads.ensures.loads in
+    let same : c.in-Some-2.ending ≡ c.in_ok-ending-in-Loads.ending = subst (λ r. IfSome r (λ e. e ≡ c.in_ok-ending-in-Loads.ending)) c.in-Some-2.is c.in_ok-ending-in-Loads-2.ensures.same in
+    works_later c.args.at c.args.job c.questions.job (g.W.SwapFile.content c.args.swap.now) (g.W.SwapFile.content c.questions.swap) (g.W.SwapFile.content c.load.new.swap) c.args.live.now c.questions.live c.load.new.live c.args.stack.now.items c.questions.stack.items c.feed_back-in-Loads.new.stack.items
+    c.args.asker.now c.questions.asker c.load.new.asker c.args.budget.now c.questions.budget c.load.new.budget c.in-Some-2.ending c.questions.invariant.goes c.questions.invariant.same c.questions.invariant.spends c.questions.invariant.home
+    (loaded_ends c.args.at c.questions.job c.step_job.new.job c.feed_back-in-Loads.new.job c.in-Loads.name (g.W.SwapFile.content c.questions.swap) (g.W.SwapFile.content c.step_job.new.swap) (g.W.SwapFile.content c.load.new.swap) c.questions.live c.step_job.new.live c.load.new.live
+    c.questions.stack.items c.step_job.new.stack.items c.load.new.stack.items c.feed_back-in-Loads.new.stack.items c.questions.asker c.load.new.asker c.questions.budget c.step_job.new.budget c.load.new.budget c.in_ok-answer-in-Loads.answer c.in-Some-2.ending k loads
+    (subst (λ e. Feeds (Some c.in-Some-2.ending) e c.step_job.new.job c.load.new.live c.load.new.stack.items c.feed_back-in-Loads.new.job c.feed_back-in-Loads.new.stack.items) c.in_ok-ending-in-Loads.ensures.ending
+    (subst (λ r. Feeds r c.in_ok-ending-in-Loads.ending c.step_job.new.job c.load.new.live c.load.new.stack.items c.feed_back-in-Loads.new.job c.feed_back-in-Loads.new.stack.items) c.in-Some-2.is c.in_ok-ending-in-Loads-2.ensures.feeds))
+    (subst (IsEndingThere c.load.new.live.cells) (sym same) (c.in_ok-ending-in-Loads.ensures.there c.load.new.live.cells loads.there)) c.in_ok-ending-in-Loads-2.ensures.fit)
+
 pub work-questions-smaller : goal.work-questions-smaller
 work-questions-smaller g t c =
-    let k : WorkAsks c.in-Asks.reached c.in-Asks.args c.args.this c.questions.job (g.W.SwapFile.content c.questions.swap) c.questions.live c.questions.stack.items c.questions.asker c.questions.budget c.step_job.new.job (g.W.SwapFile.content c.step_job.new.swap) c.step_job.new.live c.step_job.new.stack.items c.step_job.new.budget =
-    subst (λ x. StepsTo x c.args.this c.questions.job (g.W.SwapFile.content c.questions.swap) c.questions.live c.questions.stack.items c.questions.asker c.questions.budget c.step_job.new.job (g.W.SwapFile.content c.step_job.new.swap) c.step_job.new.live c.step_job.new.stack.items c.step_job.new.budget) c.in-Asks.is c.in_ok-ending.ensures.steps in
-    let on : FedOn None c.step_job.new.job c.feed_back.new.job c.feed_back.new.stack.items = subst (λ r. FedOn r c.step_job.new.job c.feed_back.new.job c.feed_back.new.stack.items) c.in_default.is c.in_ok-ending-in-Asks-2.ensures.on in
+    let k : WorkLoads c.in-Loads.name c.args.at c.questions.job (g.W.SwapFile.content c.questions.swap) c.questions.live c.questions.stack.items c.questions.asker c.questions.budget c.step_job.new.job (g.W.SwapFile.content c.step_job.new.swap) c.step_job.new.live c.step_job.new.stack.items c.step_job.new.budget =
+    subst (λ x. StepsTo x c.args.at c.questions.job (g.W.SwapFile.content c.questions.swap) c.questions.live c.questions.stack.items c.questions.asker c.questions.budget c.step_job.new.job (g.W.SwapFile.content c.step_job.new.swap) c.step_job.new.live c.step_job.new.stack.items c.step_job.new.budget) c.in-Loads.is c.in_ok-ending.ensures.steps in
+    let on : FedOn None c.step_job.new.job c.feed_back-in-Loads.new.job c.load.new.live c.feed_back-in-Loads.new.stack.items = subst (λ r. FedOn r c.step_job.new.job c.feed_back-in-Loads.new.job c.load.new.live c.feed_back-in-Loads.new.stack.items) c.in_default-2.is c.in_ok-ending-in-Loads-2.ensures.on in
     let less = on.2 in
     let left = k.left in
     omega (arith, less, left)
 
 pub work-questions-preserved : goal.work-questions-preserved
 work-questions-preserved g t c =
-    let k : WorkAsks c.in-Asks.reached c.in-Asks.args c.args.this c.questions.job (g.W.SwapFile.content c.questions.swap) c.questions.live c.questions.stack.items c.questions.asker c.questions.budget c.step_job.new.job (g.W.SwapFile.content c.step_job.new.swap) c.step_job.new.live c.step_job.new.stack.items c.step_job.new.budget =
-    subst (λ x. StepsTo x c.args.this c.questions.job (g.W.SwapFile.content c.questions.swap) c.questions.live c.questions.stack.items c.questions.asker c.questions.budget c.step_job.new.job (g.W.SwapFile.content c.step_job.new.swap) c.step_job.new.live c.step_job.new.stack.items c.step_job.new.budget) c.in-Asks.is c.in_ok-ending.ensures.steps in
-    let on : FedOn None c.step_job.new.job c.feed_back.new.job c.feed_back.new.stack.items = subst (λ r. FedOn r c.step_job.new.job c.feed_back.new.job c.feed_back.new.stack.items) c.in_default.is c.in_ok-ending-in-Asks-2.ensures.on in
-    let more : WorkContinues c.args.this c.questions.job (g.W.SwapFile.content c.questions.swap) c.questions.live c.questions.stack.items c.questions.asker c.questions.budget c.feed_back.new.job (g.W.SwapFile.content c.answer.new.swap) c.answer.new.live c.feed_back.new.stack.items c.answer.new.asker c.answer.new.budget =
-    k.turns c.feed_back.new.job (g.W.SwapFile.content c.answer.new.swap) c.answer.new.live c.answer.new.stack.items c.feed_back.new.stack.items c.answer.new.asker c.answer.new.budget c.in_ok-ending-in-Asks.ending None c.in_ok-ending-in-Asks.ensures.answers
-    (subst (λ r. Feeds r c.in_ok-ending-in-Asks.ending c.step_job.new.job c.answer.new.live c.answer.new.stack.items c.feed_back.new.job c.feed_back.new.stack.items) c.in_default.is c.in_ok-ending-in-Asks-2.ensures.feeds) in
+    let k : WorkLoads c.in-Loads.name c.args.at c.questions.job (g.W.SwapFile.content c.questions.swap) c.questions.live c.questions.stack.items c.questions.asker c.questions.budget c.step_job.new.job (g.W.SwapFile.content c.step_job.new.swap) c.step_job.new.live c.step_job.new.stack.items c.step_job.new.budget =
+    subst (λ x. StepsTo x c.args.at c.questions.job (g.W.SwapFile.content c.questions.swap) c.questions.live c.questions.stack.items c.questions.asker c.questions.budget c.step_job.new.job (g.W.SwapFile.content c.step_job.new.swap) c.step_job.new.live c.step_job.new.stack.items c.step_job.new.budget) c.in-Loads.is c.in_ok-ending.ensures.steps in
+    let loads : Loads (Some c.args.at.this) (Some c.args.at) c.in-Loads.name purposes.Wanted (g.W.SwapFile.content c.step_job.new.swap) c.step_job.new.live c.step_job.new.stack.items c.questions.asker c.step_job.new.budget (g.W.SwapFile.content c.load.new.swap) c.load.new.live c.load.new.stack.items c.load.new.asker c.load.new.budget c.in_ok-answer-in-Loads.answer =
+    subst (λ n. Loads (Some c.args.at.this) (Some c.args.at) n purposes.Wanted (g.W.SwapFile.content c.step_job.new.swap) c.step_job.new.live c.step_job.new.stack.items c.questions.asker c.step_job.new.budget (g.W.SwapFile.content c.load.new.swap) c.load.new.live c.load.new.stack.items c.load.new.asker c.load.new.budget c.in_ok-answer-in-Loads.answer) c.as_slice.ensures c.in_ok-answer-in-Loads.ensures.loads in
+    let on : FedOn None c.step_job.new.job c.feed_back-in-Loads.new.job c.load.new.live c.feed_back-in-Loads.new.stack.items = subst (λ r. FedOn r c.step_job.new.job c.feed_back-in-Loads.new.job c.load.new.live c.feed_back-in-Loads.new.stack.items) c.in_default-2.is c.in_ok-ending-in-Loads-2.ensures.on in
+    let more : WorkContinues c.args.at c.questions.job (g.W.SwapFile.content c.questions.swap) c.questions.live c.questions.stack.items c.questions.asker c.questions.budget c.feed_back-in-Loads.new.job (g.W.SwapFile.content c.load.new.swap) c.load.new.live c.feed_back-in-Loads.new.stack.items c.load.new.asker c.load.new.budget =
+    k.turns c.feed_back-in-Loads.new.job (g.W.SwapFile.content c.load.new.swap) c.load.new.live c.load.new.stack.items c.feed_back-in-Loads.new.stack.items c.load.new.asker c.load.new.budget c.in_ok-answer-in-Loads.answer None loads
+    (subst (λ e. Feeds None e c.step_job.new.job c.load.new.live c.load.new.stack.items c.feed_back-in-Loads.new.job c.feed_back-in-Loads.new.stack.items) c.in_ok-ending-in-Loads.ensures.ending
+    (subst (λ r. Feeds r c.in_ok-ending-in-Loads.ending c.step_job.new.job c.load.new.live c.load.new.stack.items c.feed_back-in-Loads.new.job c.feed_back-in-Loads.new.stack.items) c.in_default-2.is c.in_ok-ending-in-Loads-2.ensures.feeds)) in
     record {
-      can = can_work_on c.args.this c.questions.job c.feed_back.new.job (g.W.SwapFile.content c.questions.swap) (g.W.SwapFile.content c.answer.new.swap) c.questions.live c.answer.new.live c.questions.stack.items c.feed_back.new.stack.items c.questions.asker c.answer.new.asker c.questions.budget c.answer.new.budget c.questions.invariant.can more;
+      can = can_work_on c.args.at c.questions.job c.feed_back-in-Loads.new.job (g.W.SwapFile.content c.questions.swap) (g.W.SwapFile.content c.load.new.swap) c.questions.live c.load.new.live c.questions.stack.items c.feed_back-in-Loads.new.stack.items c.questions.asker c.load.new.asker c.questions.budget c.load.new.budget c.questions.invariant.can more;
       on = on.0;
-      ready = on.1 c.answer.new.live.objects;
-      fit = c.in_ok-ending-in-Asks-2.ensures.fit;
-      same = same_later c.args.asker.now c.questions.asker c.answer.new.asker c.questions.invariant.same c.in_ok-ending-in-Asks.ensures.answers.same;
-      spends = le_trans (le_trans c.in_ok-ending-in-Asks.ensures.answers.spends k.spends) c.questions.invariant.spends;
-      home = home_later c.args.live.now.objects c.questions.live.objects c.answer.new.live.objects c.questions.invariant.home (home_later c.questions.live.objects c.step_job.new.live.objects c.answer.new.live.objects k.home c.in_ok-ending-in-Asks.ensures.answers.home);
-      tells = tells_more c.questions.invariant.tells (tells_more c.in_ok-ending.ensures.tells c.in_ok-ending-in-Asks.ensures.tells);
-      goes = works_more c.args.this c.args.job c.questions.job c.feed_back.new.job (g.W.SwapFile.content c.args.swap.now) (g.W.SwapFile.content c.questions.swap) (g.W.SwapFile.content c.answer.new.swap) c.args.live.now c.questions.live c.answer.new.live c.args.stack.now.items c.questions.stack.items c.feed_back.new.stack.items
-          c.args.asker.now c.questions.asker c.answer.new.asker c.args.budget.now c.questions.budget c.answer.new.budget c.questions.invariant.goes more;
+      ready = on.1;
+      fit = c.in_ok-ending-in-Loads-2.ensures.fit;
+      same = same_later c.args.asker.now c.questions.asker c.load.new.asker c.questions.invariant.same loads.same;
+      spends = le_trans (le_trans loads.spends k.spends) c.questions.invariant.spends;
+      home = home_later c.args.live.now.objects c.questions.live.objects c.load.new.live.objects c.questions.invariant.home (home_later c.questions.live.objects c.step_job.new.live.objects c.load.new.live.objects k.home loads.home);
+      tells = tells_more c.questions.invariant.tells (tells_more c.in_ok-ending.ensures.tells c.in_ok-answer-in-Loads.ensures.tells);
+      goes = works_more c.args.at c.args.job c.questions.job c.feed_back-in-Loads.new.job (g.W.SwapFile.content c.args.swap.now) (g.W.SwapFile.content c.questions.swap) (g.W.SwapFile.content c.load.new.swap) c.args.live.now c.questions.live c.load.new.live c.args.stack.now.items c.questions.stack.items c.feed_back-in-Loads.new.stack.items
+          c.args.asker.now c.questions.asker c.load.new.asker c.args.budget.now c.questions.budget c.load.new.budget c.questions.invariant.goes more;
     }
+
+-- Objects that were made
+
+pub make-returns-in_err-reached-clause-tells : goal.make-returns-in_err-reached-clause-tells
+make-returns-in_err-reached-clause-tells g t c =
+    read_exit (Tells (g.W.SwapFile.content c.ask_next.new.swap) (g.W.SwapFile.last c.ask_next.new.swap) (g.W.SwapFile.read_faults c.args.swap.now) (g.W.SwapFile.read_faults c.ask_next.new.swap) (g.W.SwapFile.write_faults c.args.swap.now) (g.W.SwapFile.write_faults c.ask_next.new.swap) (g.W.SwapFile.is_truthful c.args.swap.now) (g.W.SwapFile.is_truthful c.ask_next.new.swap) (g.W.SwapFile.is_honest c.args.swap.now) (g.W.SwapFile.is_honest c.ask_next.new.swap) c.ask_next.new.live)
+    c.from_residual.result c.in_err-reached.field-0.0 c.from_residual.ensures.1 (tells_more c.parts.invariant.tells c.in_err-reached.ensures.tells)
+
+pub make-answer-requires : goal.make-answer-requires
+make-answer-requires g t c =
+    let fit : IsFit c.ask_next.new.live c.parts.stack.items = record { closed = c.in_ok-reached.ensures.closed; there = subst (λ cells. All (IsThere cells) c.parts.stack.items) (sym c.in_ok-reached.ensures.cells) c.parts.invariant.fit.there } in
+    let more = c.parts.invariant.spends in
+    λ κs within. (omega (arith, more), (within, (fit, make_can c.args.caller c.args.at c.parts.making (g.W.SwapFile.content c.parts.swap) (g.W.SwapFile.content c.ask_next.new.swap) c.parts.live c.ask_next.new.live c.parts.stack.items c.parts.asker c.parts.budget c.in_ok-reached.reached c.in_ok-reached.ensures.asks c.in_ok-reached.ensures.there c.parts.invariant.can)))
+
+pub make-returns-in_err-ending-clause-tells : goal.make-returns-in_err-ending-clause-tells
+make-returns-in_err-ending-clause-tells g t c =
+    read_exit (Tells (g.W.SwapFile.content c.answer.new.swap) (g.W.SwapFile.last c.answer.new.swap) (g.W.SwapFile.read_faults c.args.swap.now) (g.W.SwapFile.read_faults c.answer.new.swap) (g.W.SwapFile.write_faults c.args.swap.now) (g.W.SwapFile.write_faults c.answer.new.swap) (g.W.SwapFile.is_truthful c.args.swap.now) (g.W.SwapFile.is_truthful c.answer.new.swap) (g.W.SwapFile.is_honest c.args.swap.now) (g.W.SwapFile.is_honest c.answer.new.swap) c.answer.new.live)
+    c.from_residual-in_err-ending.result c.in_err-ending.field-0.0 c.from_residual-in_err-ending.ensures.1 (tells_more c.parts.invariant.tells (tells_more c.in_ok-reached.ensures.tells c.in_err-ending.ensures.tells))
+
+pub make-feed_on-requires-clause-stands : goal.make-feed_on-requires-clause-stands
+make-feed_on-requires-clause-stands g t c =
+    make_stands c.args.caller c.args.at c.parts.making (g.W.SwapFile.content c.parts.swap) (g.W.SwapFile.content c.ask_next.new.swap) c.parts.live c.ask_next.new.live c.parts.stack.items c.parts.asker c.parts.budget c.in_ok-reached.reached c.in_ok-reached.ensures.asks
+    c.in_ok-reached.ensures.outputs (g.W.SwapFile.content c.answer.new.swap) c.answer.new.live c.answer.new.stack.items c.answer.new.asker c.answer.new.budget c.in_ok-ending.ending c.in_ok-ending.ensures.answers c.parts.invariant.can
+
+pub make-returns-in_err-feed_on-clause-tells : goal.make-returns-in_err-feed_on-clause-tells
+make-returns-in_err-feed_on-clause-tells g t c =
+    read_exit (Tells (g.W.SwapFile.content c.feed_on.new.swap) (g.W.SwapFile.last c.feed_on.new.swap) (g.W.SwapFile.read_faults c.args.swap.now) (g.W.SwapFile.read_faults c.feed_on.new.swap) (g.W.SwapFile.write_faults c.args.swap.now) (g.W.SwapFile.write_faults c.feed_on.new.swap) (g.W.SwapFile.is_truthful c.args.swap.now) (g.W.SwapFile.is_truthful c.feed_on.new.swap) (g.W.SwapFile.is_honest c.args.swap.now) (g.W.SwapFile.is_honest c.feed_on.new.swap) c.feed_on.new.live)
+    c.from_residual-in_err-feed_on.result c.in_err-feed_on.field-0.0 c.from_residual-in_err-feed_on.ensures.1
+    (tells_more c.parts.invariant.tells (tells_more c.in_ok-reached.ensures.tells (tells_more c.in_ok-ending.ensures.tells c.in_err-feed_on.ensures.tells)))
+
+pub make-parts-preserved : goal.make-parts-preserved
+make-parts-preserved g t c =
+    let later : feeding.IsLater c.parts.making c.feed_on.new.making = subst (λ r. feeding.LeavesLess r c.parts.making c.feed_on.new.making) c.in-Goes.is c.in_ok-feed_on.ensures.less in
+    let home : KeepsVariables c.parts.live.objects c.feed_on.new.live.objects =
+    home_later c.parts.live.objects c.ask_next.new.live.objects c.feed_on.new.live.objects c.in_ok-reached.ensures.home (home_later c.ask_next.new.live.objects c.answer.new.live.objects c.feed_on.new.live.objects c.in_ok-ending.ensures.answers.home c.in_ok-feed_on.ensures.home) in
+    let more : MakeContinues c.args.caller c.args.at c.parts.making (g.W.SwapFile.content c.parts.swap) c.parts.live c.parts.asker c.parts.budget c.feed_on.new.making (g.W.SwapFile.content c.feed_on.new.swap) c.feed_on.new.live c.answer.new.asker c.answer.new.budget =
+    make_goes c.args.caller c.args.at c.parts.making (g.W.SwapFile.content c.parts.swap) (g.W.SwapFile.content c.ask_next.new.swap) c.parts.live c.ask_next.new.live c.parts.stack.items c.parts.asker c.parts.budget c.in_ok-reached.reached c.in_ok-reached.ensures.asks
+    c.in_ok-reached.ensures.outputs (g.W.SwapFile.content c.answer.new.swap) c.answer.new.live c.answer.new.stack.items c.answer.new.asker c.answer.new.budget c.in_ok-ending.ending c.in_ok-ending.ensures.answers (g.W.SwapFile.content c.feed_on.new.swap) c.feed_on.new.making c.feed_on.new.live c.in_ok-feed_on.ensures.told
+    (subst (λ r. feeding.Feeds r c.parts.making c.in_ok-ending.ending c.args.at (g.W.SwapFile.content c.answer.new.swap) c.answer.new.live c.feed_on.new.making c.feed_on.new.live) c.in-Goes.is c.in_ok-feed_on.ensures.feeds) later in
+    record {
+      can = can_make_on c.args.caller c.args.at c.parts.making c.feed_on.new.making (g.W.SwapFile.content c.parts.swap) (g.W.SwapFile.content c.feed_on.new.swap) c.parts.live c.feed_on.new.live c.parts.asker c.answer.new.asker c.parts.budget c.answer.new.budget c.parts.invariant.can more;
+      there = subst (λ (o : ObjId). IsSome (variables_at c.feed_on.new.live.objects o)) (sym later.object) (still_there c.parts.live.objects c.feed_on.new.live.objects c.parts.making.object home c.parts.invariant.there);
+      fit = record { closed = c.in_ok-feed_on.ensures.closed; there = subst (λ cells. All (IsThere cells) c.answer.new.stack.items) (sym c.in_ok-feed_on.ensures.cells) c.in_ok-ending.ensures.answers.fit.there };
+      lies = make_lies c.args.caller c.args.at c.parts.making (g.W.SwapFile.content c.parts.swap) (g.W.SwapFile.content c.ask_next.new.swap) c.parts.live c.ask_next.new.live c.parts.stack.items c.parts.asker c.parts.budget c.in_ok-reached.reached c.in_ok-reached.ensures.asks
+          c.in_ok-reached.ensures.outputs (g.W.SwapFile.content c.answer.new.swap) c.answer.new.live c.answer.new.stack.items c.answer.new.asker c.answer.new.budget c.in_ok-ending.ending c.in_ok-ending.ensures.answers c.parts.invariant.can ∙ c.parts.invariant.lies;
+      same = same_later c.args.asker.now c.parts.asker c.answer.new.asker c.parts.invariant.same c.in_ok-ending.ensures.answers.same;
+      spends = le_trans c.in_ok-ending.ensures.answers.spends c.parts.invariant.spends;
+      home = home_later c.args.live.now.objects c.parts.live.objects c.feed_on.new.live.objects c.parts.invariant.home home;
+      tells = tells_more c.parts.invariant.tells (tells_more c.in_ok-reached.ensures.tells (tells_more c.in_ok-ending.ensures.tells c.in_ok-feed_on.ensures.tells));
+      goes = makes_more c.args.caller c.args.at c.args.making c.parts.making c.feed_on.new.making (g.W.SwapFile.content c.args.swap.now) (g.W.SwapFile.content c.parts.swap) (g.W.SwapFile.content c.feed_on.new.swap) c.args.live.now c.parts.live c.feed_on.new.live c.args.asker.now c.parts.asker c.answer.new.asker
+          c.args.budget.now c.parts.budget c.answer.new.budget c.parts.invariant.goes more;
+    }
+
+pub make-returns-in-Ends-clause-makes : goal.make-returns-in-Ends-clause-makes
+make-returns-in-Ends-clause-makes g t c =
+    let fit : IsFit c.feed_on.new.live c.answer.new.stack.items = record { closed = c.in_ok-feed_on.ensures.closed; there = subst (λ cells. All (IsThere cells) c.answer.new.stack.items) (sym c.in_ok-feed_on.ensures.cells) c.in_ok-ending.ensures.answers.fit.there } in
+    makes_later c.args.caller c.args.at c.args.making c.parts.making (g.W.SwapFile.content c.args.swap.now) (g.W.SwapFile.content c.parts.swap) (g.W.SwapFile.content c.feed_on.new.swap) c.args.live.now c.parts.live c.feed_on.new.live c.args.stack.now.items c.parts.stack.items c.answer.new.stack.items
+    c.args.asker.now c.parts.asker c.answer.new.asker c.args.budget.now c.parts.budget c.answer.new.budget c.in-Ends.ending c.parts.invariant.goes c.parts.invariant.lies c.parts.invariant.same c.parts.invariant.spends c.parts.invariant.home
+    (make_ends c.args.caller c.args.at c.parts.making (g.W.SwapFile.content c.parts.swap) (g.W.SwapFile.content c.ask_next.new.swap) c.parts.live c.ask_next.new.live c.parts.stack.items c.parts.asker c.parts.budget c.in_ok-reached.reached c.in_ok-reached.ensures.asks
+    c.in_ok-reached.ensures.outputs (g.W.SwapFile.content c.answer.new.swap) c.answer.new.live c.answer.new.stack.items c.answer.new.asker c.answer.new.budget c.in_ok-ending.ending c.in_ok-ending.ensures.answers (g.W.SwapFile.content c.feed_on.new.swap) c.feed_on.new.making c.feed_on.new.live c.in-Ends.ending c.in_ok-feed_on.ensures.told c.in_ok-feed_on.ensures.cells c.in_ok-reached.ensures.home c.in_ok-feed_on.ensures.home fit c.parts.invariant.can
+    (subst (λ r. feeding.Feeds r c.parts.making c.in_ok-ending.ending c.args.at (g.W.SwapFile.content c.answer.new.swap) c.answer.new.live c.feed_on.new.making c.feed_on.new.live) c.in-Ends.is c.in_ok-feed_on.ensures.feeds))
+
+-- Loads
+
+-- The whole load
+
+pub load-load_on-requires : goal.load-load_on-requires
+load-load_on-requires g t c =
+    let h : BeginsLoad c.in-Runs.job c.args.name.now c.args.purpose c.args.asker.now c.args.budget.now c.begin_load.new.asker c.begin_load.new.budget = subst (λ r. LoadBegins r c.args.name.now c.args.purpose c.args.asker.now c.args.budget.now c.begin_load.new.asker c.begin_load.new.budget) c.in-Runs.is c.in_ok-begin_load.ensures.begins in
+    let paid = h.paid in
+    λ κs within. (omega (arith, paid), (within, (load_ascii c.args.caller c.args.at c.args.name.now c.args.purpose (g.W.SwapFile.content c.args.swap.now) c.args.live.now c.args.stack.now.items c.args.asker.now c.begin_load.new.asker c.args.budget.now c.begin_load.new.budget c.in-Runs.job h c.requires.can, (c.requires.fit, load_can_go c.args.caller c.args.at c.args.name.now c.args.purpose (g.W.SwapFile.content c.args.swap.now) c.args.live.now c.args.stack.now.items c.args.asker.now c.begin_load.new.asker c.args.budget.now c.begin_load.new.budget c.in-Runs.job h c.requires.can))))
+
+pub load-returns-in-Spent-clause-loads : goal.load-returns-in-Spent-clause-loads
+load-returns-in-Spent-clause-loads g t c =
+    let h : CannotPay c.args.name.now c.args.purpose c.args.asker.now c.args.budget.now c.begin_load.new.asker c.begin_load.new.budget = subst (λ r. LoadBegins r c.args.name.now c.args.purpose c.args.asker.now c.args.budget.now c.begin_load.new.asker c.begin_load.new.budget) c.in-Spent.is c.in_ok-begin_load.ensures.begins in
+    subst (λ a. Loads c.args.caller c.args.at c.args.name.now c.args.purpose (g.W.SwapFile.content c.args.swap.now) c.args.live.now c.args.stack.now.items c.args.asker.now c.args.budget.now (g.W.SwapFile.content c.args.swap.now) c.args.live.now c.args.stack.now.items c.begin_load.new.asker c.begin_load.new.budget a) (sym c.unpaid.ensures)
+    (load_unpaid c.args.caller c.args.at c.args.name.now c.args.purpose (g.W.SwapFile.content c.args.swap.now) c.args.live.now c.args.stack.now.items c.args.asker.now c.begin_load.new.asker c.args.budget.now c.begin_load.new.budget h c.requires.fit)
+
+pub load-returns-in_ok-answer-in-Runs-clause-loads : goal.load-returns-in_ok-answer-in-Runs-clause-loads
+load-returns-in_ok-answer-in-Runs-clause-loads g t c =
+    let h : BeginsLoad c.in-Runs.job c.args.name.now c.args.purpose c.args.asker.now c.args.budget.now c.begin_load.new.asker c.begin_load.new.budget = subst (λ r. LoadBegins r c.args.name.now c.args.purpose c.args.asker.now c.args.budget.now c.begin_load.new.asker c.begin_load.new.budget) c.in-Runs.is c.in_ok-begin_load.ensures.begins in
+    load_went c.args.caller c.args.at c.args.name.now c.args.purpose (g.W.SwapFile.content c.args.swap.now) c.args.live.now c.args.stack.now.items c.args.asker.now c.begin_load.new.asker c.args.budget.now c.begin_load.new.budget c.in-Runs.job h (g.W.SwapFile.content c.load_on.new.swap) c.load_on.new.live c.load_on.new.stack.items c.load_on.new.asker c.pop_load.new.asker c.load_on.new.budget c.in_ok-answer-in-Runs.answer
+    c.in_ok-answer-in-Runs.ensures.loads c.pop_load.ensures.turn c.pop_load.ensures.interactive c.pop_load.ensures.callers c.pop_load.ensures.depth c.pop_load.ensures.loads
+
+-- One step after another
+
+pub load_on-loads-init : goal.load_on-loads-init
+load_on-loads-init g t c = record {
+  can = c.requires.can;
+  ascii = c.requires.ascii;
+  fit = c.requires.fit;
+  lies = refl;
+  same = same_asker c.args.asker.now;
+  spends = le_refl c.args.budget.now;
+  home = home_same c.args.live.now.objects;
+  tells = tells_nothing (g.W.SwapFile.content c.args.swap.now) (g.W.SwapFile.last c.args.swap.now) (g.W.SwapFile.read_faults c.args.swap.now) (g.W.SwapFile.write_faults c.args.swap.now) (g.W.SwapFile.is_truthful c.args.swap.now) (g.W.SwapFile.is_honest c.args.swap.now) c.args.live.now;
+  goes = loads_same c.args.caller c.args.at c.args.job goings.Simul (g.W.SwapFile.content c.args.swap.now) c.args.live.now c.args.asker.now c.args.budget.now;
+}
+
+pub load_on-returns-in-Ends-clause-loads : goal.load_on-returns-in-Ends-clause-loads
+load_on-returns-in-Ends-clause-loads g t c =
+    let leads : LeadsOn (steps.Ends c.in-Ends.answer) c.loads.job c.loads.going c.loads.asker.loads.items (g.W.SwapFile.content c.loads.swap) c.loads.live (g.W.SwapFile.content c.step_load.new.swap) c.step_load.new.live = subst (λ r. LeadsOn r c.loads.job c.loads.going c.loads.asker.loads.items (g.W.SwapFile.content c.loads.swap) c.loads.live (g.W.SwapFile.content c.step_load.new.swap) c.step_load.new.live) c.in-Ends.is c.in_ok-answer.ensures.leads in
+    let fit : IsFit c.step_load.new.live c.loads.stack.items = record { closed = c.in_ok-answer.ensures.closed; there = subst (λ cells. All (IsThere cells) c.loads.stack.items) (sym c.in_ok-answer.ensures.cells) c.loads.invariant.fit.there } in
+    loads_later c.args.caller c.args.at c.args.job c.loads.job goings.Simul c.loads.going (g.W.SwapFile.content c.args.swap.now) (g.W.SwapFile.content c.loads.swap) (g.W.SwapFile.content c.step_load.new.swap) c.args.live.now c.loads.live c.step_load.new.live c.args.stack.now.items c.loads.stack.items c.loads.stack.items c.args.asker.now c.loads.asker c.loads.asker c.args.budget.now c.loads.budget c.loads.budget c.in-Ends.answer
+    c.loads.invariant.goes c.loads.invariant.lies c.loads.invariant.same c.loads.invariant.spends c.loads.invariant.home
+    (load_ended c.args.caller c.args.at c.loads.job c.loads.going (g.W.SwapFile.content c.loads.swap) (g.W.SwapFile.content c.step_load.new.swap) c.loads.live c.step_load.new.live c.loads.stack.items c.loads.asker c.loads.budget c.in-Ends.answer leads c.in_ok-answer.ensures.home fit c.loads.invariant.can)
+
+pub load_on-make-requires : goal.load_on-make-requires
+load_on-make-requires g t c =
+    let leads : LeadsOn (steps.Makes c.in-Makes.making) c.loads.job c.loads.going c.loads.asker.loads.items (g.W.SwapFile.content c.loads.swap) c.loads.live (g.W.SwapFile.content c.step_load.new.swap) c.step_load.new.live = subst (λ r. LeadsOn r c.loads.job c.loads.going c.loads.asker.loads.items (g.W.SwapFile.content c.loads.swap) c.loads.live (g.W.SwapFile.content c.step_load.new.swap) c.step_load.new.live) c.in-Makes.is c.in_ok-answer.ensures.leads in
+    let fit : IsFit c.step_load.new.live c.loads.stack.items = record { closed = c.in_ok-answer.ensures.closed; there = subst (λ cells. All (IsThere cells) c.loads.stack.items) (sym c.in_ok-answer.ensures.cells) c.loads.invariant.fit.there } in
+    let more = c.loads.invariant.spends in
+    λ κs within. (omega (arith, more), (within, (subst (MakesHome c.step_load.new.live.objects) c.in-Makes.is c.in_ok-answer.ensures.made, (fit, load_can_make c.args.caller c.args.at c.loads.job c.loads.going (g.W.SwapFile.content c.loads.swap) (g.W.SwapFile.content c.step_load.new.swap) c.loads.live c.step_load.new.live c.loads.stack.items c.loads.asker c.loads.budget c.in-Makes.making leads (subst (MakesHome c.step_load.new.live.objects) c.in-Makes.is c.in_ok-answer.ensures.made) c.loads.invariant.can))))
+
+pub load_on-returns-in-Makes-clause-loads : goal.load_on-returns-in-Makes-clause-loads
+load_on-returns-in-Makes-clause-loads g t c =
+    let leads : LeadsOn (steps.Makes c.in-Makes.making) c.loads.job c.loads.going c.loads.asker.loads.items (g.W.SwapFile.content c.loads.swap) c.loads.live (g.W.SwapFile.content c.step_load.new.swap) c.step_load.new.live = subst (λ r. LeadsOn r c.loads.job c.loads.going c.loads.asker.loads.items (g.W.SwapFile.content c.loads.swap) c.loads.live (g.W.SwapFile.content c.step_load.new.swap) c.step_load.new.live) c.in-Makes.is c.in_ok-answer.ensures.leads in
+    subst (λ a. LoadsOn c.args.caller c.args.at c.args.job goings.Simul (g.W.SwapFile.content c.args.swap.now) c.args.live.now c.args.stack.now.items c.args.asker.now c.args.budget.now (g.W.SwapFile.content c.make.new.swap) c.make.new.live c.make.new.stack.items c.make.new.asker c.make.new.budget a) (sym c.answer_of.ensures.answer)
+    (loads_later c.args.caller c.args.at c.args.job c.loads.job goings.Simul c.loads.going (g.W.SwapFile.content c.args.swap.now) (g.W.SwapFile.content c.loads.swap) (g.W.SwapFile.content c.make.new.swap) c.args.live.now c.loads.live c.make.new.live c.args.stack.now.items c.loads.stack.items c.make.new.stack.items c.args.asker.now c.loads.asker c.make.new.asker c.args.budget.now c.loads.budget c.make.new.budget _
+    c.loads.invariant.goes c.loads.invariant.lies c.loads.invariant.same c.loads.invariant.spends c.loads.invariant.home
+    (load_made c.args.caller c.args.at c.loads.job c.loads.going (g.W.SwapFile.content c.loads.swap) (g.W.SwapFile.content c.step_load.new.swap) c.loads.live c.step_load.new.live c.loads.stack.items c.loads.asker c.loads.budget c.in-Makes.making leads (subst (MakesHome c.step_load.new.live.objects) c.in-Makes.is c.in_ok-answer.ensures.made)
+    (g.W.SwapFile.content c.make.new.swap) c.make.new.live c.make.new.stack.items c.make.new.asker c.make.new.budget c.in_ok-ending-in-Makes.ending c.in_ok-ending-in-Makes.ensures.makes c.in_ok-answer.ensures.home))
+
+pub load_on-load-requires : goal.load_on-load-requires
+load_on-load-requires g t c =
+    let leads : LeadsOn (steps.Asks c.in-Asks.name c.in-Asks.waiting) c.loads.job c.loads.going c.loads.asker.loads.items (g.W.SwapFile.content c.loads.swap) c.loads.live (g.W.SwapFile.content c.step_load.new.swap) c.step_load.new.live = subst (λ r. LeadsOn r c.loads.job c.loads.going c.loads.asker.loads.items (g.W.SwapFile.content c.loads.swap) c.loads.live (g.W.SwapFile.content c.step_load.new.swap) c.step_load.new.live) c.in-Asks.is c.in_ok-answer.ensures.leads in
+    let fit : IsFit c.step_load.new.live c.loads.stack.items = record { closed = c.in_ok-answer.ensures.closed; there = subst (λ cells. All (IsThere cells) c.loads.stack.items) (sym c.in_ok-answer.ensures.cells) c.loads.invariant.fit.there } in
+    let more = c.loads.invariant.spends in
+    λ κs within. (omega (arith, more), (within, (fit, load_can_ask c.args.caller c.args.at c.loads.job c.loads.going (g.W.SwapFile.content c.loads.swap) (g.W.SwapFile.content c.step_load.new.swap) c.loads.live c.step_load.new.live c.loads.stack.items c.loads.asker c.loads.budget c.in-Asks.name c.in-Asks.waiting leads c.loads.invariant.can)))
+
+pub load_on-returns-in-Ends-2-clause-loads : goal.load_on-returns-in-Ends-2-clause-loads
+load_on-returns-in-Ends-2-clause-loads g t c =
+    let leads : LeadsOn (steps.Asks c.in-Asks.name c.in-Asks.waiting) c.loads.job c.loads.going c.loads.asker.loads.items (g.W.SwapFile.content c.loads.swap) c.loads.live (g.W.SwapFile.content c.step_load.new.swap) c.step_load.new.live = subst (λ r. LeadsOn r c.loads.job c.loads.going c.loads.asker.loads.items (g.W.SwapFile.content c.loads.swap) c.loads.live (g.W.SwapFile.content c.step_load.new.swap) c.step_load.new.live) c.in-Asks.is c.in_ok-answer.ensures.leads in
+    let named : c.as_slice.result.now ≡ c.in-Asks.name = c.as_slice.ensures.value ∙ c.in_ok-letters-in-Asks.ensures in
+    let loads : Loads c.args.caller c.args.at c.in-Asks.name purposes.Inherited (g.W.SwapFile.content c.step_load.new.swap) c.step_load.new.live c.loads.stack.items c.loads.asker c.loads.budget (g.W.SwapFile.content c.load.new.swap) c.load.new.live c.load.new.stack.items c.load.new.asker c.load.new.budget c.in_ok-answer-in-Asks.answer =
+    subst (λ n. Loads c.args.caller c.args.at n purposes.Inherited (g.W.SwapFile.content c.step_load.new.swap) c.step_load.new.live c.loads.stack.items c.loads.asker c.loads.budget (g.W.SwapFile.content c.load.new.swap) c.load.new.live c.load.new.stack.items c.load.new.asker c.load.new.budget c.in_ok-answer-in-Asks.answer) named c.in_ok-answer-in-Asks.ensures.loads in
+    let takes : (told : Option Bytes) (turn : Turn) (b : ℕ) → Takes (fed.Ends c.in-Ends-2.answer) c.loads.job c.in-Asks.waiting c.in_ok-answer-in-Asks.answer told c.load.new.live c.feed_load.new.job turn b =
+    subst (λ f. (told : Option Bytes) (turn : Turn) (b : ℕ) → Takes f c.loads.job c.in-Asks.waiting c.in_ok-answer-in-Asks.answer told c.load.new.live c.feed_load.new.job turn b) c.in-Ends-2.is c.in_ok-next-in-Asks.ensures.takes in
+    loads_later c.args.caller c.args.at c.args.job c.loads.job goings.Simul c.loads.going (g.W.SwapFile.content c.args.swap.now) (g.W.SwapFile.content c.loads.swap) (g.W.SwapFile.content c.load.new.swap) c.args.live.now c.loads.live c.load.new.live c.args.stack.now.items c.loads.stack.items c.load.new.stack.items c.args.asker.now c.loads.asker c.load.new.asker c.args.budget.now c.loads.budget c.load.new.budget c.in-Ends-2.answer
+    c.loads.invariant.goes c.loads.invariant.lies c.loads.invariant.same c.loads.invariant.spends c.loads.invariant.home
+    (load_ends c.args.caller c.args.at c.loads.job c.loads.going (g.W.SwapFile.content c.loads.swap) (g.W.SwapFile.content c.step_load.new.swap) c.loads.live c.step_load.new.live c.loads.stack.items c.loads.asker c.loads.budget c.in-Asks.name c.in-Asks.waiting leads (g.W.SwapFile.content c.load.new.swap) c.load.new.live c.load.new.stack.items c.load.new.asker c.load.new.budget c.in_ok-answer-in-Asks.answer loads c.in-Ends-2.answer c.feed_load.new.job takes c.in_ok-answer.ensures.home (subst (EndsThere c.load.new.live.cells) c.in-Ends-2.is (c.in_ok-next-in-Asks.ensures.there c.load.new.live.cells loads.there)))
+
+pub load_on-loads-smaller : goal.load_on-loads-smaller
+load_on-loads-smaller g t c =
+    let leads : LeadsOn (steps.Asks c.in-Asks.name c.in-Asks.waiting) c.loads.job c.loads.going c.loads.asker.loads.items (g.W.SwapFile.content c.loads.swap) c.loads.live (g.W.SwapFile.content c.step_load.new.swap) c.step_load.new.live = subst (λ r. LeadsOn r c.loads.job c.loads.going c.loads.asker.loads.items (g.W.SwapFile.content c.loads.swap) c.loads.live (g.W.SwapFile.content c.step_load.new.swap) c.step_load.new.live) c.in-Asks.is c.in_ok-answer.ensures.leads in
+    let named : c.as_slice.result.now ≡ c.in-Asks.name = c.as_slice.ensures.value ∙ c.in_ok-letters-in-Asks.ensures in
+    let loads : Loads c.args.caller c.args.at c.in-Asks.name purposes.Inherited (g.W.SwapFile.content c.step_load.new.swap) c.step_load.new.live c.loads.stack.items c.loads.asker c.loads.budget (g.W.SwapFile.content c.load.new.swap) c.load.new.live c.load.new.stack.items c.load.new.asker c.load.new.budget c.in_ok-answer-in-Asks.answer =
+    subst (λ n. Loads c.args.caller c.args.at n purposes.Inherited (g.W.SwapFile.content c.step_load.new.swap) c.step_load.new.live c.loads.stack.items c.loads.asker c.loads.budget (g.W.SwapFile.content c.load.new.swap) c.load.new.live c.load.new.stack.items c.load.new.asker c.load.new.budget c.in_ok-answer-in-Asks.answer) named c.in_ok-answer-in-Asks.ensures.loads in
+    let reads : c.in-Goes.next ≡ goings.Read = subst GoesReading c.in-Goes.is c.in_ok-next-in-Asks.ensures.reads in
+    let takes : (told : Option Bytes) (turn : Turn) (b : ℕ) → Takes (fed.Goes c.in-Goes.next) c.loads.job c.in-Asks.waiting c.in_ok-answer-in-Asks.answer told c.load.new.live c.feed_load.new.job turn b =
+    subst (λ f. (told : Option Bytes) (turn : Turn) (b : ℕ) → Takes f c.loads.job c.in-Asks.waiting c.in_ok-answer-in-Asks.answer told c.load.new.live c.feed_load.new.job turn b) c.in-Goes.is c.in_ok-next-in-Asks.ensures.takes in
+    let paid = load_paid c.args.caller c.args.at c.loads.job c.loads.going (g.W.SwapFile.content c.loads.swap) (g.W.SwapFile.content c.step_load.new.swap) c.loads.live c.step_load.new.live c.loads.stack.items c.loads.asker c.loads.budget c.in-Asks.name c.in-Asks.waiting leads (g.W.SwapFile.content c.load.new.swap) c.load.new.live c.load.new.stack.items c.load.new.asker c.load.new.budget c.in_ok-answer-in-Asks.answer loads c.feed_load.new.job c.loads.invariant.can (subst (λ x. (told : Option Bytes) (turn : Turn) (b : ℕ) → Takes (fed.Goes x) c.loads.job c.in-Asks.waiting c.in_ok-answer-in-Asks.answer told c.load.new.live c.feed_load.new.job turn b) reads takes) in
+    let none : turns_left c.in-Goes.next ≡ 0 = ap turns_left reads in
+    omega (arith, paid, none)
+
+pub load_on-loads-preserved : goal.load_on-loads-preserved
+load_on-loads-preserved g t c =
+    let leads : LeadsOn (steps.Asks c.in-Asks.name c.in-Asks.waiting) c.loads.job c.loads.going c.loads.asker.loads.items (g.W.SwapFile.content c.loads.swap) c.loads.live (g.W.SwapFile.content c.step_load.new.swap) c.step_load.new.live = subst (λ r. LeadsOn r c.loads.job c.loads.going c.loads.asker.loads.items (g.W.SwapFile.content c.loads.swap) c.loads.live (g.W.SwapFile.content c.step_load.new.swap) c.step_load.new.live) c.in-Asks.is c.in_ok-answer.ensures.leads in
+    let named : c.as_slice.result.now ≡ c.in-Asks.name = c.as_slice.ensures.value ∙ c.in_ok-letters-in-Asks.ensures in
+    let loads : Loads c.args.caller c.args.at c.in-Asks.name purposes.Inherited (g.W.SwapFile.content c.step_load.new.swap) c.step_load.new.live c.loads.stack.items c.loads.asker c.loads.budget (g.W.SwapFile.content c.load.new.swap) c.load.new.live c.load.new.stack.items c.load.new.asker c.load.new.budget c.in_ok-answer-in-Asks.answer =
+    subst (λ n. Loads c.args.caller c.args.at n purposes.Inherited (g.W.SwapFile.content c.step_load.new.swap) c.step_load.new.live c.loads.stack.items c.loads.asker c.loads.budget (g.W.SwapFile.content c.load.new.swap) c.load.new.live c.load.new.stack.items c.load.new.asker c.load.new.budget c.in_ok-answer-in-Asks.answer) named c.in_ok-answer-in-Asks.ensures.loads in
+    let takes : (told : Option Bytes) (turn : Turn) (b : ℕ) → Takes (fed.Goes c.in-Goes.next) c.loads.job c.in-Asks.waiting c.in_ok-answer-in-Asks.answer told c.load.new.live c.feed_load.new.job turn b =
+    subst (λ f. (told : Option Bytes) (turn : Turn) (b : ℕ) → Takes f c.loads.job c.in-Asks.waiting c.in_ok-answer-in-Asks.answer told c.load.new.live c.feed_load.new.job turn b) c.in-Goes.is c.in_ok-next-in-Asks.ensures.takes in
+    let more : LoadContinues c.args.caller c.args.at c.loads.job c.loads.going (g.W.SwapFile.content c.loads.swap) c.loads.live c.loads.asker c.loads.budget c.feed_load.new.job c.in-Goes.next (g.W.SwapFile.content c.load.new.swap) c.load.new.live c.load.new.asker c.load.new.budget =
+    load_goes c.args.caller c.args.at c.loads.job c.loads.going (g.W.SwapFile.content c.loads.swap) (g.W.SwapFile.content c.step_load.new.swap) c.loads.live c.step_load.new.live c.loads.stack.items c.loads.asker c.loads.budget c.in-Asks.name c.in-Asks.waiting leads (g.W.SwapFile.content c.load.new.swap) c.load.new.live c.load.new.stack.items c.load.new.asker c.load.new.budget c.in_ok-answer-in-Asks.answer loads c.in-Goes.next c.feed_load.new.job takes c.in_ok-next-in-Asks.ensures.same in
+    record {
+      can = can_load_on c.args.caller c.args.at c.loads.job c.feed_load.new.job c.loads.going c.in-Goes.next (g.W.SwapFile.content c.loads.swap) (g.W.SwapFile.content c.load.new.swap) c.loads.live c.load.new.live c.loads.asker c.load.new.asker c.loads.budget c.load.new.budget c.loads.invariant.can more;
+      ascii = subst IsAscii (sym (ap (λ (j : LoadJob). j.name) c.in_ok-next-in-Asks.ensures.same)) c.loads.invariant.ascii;
+      fit = loads.fit;
+      lies = load_lies c.args.caller c.args.at c.loads.job c.loads.going (g.W.SwapFile.content c.loads.swap) (g.W.SwapFile.content c.step_load.new.swap) c.loads.live c.step_load.new.live c.loads.stack.items c.loads.asker c.loads.budget c.in-Asks.name c.in-Asks.waiting leads (g.W.SwapFile.content c.load.new.swap) c.load.new.live c.load.new.stack.items c.load.new.asker c.load.new.budget c.in_ok-answer-in-Asks.answer loads c.loads.invariant.can ∙ c.loads.invariant.lies;
+      same = same_later c.args.asker.now c.loads.asker c.load.new.asker c.loads.invariant.same loads.same;
+      spends = le_trans loads.spends c.loads.invariant.spends;
+      home = home_later c.args.live.now.objects c.loads.live.objects c.load.new.live.objects c.loads.invariant.home (home_later c.loads.live.objects c.step_load.new.live.objects c.load.new.live.objects c.in_ok-answer.ensures.home loads.home);
+      tells = tells_more c.loads.invariant.tells (tells_more c.in_ok-answer.ensures.tells c.in_ok-answer-in-Asks.ensures.tells);
+      goes = loads_more c.args.caller c.args.at c.args.job c.loads.job c.feed_load.new.job goings.Simul c.loads.going c.in-Goes.next (g.W.SwapFile.content c.args.swap.now) (g.W.SwapFile.content c.loads.swap) (g.W.SwapFile.content c.load.new.swap) c.args.live.now c.loads.live c.load.new.live c.args.asker.now c.loads.asker c.load.new.asker c.args.budget.now c.loads.budget c.load.new.budget c.loads.invariant.goes more;
+    }
+
+-- Clones
+
+pub call_clone-returns-in-Ends-clause-answers : goal.call_clone-returns-in-Ends-clause-answers
+call_clone-returns-in-Ends-clause-answers g t c =
+    let begins : Begins (begun.Ends c.in-Ends.ending) (g.W.SwapFile.content c.args.swap.now) c.args.live.now c.args.stack.now.items c.args.args c.args.budget.now c.begin_clone.new.live c.begin_clone.new.stack.items c.begin_clone.new.budget = subst (λ r. Begins r (g.W.SwapFile.content c.args.swap.now) c.args.live.now c.args.stack.now.items c.args.args c.args.budget.now c.begin_clone.new.live c.begin_clone.new.stack.items c.begin_clone.new.budget) c.in-Ends.is c.in_ok-ending.ensures.begins in
+    subst (λ x. Answers (requests.Efun c.args.at efuns.CloneObject) c.args.args (g.W.SwapFile.content c.args.swap.now) c.args.live.now c.args.stack.now.items c.args.asker.now c.args.budget.now x c.begin_clone.new.live c.begin_clone.new.stack.items c.args.asker.now c.begin_clone.new.budget c.in-Ends.ending) (sym c.in_ok-ending.ensures.told)
+    (clone_answered c.args.at c.args.args (g.W.SwapFile.content c.args.swap.now) c.args.live.now c.begin_clone.new.live c.args.stack.now.items c.begin_clone.new.stack.items c.args.asker.now c.args.budget.now c.begin_clone.new.budget c.in-Ends.ending begins c.in_ok-ending.ensures.fit c.in_ok-ending.ensures.home c.in_ok-ending.ensures.spends (subst (IsBegunThere c.begin_clone.new.live.cells) c.in-Ends.is (c.in_ok-ending.ensures.there c.begin_clone.new.live.cells)))
+
+pub call_clone-load_clone-requires : goal.call_clone-load_clone-requires
+call_clone-load_clone-requires g t c =
+    let begins : Begins (begun.Runs c.in-Runs.cloning) (g.W.SwapFile.content c.args.swap.now) c.args.live.now c.args.stack.now.items c.args.args c.args.budget.now c.begin_clone.new.live c.begin_clone.new.stack.items c.begin_clone.new.budget = subst (λ r. Begins r (g.W.SwapFile.content c.args.swap.now) c.args.live.now c.args.stack.now.items c.args.args c.args.budget.now c.begin_clone.new.live c.begin_clone.new.stack.items c.begin_clone.new.budget) c.in-Runs.is c.in_ok-ending.ensures.begins in
+    let less = c.in_ok-ending.ensures.spends in
+    λ κs within. (
+      omega (arith, less),
+      (
+        within,
+        (
+          c.in_ok-ending.ensures.fit,
+          subst (λ x. CanClone c.args.at x (g.W.SwapFile.content c.begin_clone.new.swap) c.begin_clone.new.live c.args.asker.now c.begin_clone.new.budget) c.in-Load.is
+              (subst (λ x. CanClone c.args.at c.in-Runs.cloning x c.begin_clone.new.live c.args.asker.now c.begin_clone.new.budget) (sym c.in_ok-ending.ensures.told) (clone_can c.args.at c.args.args (g.W.SwapFile.content c.args.swap.now) c.args.live.now c.begin_clone.new.live c.args.stack.now.items c.begin_clone.new.stack.items c.args.asker.now c.args.budget.now c.begin_clone.new.budget c.in-Runs.cloning begins c.requires.can)),
+        ),
+      ),
+    )
+
+pub call_clone-returns-in-Load-clause-answers : goal.call_clone-returns-in-Load-clause-answers
+call_clone-returns-in-Load-clause-answers g t c =
+    let begins : Begins (begun.Runs c.in-Runs.cloning) (g.W.SwapFile.content c.args.swap.now) c.args.live.now c.args.stack.now.items c.args.args c.args.budget.now c.begin_clone.new.live c.begin_clone.new.stack.items c.begin_clone.new.budget = subst (λ r. Begins r (g.W.SwapFile.content c.args.swap.now) c.args.live.now c.args.stack.now.items c.args.args c.args.budget.now c.begin_clone.new.live c.begin_clone.new.stack.items c.begin_clone.new.budget) c.in-Runs.is c.in_ok-ending.ensures.begins in
+    if_ok c.load_clone.result
+    (λ e h. clone_answers c.args.at c.args.args (g.W.SwapFile.content c.args.swap.now) c.args.live.now c.begin_clone.new.live c.args.stack.now.items c.begin_clone.new.stack.items c.args.asker.now c.args.budget.now c.begin_clone.new.budget c.in-Runs.cloning begins (g.W.SwapFile.content c.load_clone.new.swap) c.load_clone.new.live c.load_clone.new.stack.items c.load_clone.new.asker c.load_clone.new.budget e
+    (subst (λ x. Clones c.args.at c.in-Runs.cloning x c.begin_clone.new.live c.begin_clone.new.stack.items c.args.asker.now c.begin_clone.new.budget (g.W.SwapFile.content c.load_clone.new.swap) c.load_clone.new.live c.load_clone.new.stack.items c.load_clone.new.asker c.load_clone.new.budget e) c.in_ok-ending.ensures.told
+    (subst (λ x. Clones c.args.at x (g.W.SwapFile.content c.begin_clone.new.swap) c.begin_clone.new.live c.begin_clone.new.stack.items c.args.asker.now c.begin_clone.new.budget (g.W.SwapFile.content c.load_clone.new.swap) c.load_clone.new.live c.load_clone.new.stack.items c.load_clone.new.asker c.load_clone.new.budget e) (sym c.in-Load.is) h))
+    c.in_ok-ending.ensures.home c.in_ok-ending.ensures.spends)
+    c.load_clone.ensures.clones
+
+pub call_clone-make-requires : goal.call_clone-make-requires
+call_clone-make-requires g t c =
+    let begins : Begins (begun.Runs c.in-Runs.cloning) (g.W.SwapFile.content c.args.swap.now) c.args.live.now c.args.stack.now.items c.args.args c.args.budget.now c.begin_clone.new.live c.begin_clone.new.stack.items c.begin_clone.new.budget = subst (λ r. Begins r (g.W.SwapFile.content c.args.swap.now) c.args.live.now c.args.stack.now.items c.args.args c.args.budget.now c.begin_clone.new.live c.begin_clone.new.stack.items c.begin_clone.new.budget) c.in-Runs.is c.in_ok-ending.ensures.begins in
+    let home : IsSome (variables_at c.begin_clone.new.live.objects c.in-Make.making.object) = subst (IsHome c.begin_clone.new.live.objects) c.in-Make.is (subst (IsReady c.begin_clone.new.live.objects) c.in-Runs.is c.in_ok-ending.ensures.ready).1 in
+    let less = c.in_ok-ending.ensures.spends in
+    λ κs within. (
+      omega (arith, less),
+      (
+        within,
+        (
+          home,
+          (
+            c.in_ok-ending.ensures.fit,
+            clone_can_make c.args.at c.in-Make.making (g.W.SwapFile.content c.begin_clone.new.swap) c.begin_clone.new.live c.begin_clone.new.stack.items c.args.asker.now c.begin_clone.new.budget home
+                (subst (λ x. CanClone c.args.at x (g.W.SwapFile.content c.begin_clone.new.swap) c.begin_clone.new.live c.args.asker.now c.begin_clone.new.budget) c.in-Make.is
+                (subst (λ x. CanClone c.args.at c.in-Runs.cloning x c.begin_clone.new.live c.args.asker.now c.begin_clone.new.budget) (sym c.in_ok-ending.ensures.told) (clone_can c.args.at c.args.args (g.W.SwapFile.content c.args.swap.now) c.args.live.now c.begin_clone.new.live c.args.stack.now.items c.begin_clone.new.stack.items c.args.asker.now c.args.budget.now c.begin_clone.new.budget c.in-Runs.cloning begins c.requires.can))),
+          ),
+        ),
+      ),
+    )
+
+pub call_clone-returns-in_ok-ending-in-Make-clause-answers : goal.call_clone-returns-in_ok-ending-in-Make-clause-answers
+call_clone-returns-in_ok-ending-in-Make-clause-answers g t c =
+    let begins : Begins (begun.Runs c.in-Runs.cloning) (g.W.SwapFile.content c.args.swap.now) c.args.live.now c.args.stack.now.items c.args.args c.args.budget.now c.begin_clone.new.live c.begin_clone.new.stack.items c.begin_clone.new.budget = subst (λ r. Begins r (g.W.SwapFile.content c.args.swap.now) c.args.live.now c.args.stack.now.items c.args.args c.args.budget.now c.begin_clone.new.live c.begin_clone.new.stack.items c.begin_clone.new.budget) c.in-Runs.is c.in_ok-ending.ensures.begins in
+    let home : IsSome (variables_at c.begin_clone.new.live.objects c.in-Make.making.object) = subst (IsHome c.begin_clone.new.live.objects) c.in-Make.is (subst (IsReady c.begin_clone.new.live.objects) c.in-Runs.is c.in_ok-ending.ensures.ready).1 in
+    clone_answers c.args.at c.args.args (g.W.SwapFile.content c.args.swap.now) c.args.live.now c.begin_clone.new.live c.args.stack.now.items c.begin_clone.new.stack.items c.args.asker.now c.args.budget.now c.begin_clone.new.budget c.in-Runs.cloning begins (g.W.SwapFile.content c.make.new.swap) c.make.new.live c.make.new.stack.items c.make.new.asker c.make.new.budget c.cloned.result
+    (subst (λ x. Clones c.args.at c.in-Runs.cloning x c.begin_clone.new.live c.begin_clone.new.stack.items c.args.asker.now c.begin_clone.new.budget (g.W.SwapFile.content c.make.new.swap) c.make.new.live c.make.new.stack.items c.make.new.asker c.make.new.budget c.cloned.result) c.in_ok-ending.ensures.told
+    (subst (λ x. Clones c.args.at x (g.W.SwapFile.content c.begin_clone.new.swap) c.begin_clone.new.live c.begin_clone.new.stack.items c.args.asker.now c.begin_clone.new.budget (g.W.SwapFile.content c.make.new.swap) c.make.new.live c.make.new.stack.items c.make.new.asker c.make.new.budget c.cloned.result) (sym c.in-Make.is)
+    (clone_made c.args.at c.in-Make.making (g.W.SwapFile.content c.begin_clone.new.swap) c.begin_clone.new.live c.begin_clone.new.stack.items c.args.asker.now c.begin_clone.new.budget home (g.W.SwapFile.content c.make.new.swap) c.make.new.live c.make.new.stack.items c.make.new.asker c.make.new.budget c.in_ok-ending-in-Make.ending c.cloned.result
+    c.in_ok-ending-in-Make.ensures.makes c.cloned.ensures.cloned c.cloned.ensures.same)))
+    c.in_ok-ending.ensures.home c.in_ok-ending.ensures.spends
+
+pub load_clone-clone_loaded-requires-clause-stands : goal.load_clone-clone_loaded-requires-clause-stands
+load_clone-clone_loaded-requires-clause-stands g t c =
+    let text : c.in_ok-text.text ≡ chars (string_bytes c.args.name) = c.in_ok-text.ensures ∙ ap chars c.as_str.ensures.value in
+    let loads : Loads (Some c.args.at.this) (Some c.args.at) (chars (string_bytes c.args.name)) purposes.Wanted (g.W.SwapFile.content c.args.swap.now) c.args.live.now c.args.stack.now.items c.args.asker.now c.args.budget.now (g.W.SwapFile.content c.load.new.swap) c.load.new.live c.load.new.stack.items c.load.new.asker c.load.new.budget c.in_ok-answer.answer =
+    subst (λ n. Loads (Some c.args.at.this) (Some c.args.at) n purposes.Wanted (g.W.SwapFile.content c.args.swap.now) c.args.live.now c.args.stack.now.items c.args.asker.now c.args.budget.now (g.W.SwapFile.content c.load.new.swap) c.load.new.live c.load.new.stack.items c.load.new.asker c.load.new.budget c.in_ok-answer.answer) (c.as_slice.ensures ∙ text) c.in_ok-answer.ensures.loads in
+    clone_load_stands c.args.at c.args.name (g.W.SwapFile.content c.args.swap.now) c.args.live.now c.args.stack.now.items c.args.asker.now c.args.budget.now c.law_loads_through.ensures (g.W.SwapFile.content c.load.new.swap) c.load.new.live c.load.new.stack.items c.load.new.asker c.load.new.budget c.in_ok-answer.answer loads c.requires.can
+
+pub load_clone-returns-in-Ends-clause-clones : goal.load_clone-returns-in-Ends-clause-clones
+load_clone-returns-in-Ends-clause-clones g t c =
+    let text : c.in_ok-text.text ≡ chars (string_bytes c.args.name) = c.in_ok-text.ensures ∙ ap chars c.as_str.ensures.value in
+    let loads : Loads (Some c.args.at.this) (Some c.args.at) (chars (string_bytes c.args.name)) purposes.Wanted (g.W.SwapFile.content c.args.swap.now) c.args.live.now c.args.stack.now.items c.args.asker.now c.args.budget.now (g.W.SwapFile.content c.load.new.swap) c.load.new.live c.load.new.stack.items c.load.new.asker c.load.new.budget c.in_ok-answer.answer =
+    subst (λ n. Loads (Some c.args.at.this) (Some c.args.at) n purposes.Wanted (g.W.SwapFile.content c.args.swap.now) c.args.live.now c.args.stack.now.items c.args.asker.now c.args.budget.now (g.W.SwapFile.content c.load.new.swap) c.load.new.live c.load.new.stack.items c.load.new.asker c.load.new.budget c.in_ok-answer.answer) (c.as_slice.ensures ∙ text) c.in_ok-answer.ensures.loads in
+    let ending : c.in_ok-ending.ending ≡ loaded_ending (chars (string_bytes c.args.name)) c.in_ok-answer.answer = c.in_ok-ending.ensures.ending ∙ ap (λ n. loaded_ending n c.in_ok-answer.answer) text in
+    let loaded : LoadedAs (begun.Ends c.in-Ends.ending) (chars (string_bytes c.args.name)) (loaded_ending (chars (string_bytes c.args.name)) c.in_ok-answer.answer) (g.W.SwapFile.content c.load.new.swap) c.load.new.live c.clone_loaded.new.live =
+    subst (λ e. LoadedAs (begun.Ends c.in-Ends.ending) (chars (string_bytes c.args.name)) e (g.W.SwapFile.content c.load.new.swap) c.load.new.live c.clone_loaded.new.live) ending (subst (λ r. LoadedAs r (chars (string_bytes c.args.name)) c.in_ok-ending.ending (g.W.SwapFile.content c.load.new.swap) c.load.new.live c.clone_loaded.new.live) c.in-Ends.is c.in_ok-ending-2.ensures.loaded) in
+    let fit : IsFit c.clone_loaded.new.live c.load.new.stack.items = record { closed = c.in_ok-ending-2.ensures.closed; there = subst (λ cells. All (IsThere cells) c.load.new.stack.items) (sym c.in_ok-ending-2.ensures.cells) loads.fit.there } in
+    subst (λ x. Clones c.args.at (stages.Load c.args.name) (g.W.SwapFile.content c.args.swap.now) c.args.live.now c.args.stack.now.items c.args.asker.now c.args.budget.now x c.clone_loaded.new.live c.load.new.stack.items c.load.new.asker c.load.new.budget c.in-Ends.ending) (sym c.in_ok-ending-2.ensures.told)
+    (clone_load_ends c.args.at c.args.name (g.W.SwapFile.content c.args.swap.now) c.args.live.now c.args.stack.now.items c.args.asker.now c.args.budget.now c.law_loads_through.ensures (g.W.SwapFile.content c.load.new.swap) c.load.new.live c.load.new.stack.items c.load.new.asker c.load.new.budget c.in_ok-answer.answer loads c.in-Ends.ending c.clone_loaded.new.live loaded c.in_ok-ending-2.ensures.home fit
+    (subst (λ cells. IsEndingThere cells c.in-Ends.ending) (sym c.in_ok-ending-2.ensures.cells) (subst (IsBegunThere c.load.new.live.cells) c.in-Ends.is (c.in_ok-ending-2.ensures.there c.load.new.live.cells (c.in_ok-ending.ensures.there c.load.new.live.cells loads.there)))))
+
+pub load_clone-make-requires : goal.load_clone-make-requires
+load_clone-make-requires g t c =
+    let text : c.in_ok-text.text ≡ chars (string_bytes c.args.name) = c.in_ok-text.ensures ∙ ap chars c.as_str.ensures.value in
+    let loads : Loads (Some c.args.at.this) (Some c.args.at) (chars (string_bytes c.args.name)) purposes.Wanted (g.W.SwapFile.content c.args.swap.now) c.args.live.now c.args.stack.now.items c.args.asker.now c.args.budget.now (g.W.SwapFile.content c.load.new.swap) c.load.new.live c.load.new.stack.items c.load.new.asker c.load.new.budget c.in_ok-answer.answer =
+    subst (λ n. Loads (Some c.args.at.this) (Some c.args.at) n purposes.Wanted (g.W.SwapFile.content c.args.swap.now) c.args.live.now c.args.stack.now.items c.args.asker.now c.args.budget.now (g.W.SwapFile.content c.load.new.swap) c.load.new.live c.load.new.stack.items c.load.new.asker c.load.new.budget c.in_ok-answer.answer) (c.as_slice.ensures ∙ text) c.in_ok-answer.ensures.loads in
+    let ending : c.in_ok-ending.ending ≡ loaded_ending (chars (string_bytes c.args.name)) c.in_ok-answer.answer = c.in_ok-ending.ensures.ending ∙ ap (λ n. loaded_ending n c.in_ok-answer.answer) text in
+    let loaded : LoadedAs (begun.Runs (stages.Make c.in-Make.making)) (chars (string_bytes c.args.name)) (loaded_ending (chars (string_bytes c.args.name)) c.in_ok-answer.answer) (g.W.SwapFile.content c.load.new.swap) c.load.new.live c.clone_loaded.new.live =
+    subst (λ e. LoadedAs (begun.Runs (stages.Make c.in-Make.making)) (chars (string_bytes c.args.name)) e (g.W.SwapFile.content c.load.new.swap) c.load.new.live c.clone_loaded.new.live) ending (subst (λ x. LoadedAs (begun.Runs x) (chars (string_bytes c.args.name)) c.in_ok-ending.ending (g.W.SwapFile.content c.load.new.swap) c.load.new.live c.clone_loaded.new.live) c.in-Make.is (subst (λ r. LoadedAs r (chars (string_bytes c.args.name)) c.in_ok-ending.ending (g.W.SwapFile.content c.load.new.swap) c.load.new.live c.clone_loaded.new.live) c.in-Runs.is c.in_ok-ending-2.ensures.loaded)) in
+    let fit : IsFit c.clone_loaded.new.live c.load.new.stack.items = record { closed = c.in_ok-ending-2.ensures.closed; there = subst (λ cells. All (IsThere cells) c.load.new.stack.items) (sym c.in_ok-ending-2.ensures.cells) loads.fit.there } in
+    let home : IsSome (variables_at c.clone_loaded.new.live.objects c.in-Make.making.object) = subst (IsHome c.clone_loaded.new.live.objects) c.in-Make.is (subst (IsReady c.clone_loaded.new.live.objects) c.in-Runs.is c.in_ok-ending-2.ensures.ready).1 in
+    let less = loads.spends in
+    λ κs within. (
+      omega (arith, less),
+      (
+        within,
+        (
+          home,
+          (
+            fit,
+            clone_can_make c.args.at c.in-Make.making (g.W.SwapFile.content c.clone_loaded.new.swap) c.clone_loaded.new.live c.load.new.stack.items c.load.new.asker c.load.new.budget home
+                (subst (λ x. CanClone c.args.at (stages.Make c.in-Make.making) x c.clone_loaded.new.live c.load.new.asker c.load.new.budget) (sym c.in_ok-ending-2.ensures.told) (clone_load_can c.args.at c.args.name (g.W.SwapFile.content c.args.swap.now) c.args.live.now c.args.stack.now.items c.args.asker.now c.args.budget.now c.law_loads_through.ensures (g.W.SwapFile.content c.load.new.swap) c.load.new.live c.load.new.stack.items c.load.new.asker c.load.new.budget c.in_ok-answer.answer loads c.in-Make.making c.clone_loaded.new.live loaded c.requires.can)),
+          ),
+        ),
+      ),
+    )
+
+pub load_clone-returns-in-Make-clause-clones : goal.load_clone-returns-in-Make-clause-clones
+load_clone-returns-in-Make-clause-clones g t c =
+    let text : c.in_ok-text.text ≡ chars (string_bytes c.args.name) = c.in_ok-text.ensures ∙ ap chars c.as_str.ensures.value in
+    let loads : Loads (Some c.args.at.this) (Some c.args.at) (chars (string_bytes c.args.name)) purposes.Wanted (g.W.SwapFile.content c.args.swap.now) c.args.live.now c.args.stack.now.items c.args.asker.now c.args.budget.now (g.W.SwapFile.content c.load.new.swap) c.load.new.live c.load.new.stack.items c.load.new.asker c.load.new.budget c.in_ok-answer.answer =
+    subst (λ n. Loads (Some c.args.at.this) (Some c.args.at) n purposes.Wanted (g.W.SwapFile.content c.args.swap.now) c.args.live.now c.args.stack.now.items c.args.asker.now c.args.budget.now (g.W.SwapFile.content c.load.new.swap) c.load.new.live c.load.new.stack.items c.load.new.asker c.load.new.budget c.in_ok-answer.answer) (c.as_slice.ensures ∙ text) c.in_ok-answer.ensures.loads in
+    let ending : c.in_ok-ending.ending ≡ loaded_ending (chars (string_bytes c.args.name)) c.in_ok-answer.answer = c.in_ok-ending.ensures.ending ∙ ap (λ n. loaded_ending n c.in_ok-answer.answer) text in
+    let loaded : LoadedAs (begun.Runs (stages.Make c.in-Make.making)) (chars (string_bytes c.args.name)) (loaded_ending (chars (string_bytes c.args.name)) c.in_ok-answer.answer) (g.W.SwapFile.content c.load.new.swap) c.load.new.live c.clone_loaded.new.live =
+    subst (λ e. LoadedAs (begun.Runs (stages.Make c.in-Make.making)) (chars (string_bytes c.args.name)) e (g.W.SwapFile.content c.load.new.swap) c.load.new.live c.clone_loaded.new.live) ending (subst (λ x. LoadedAs (begun.Runs x) (chars (string_bytes c.args.name)) c.in_ok-ending.ending (g.W.SwapFile.content c.load.new.swap) c.load.new.live c.clone_loaded.new.live) c.in-Make.is (subst (λ r. LoadedAs r (chars (string_bytes c.args.name)) c.in_ok-ending.ending (g.W.SwapFile.content c.load.new.swap) c.load.new.live c.clone_loaded.new.live) c.in-Runs.is c.in_ok-ending-2.ensures.loaded)) in
+    let home : IsSome (variables_at c.clone_loaded.new.live.objects c.in-Make.making.object) = subst (IsHome c.clone_loaded.new.live.objects) c.in-Make.is (subst (IsReady c.clone_loaded.new.live.objects) c.in-Runs.is c.in_ok-ending-2.ensures.ready).1 in
+    clone_load_goes c.args.at c.args.name (g.W.SwapFile.content c.args.swap.now) c.args.live.now c.args.stack.now.items c.args.asker.now c.args.budget.now c.law_loads_through.ensures (g.W.SwapFile.content c.load.new.swap) c.load.new.live c.load.new.stack.items c.load.new.asker c.load.new.budget c.in_ok-answer.answer loads c.in-Make.making c.clone_loaded.new.live loaded (g.W.SwapFile.content c.make.new.swap) c.make.new.live c.make.new.stack.items c.make.new.asker c.make.new.budget c.cloned.result
+    (subst (λ x. Clones c.args.at (stages.Make c.in-Make.making) x c.clone_loaded.new.live c.load.new.stack.items c.load.new.asker c.load.new.budget (g.W.SwapFile.content c.make.new.swap) c.make.new.live c.make.new.stack.items c.make.new.asker c.make.new.budget c.cloned.result) c.in_ok-ending-2.ensures.told
+    (clone_made c.args.at c.in-Make.making (g.W.SwapFile.content c.clone_loaded.new.swap) c.clone_loaded.new.live c.load.new.stack.items c.load.new.asker c.load.new.budget home (g.W.SwapFile.content c.make.new.swap) c.make.new.live c.make.new.stack.items c.make.new.asker c.make.new.budget c.in_ok-ending-in-Make.ending c.cloned.result
+    c.in_ok-ending-in-Make.ensures.makes c.cloned.ensures.cloned c.cloned.ensures.same))
+    c.in_ok-ending-2.ensures.home

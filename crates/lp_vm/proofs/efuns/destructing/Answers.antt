@@ -13,12 +13,12 @@ use Rattle.lp_vm.proofs.efuns.destructing.Goals as goal
 
 pub returns-clause-starts : goal.returns-clause-starts
 returns-clause-starts c =
-    let caller : Caller = record { this = c.args.this; interactive = c.args.asker.now.interactive; callers = c.as_slice.result } in
+    let caller : Caller = record { this = c.args.at.this; interactive = c.args.asker.now.interactive; callers = c.as_slice.result } in
     let asker : Asker = c.args.asker.now in
     let there : IsEndingThere c.call_destruct.new.live.cells c.ending_of.result = c.ending_of.ensures.there c.call_destruct.new.live.cells c.in_ok-answer.ensures.there in
-    subst (λ e. StartsEfun (starts.Answered e) c.args.this efuns.Destruct c.args.args c.args.live.now c.args.stack.now.items c.args.asker.now c.args.budget.now c.call_destruct.new.live c.drop_top.new.stack.items asker c.call_destruct.new.budget) (sym c.ending_of.ensures.ending)
-    (ended_answers c.args.this efuns.Destruct c.args.live.now c.call_destruct.new.live c.args.stack.now.items c.drop_top.new.stack.items c.args.asker.now asker c.args.args c.args.budget.now c.call_destruct.new.budget caller c.in_ok-answer.answer refl refl c.as_slice.ensures.value
-    (whole_ended c.args.this efuns.Destruct c.args.live.now c.call_destruct.new.live c.args.stack.now.items c.drop_top.new.stack.items c.args.asker.now asker c.args.args c.args.budget.now c.call_destruct.new.budget caller c.in_ok-answer.answer refl refl c.as_slice.ensures.value
+    subst (λ e. StartsEfun (starts.Answered e) c.args.at efuns.Destruct c.args.args c.args.live.now c.args.stack.now.items c.args.asker.now c.args.budget.now c.call_destruct.new.live c.drop_top.new.stack.items asker c.call_destruct.new.budget) (sym c.ending_of.ensures.ending)
+    (ended_answers c.args.at efuns.Destruct c.args.live.now c.call_destruct.new.live c.args.stack.now.items c.drop_top.new.stack.items c.args.asker.now asker c.args.args c.args.budget.now c.call_destruct.new.budget caller c.in_ok-answer.answer refl refl c.as_slice.ensures.value
+    (whole_ended c.args.at efuns.Destruct c.args.live.now c.call_destruct.new.live c.args.stack.now.items c.drop_top.new.stack.items c.args.asker.now asker c.args.args c.args.budget.now c.call_destruct.new.budget caller c.in_ok-answer.answer refl refl c.as_slice.ensures.value
     c.topmost.result.now destruct_settles c.topmost.ensures c.drop_top.ensures.items c.in_ok-answer.ensures.calls)
     (record { interactive = refl; loads = refl; callers = refl; depth = refl }) c.in_ok-answer.ensures.variables
     (kept_fit c.args.live.now c.call_destruct.new.live c.args.stack.now.items c.drop_top.new.stack.items (length c.args.stack.now.items - c.args.args) c.drop_top.ensures.items c.in_ok-answer.ensures.closed

@@ -10,12 +10,12 @@ use Rattle.lp_vm.proofs.efuns.plain.Goals as goal
 
 pub returns-clause-starts : goal.returns-clause-starts
 returns-clause-starts c =
-    let caller : Caller = record { this = c.args.this; interactive = c.args.asker.now.interactive; callers = c.as_slice.result } in
+    let caller : Caller = record { this = c.args.at.this; interactive = c.args.asker.now.interactive; callers = c.as_slice.result } in
     let asker : Asker = record { turn = c.call_plain.new.turn; interactive = c.args.asker.now.interactive; loads = c.args.asker.now.loads; callers = c.args.asker.now.callers; depth = c.args.asker.now.depth } in
     let there : IsEndingThere c.call_plain.new.live.cells c.ending_of.result = c.ending_of.ensures.there c.call_plain.new.live.cells c.in_ok-answer.ensures.there in
-    subst (λ e. StartsEfun (starts.Answered e) c.args.this c.args.efun c.args.args c.args.live.now c.args.stack.now.items c.args.asker.now c.args.budget.now c.call_plain.new.live c.drop_top.new.stack.items asker c.call_plain.new.budget) (sym c.ending_of.ensures.ending)
-    (ended_answers c.args.this c.args.efun c.args.live.now c.call_plain.new.live c.args.stack.now.items c.drop_top.new.stack.items c.args.asker.now asker c.args.args c.args.budget.now c.call_plain.new.budget caller c.in_ok-answer.answer refl refl c.as_slice.ensures.value
-    (plain_ended c.args.this c.args.efun c.args.live.now c.call_plain.new.live c.args.stack.now.items c.drop_top.new.stack.items c.args.asker.now asker c.args.args c.args.budget.now c.call_plain.new.budget caller c.in_ok-answer.answer refl refl c.as_slice.ensures.value
+    subst (λ e. StartsEfun (starts.Answered e) c.args.at c.args.efun c.args.args c.args.live.now c.args.stack.now.items c.args.asker.now c.args.budget.now c.call_plain.new.live c.drop_top.new.stack.items asker c.call_plain.new.budget) (sym c.ending_of.ensures.ending)
+    (ended_answers c.args.at c.args.efun c.args.live.now c.call_plain.new.live c.args.stack.now.items c.drop_top.new.stack.items c.args.asker.now asker c.args.args c.args.budget.now c.call_plain.new.budget caller c.in_ok-answer.answer refl refl c.as_slice.ensures.value
+    (plain_ended c.args.at c.args.efun c.args.live.now c.call_plain.new.live c.args.stack.now.items c.drop_top.new.stack.items c.args.asker.now asker c.args.args c.args.budget.now c.call_plain.new.budget caller c.in_ok-answer.answer refl refl c.as_slice.ensures.value
     c.topmost.result.now c.requires.plain c.topmost.ensures c.drop_top.ensures.items c.in_ok-answer.ensures.calls)
     (record { interactive = refl; loads = refl; callers = refl; depth = refl }) c.in_ok-answer.ensures.variables
     (kept_fit c.args.live.now c.call_plain.new.live c.args.stack.now.items c.drop_top.new.stack.items (length c.args.stack.now.items - c.args.args) c.drop_top.ensures.items c.in_ok-answer.ensures.closed c.in_ok-answer.ensures.stay c.requires.fit)

@@ -1,0 +1,7 @@
+pub mod Telling
+pub mod Calls
+pub mod Turns
+pub mod Starts
+pub mod Rested
+pub mod Known
+pub mod Commands

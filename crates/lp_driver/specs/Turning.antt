@@ -1,0 +1,64 @@
+-- Turns go on, call by call, to their ends.
+use Rattle.std.specs.Prelude.{◌≡◌, ⊤, ℕ, List, Option, IfErr, Result, Bool}
+use Rattle.lp_code.specs.declared.program.RawProgram.{RawProgram}
+use Rattle.lp_events.specs.declared.out.Out.{Out}
+use Rattle.lp_swapfile.specs.Counts.{Counts}
+use Rattle.lp_swapfile.specs.Device.{Bytes}
+use Rattle.lp_language.specs.Course.{Asks, Course, End, Gives, State}
+use Rattle.lp_meaning.specs.Closing.{Ends}
+use Rattle.lp_meaning.specs.FrontEnd.{FrontEnd}
+use Rattle.lp_front_end.specs.FrontEnds.{IsFrontEnd}
+use Rattle.lp_world.specs.declared.live.Live.{Live}
+use Rattle.lp_world.specs.declared.objects.Object.{Object}
+use Rattle.lp_residence.specs.declared.answers.EnterFault.{EnterFault}
+use Rattle.lp_residence.specs.declared.answers.EnterFault.TheVariants.{NoMemory}
+use Rattle.lp_turn.specs.Calls.{IsAskedThere, question_of, state_behind}
+use Rattle.lp_turn.specs.Resting.{Rests}
+use Rattle.lp_turn.specs.Turns.{going_course, waiting_course}
+use Rattle.lp_turn.specs.declared.job.Call.{Call}
+use Rattle.lp_turn.specs.declared.job.Going.{Going}
+use Rattle.lp_turn.specs.declared.job.Step.{Step}
+use Rattle.lp_turn.specs.declared.job.Step.TheVariants as steps
+use Rattle.lp_turn.specs.declared.job.Waiting.{Waiting}
+
+-- the course of a turn that asks, and waits for the end of the call
+abbrev pub asking_course : Call → Waiting → State → Course (Unit {0})
+asking_course call waiting s = Asks (question_of call s) (λ o. waiting_course waiting o.answer (state_behind call s o))
+
+-- A turn goes on so, in a state for which the live state stands: what is left of it ends as the whole does.
+pub record TurnLeft (front : FrontEnd) (told : Option Bytes) (before : List Out) (live : Live) (going : Going) (course : Course (Unit {0})) : Type 0 where
+  pub programs : List RawProgram
+  pub state : State
+  pub rests : Rests told programs before live state
+  pub back : (e : End (Unit {0})) → Ends front (going_course going state) e → Ends front course e
+
+-- It has ended, in a state for which the live state stands.
+pub record TurnEnded (front : FrontEnd) (told : Option Bytes) (before : List Out) (live : Live) (course : Course (Unit {0})) : Type 0 where
+  pub programs : List RawProgram
+  pub state : State
+  pub rests : Rests told programs before live state
+  pub ends : Ends front course (Gives tt state)
+
+-- so from each state for which the live state stood
+abbrev pub TurnGoes : (State → Course (Unit {0})) → Option Bytes → Live → Option Bytes → Live → Going → Type 0
+TurnGoes turn told0 live0 told1 live1 going =
+    (front : FrontEnd) (real : IsFrontEnd front) (programs : List RawProgram) (before : List Out) (s : State) → Rests told0 programs before live0 s → TurnLeft front told1 before live1 going (turn s)
+
+-- THE TURN IS CARRIED OUT as it means.
+abbrev pub TurnEnds : (State → Course (Unit {0})) → Option Bytes → Live → Option Bytes → Live → Type 0
+TurnEnds turn told0 live0 told1 live1 =
+    (front : FrontEnd) (real : IsFrontEnd front) (programs : List RawProgram) (before : List Out) (s : State) → Rests told0 programs before live0 s → TurnEnded front told1 before live1 (turn s)
+
+-- what a step asks for is there
+abbrev pub IsStepAskedThere : List (Option Object) → Step → Type 0
+IsStepAskedThere objects (steps.Asks call waiting) = IsAskedThere objects call.asked
+IsStepAskedThere objects steps.Ends = ⊤
+
+-- What the device did where something was to be put out: nothing was read, and at most one write failed.
+pub record PutsOut (reads0 reads1 writes0 writes1 : ℕ) (true0 true1 honest0 honest1 : Type 0) (answer : Result (Unit {0}) EnterFault) : Type 0 where
+  pub cause : IfErr answer (λ e. e ≡ NoMemory)
+  pub read_faults : reads1 ≡ reads0
+  pub failed : Bool
+  pub faults : Counts failed writes0 writes1
+  pub truthful : true1 → true0
+  pub honest : honest1 → honest0

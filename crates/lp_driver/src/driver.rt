@@ -1,0 +1,112 @@
+//! The driver: its start, and its turns.
+ghost use Rattle.std.specs.Prelude.{◌≡◌, ◌≤◌, ◌^◌, [], IfErr, IfOk, List, OnOk};
+ghost use Rattle.lp_first.specs.First.{HasFiles};
+ghost use Rattle.lp_language.specs.World.{File, World};
+ghost use Rattle.lp_world.specs.Closed.{IsClosed};
+ghost use Rattle.lp_vm.specs.Causes.{Tells, read_of};
+ghost use Rattle.lp_driver.specs.Driving.{HasBegun, HasNoMasterIf, IsAtRest, IsNoMasterOf, StartTells, StartsAs, TurnsAs, start_answer};
+
+use crate::events::carry_out;
+use crate::starting::{Started, run_start};
+use lp_asking::truth::Truthful;
+use lp_events::event::Event;
+use lp_events::out::Outs;
+use lp_files::store::Store;
+use lp_first::first::first_state;
+use lp_front_end::law_there_is_one;
+use lp_tree::fault::Fault;
+use lp_vm::fault::VmFault;
+use lp_world::live::Live;
+use std::alloc::Global;
+use std::mem;
+
+/// Why the driver did not start.
+#[derive(Drop)]
+pub enum StartFault {
+    /// There is no master, for these faults.
+    NoMaster {
+        /// The faults.
+        faults: Vec<Fault>,
+    },
+    /// A call was not carried out.
+    Stopped(VmFault),
+}
+
+/// Takes the outputs of a turn. Takes no memory.
+fn take_outputs(live: &mut Live) -> Outs
+    requires closed { IsClosed live.old }
+    ensures outs { result ≡ live.old.outputs }
+    ensures only { live.new ≡ record live.old { outputs = [] } }
+    ensures closed { IsClosed live.new }
+{
+    mem::replace(&mut live.outputs, Outs::new(live.alloc))
+}
+
+/// One turn carries out one event, and gives its outputs. A swap changes nothing.
+///
+/// # Errors
+/// `NoMemory`, also where the swap file gave other bytes of the same digest; `Swap` where it failed or gave bytes of another
+/// digest; `NotYet` where something is asked that is not carried out yet, at each tick among others. Nothing is said of the state
+/// then.
+pub fn turn<W: Truthful>(live: &mut Live, swap: &mut W, event: &Event) -> Result<Outs, VmFault>
+    requires closed { IsClosed live.old }
+    requires rest { (w : World) × IsAtRest (W.content swap.old) live.old w }
+    ensures turns { IfOk result (λ outs. TurnsAs event.now (W.content swap.old) live.old (W.content swap.new) live.new outs) }
+    ensures closed { OnOk result (IsClosed live.new) }
+    ensures rest { OnOk result ((w : World) × IsAtRest (W.content swap.new) live.new w) }
+    ensures tells { Tells (W.content swap.new) (W.last swap.new) (W.read_faults swap.old) (W.read_faults swap.new) (W.write_faults swap.old) (W.write_faults swap.new)
+        (W.is_truthful swap.old) (W.is_truthful swap.new) (W.is_honest swap.old) (W.is_honest swap.new) live.new (read_of result) }
+{
+    law_there_is_one();
+    let mut stack = Vec::new(live.alloc);
+    carry_out(live, swap, &mut stack, event)?;
+    Ok(take_outputs(live))
+}
+
+/// How a start ended: with the live state and its outputs, or with a fault.
+fn finish(mut live: Live, end: Started) -> Result<(Live, Outs), StartFault>
+    requires closed { IsClosed live }
+    ensures begins { IfOk result (λ r. HasBegun end live r.0 r.1) }
+    ensures none { IfErr result (IsNoMasterOf end) }
+    ensures closed { IfOk result (λ r. IsClosed r.0) }
+{
+    match end {
+        Started::Begins => {
+            let outs = take_outputs(&mut live);
+            Ok((live, outs))
+        }
+        Started::NoMaster(faults) => Err(StartFault::NoMaster { faults }),
+    }
+}
+
+/// The driver starts on files, with a seed of its generator and at a moment: the master is loaded, and what it names. It gives the
+/// live state and the outputs.
+///
+/// # Errors
+/// `NoMaster` where no object of the master's name was made, with the faults of the file at which its load ended, or that of an
+/// aborted load. `Stopped` with `NoMemory`, also where the swap file gave other bytes of the same digest; with `Swap` where it
+/// failed or gave bytes of another digest; with `NotYet` where something is asked that is not carried out yet.
+pub fn start<W: Truthful>(
+    alloc: Global,
+    store: Store,
+    seed: u64,
+    moment: u64,
+    swap: &mut W,
+) -> Result<(Live, Outs), StartFault>
+    requires moment { moment ≤ 10 ^ 12 }
+    requires files { (files : List File) × HasFiles store files }
+    ensures starts { IfOk result (λ r. StartsAs store seed moment (W.content swap.new) r.0 r.1) }
+    ensures none { IfErr result (HasNoMasterIf store seed moment) }
+    ensures closed { IfOk result (λ r. IsClosed r.0) }
+    ensures rest { IfOk result (λ r. (w : World) × IsAtRest (W.content swap.new) r.0 w) }
+    ensures tells { StartTells (W.content swap.new) (W.last swap.new) (W.read_faults swap.old) (W.read_faults swap.new) (W.write_faults swap.old) (W.write_faults swap.new)
+        (W.is_truthful swap.old) (W.is_truthful swap.new) (W.is_honest swap.old) (W.is_honest swap.new) (start_answer result) }
+{
+    law_there_is_one();
+    let mut live = first_state(alloc, store, seed, moment);
+    let mut stack = Vec::new(alloc);
+    match run_start(&mut live, swap, &mut stack) {
+        Ok(end) => finish(live, end),
+        Err(fault) => Err(StartFault::Stopped(fault)),
+    }
+}
