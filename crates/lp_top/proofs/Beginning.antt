@@ -1,43 +1,30 @@
--- Making the master, and what a replay has written before that.
-use Rattle.std.proofs.Common.{subst, ◌≡◌, ◌∙◌, ◌≤◌, ℕ, List, [], ◌∷◌, ◌++◌, length, true, false, Option, Some, nat_eq, refl, sym, ap, arith, append_assoc}
+-- Starting the driver, and what a replay has written before that.
+use Rattle.std.proofs.Common.{subst, ◌≡◌, ◌∙◌, ◌≤◌, ◌^◌, ℕ, List, [], ◌∷◌, ◌++◌, Bool, true, false, Option, Some, refl, sym, ap, inr}
 use Rattle.std.proofs.lemmas.List.{append-nil}
-use Rattle.std.proofs.lemmas.Bool.Decides.{nat_tests}
-use Rattle.std.specs.Prelude.{if◌then◌else◌, nat_le}
-use Rattle.std.specs.Cmp.Lexicographic.{pointwise}
 use Rattle.lp_tree.specs.declared.fault.Fault.{Fault}
+use Rattle.lp_swapfile.specs.Device.{Bytes}
 use Rattle.lp_events.specs.declared.item.Item.{Item}
 use Rattle.lp_events.specs.declared.item.Item.TheVariants as items
-use Rattle.lp_events.specs.Script.{beginning, after_item, AllFit, Context, spellings, files_of, events_of}
-use Rattle.lp_small.specs.World.{master_path}
-use Rattle.lp_small.specs.Run.{is_run_yet, has_started, file_at, StartsFrom, MakesNoneFrom, world_after, before}
+use Rattle.lp_events.specs.declared.out.Out.{Out}
+use Rattle.lp_events.specs.Script.{beginning, after_item, AllFit, Context, seed_of, events_of}
+use Rattle.lp_language.specs.World.{World}
+use Rattle.lp_meaning.specs.FrontEnd.{FrontEnd}
+use Rattle.lp_meaning.specs.Closing.{MakesNoMaster, over}
+use Rattle.lp_world.specs.declared.live.Live.{Live}
+use Rattle.lp_world.specs.Closed.{IsClosed}
+use Rattle.lp_driver.specs.Driving.{HasStarted, HasNoMaster as has_none, IsAtRest, StartsAs}
 use Rattle.lp_script.specs.Reader.{Reading, GoesOn, Reads}
-use Rattle.lp_small.specs.declared.live.Live.{Live}
-use Rattle.lp_small.specs.Running.{world_of}
+use Rattle.lp_vm.specs.declared.fault.VmFault.{VmFault}
+use Rattle.lp_vm.specs.declared.fault.VmFault.TheVariants as faults
+use Rattle.lp_top.specs.declared.opening.Opening.{Opening}
 use Rattle.lp_top.specs.declared.status.Status.{Status}
 use Rattle.lp_top.specs.declared.status.Status.TheVariants as ends
-use Rattle.lp_top.specs.Replay.{AreRunYet, IsAtStart, IsGoing, Ends, Holds, Replays, IsNoMaster, IsReadingEnd}
-use Rattle.lp_top.proofs.Reading.{yet-push, holds, both, spellings-append}
-use Rattle.lp_top.proofs.Filing.{files-append, last-fits, is_early, early-not-running}
-use Rattle.lp_top.proofs.Going.{events-append, wrote-reading}
-
-some-same : {xs ys : List ℕ} → Some xs ≡ Some ys → xs ≡ ys
-some-same e = cc
-
-le-of : (n m : ℕ) → nat_le n m ≡ true → n ≤ m
-le-of n m h = grind (arith, nat_tests)
-
--- the master's file has at most so many bytes
-pub small-source : (xs : List Item) (bytes : List ℕ) → AreRunYet xs → file_at (files_of xs) master_path ≡ Some bytes → length bytes ≤ 65536
-small-source [] bytes y e = absurd cc
-small-source (items.File path bs ∷ xs) bytes y e =
-    let w = both (is_run_yet (items.File path bs)) _ y in
-    let v = both (pointwise nat_eq path master_path) (nat_le (length bs) 65536) w.0 in
-    let same : bs ≡ bytes = some-same (ap (λ t. if◌then◌else◌ t (Some bs) (file_at (files_of xs) master_path)) (sym v.0) ∙ e) in
-    subst (λ z. length z ≤ 65536) same (le-of (length bs) 65536 v.1)
-small-source (items.Head seed moment ∷ xs) bytes y e = small-source xs bytes y e
-small-source (items.Start ∷ xs) bytes y e = small-source xs bytes y e
-small-source (items.Event event ∷ xs) bytes y e = small-source xs bytes (both (is_run_yet (items.Event event)) _ y).1 e
-small-source (items.End ∷ xs) bytes y e = small-source xs bytes y e
+use Rattle.lp_top.specs.Causes.{stop_status}
+use Rattle.lp_top.specs.Items.{Holds, HasNoMaster, before, has_started, moment_of, world_files}
+use Rattle.lp_top.specs.Replay.{IsAtStart, IsGoing, HasRun, Ends, Replays, IsReadingEnd}
+use Rattle.lp_top.proofs.Reading.{begins_with}
+use Rattle.lp_top.proofs.Filing.{last-fits, is_early, early-not-running, moment-small}
+use Rattle.lp_top.proofs.Going.{run-behind, wrote-reading, holds-front}
 
 -- no event stands before `start`
 no-events : (c : Context) (xs : List Item) → is_early c.stage ≡ true → has_started xs ≡ false → AllFit c xs → events_of xs ≡ []
@@ -48,9 +35,8 @@ no-events c (items.Start ∷ xs) e h f = absurd cc
 no-events c (items.Event event ∷ xs) e h f = absurd (early-not-running c.stage e f.0.0)
 no-events c (items.End ∷ xs) e h f = absurd (early-not-running c.stage e f.0)
 
-pub events-none : (r : Reading) (source : Option (List ℕ)) (a : IsAtStart r source) → events_of (a.files ++ items.Start ∷ []) ≡ []
-events-none r source a =
-    events-append a.files (items.Start ∷ []) ∙ append-nil (events_of a.files) ∙ no-events beginning a.files refl a.not_started (last-fits beginning a.files items.Start a.given.fit).1
+events-none : (r : Reading) (opening : Opening) (a : IsAtStart r opening) → events_of a.files ≡ []
+events-none r opening a = no-events beginning a.files refl a.not_started (last-fits beginning a.files items.Start a.given.fit).1
 
 started-last : (xs : List Item) → has_started (xs ++ items.Start ∷ []) ≡ true
 started-last [] = refl
@@ -60,61 +46,83 @@ started-last (items.Start ∷ xs) = refl
 started-last (items.Event event ∷ xs) = started-last xs
 started-last (items.End ∷ xs) = started-last xs
 
--- the master was made
-pub going-start : (r : Reading) (source : Option (List ℕ)) (live : Live) (a : IsAtStart r source) → StartsFrom source (world_of live) → IsGoing r live (a.files ++ items.Start ∷ []) (world_of live)
-going-start r source live a s = record {
+-- the driver may start at the moment of the head
+pub may-start : (r : Reading) (opening : Opening) → IsAtStart r opening → opening.moment ≤ 10 ^ 12
+may-start r opening a = subst (λ n. n ≤ 10 ^ 12) (sym a.noted.moment) (moment-small a.files (last-fits beginning a.files items.Start a.given.fit).1)
+
+-- the start is that of the items
+of-items : (r : Reading) (opening : Opening) (a : IsAtStart r opening) (P : ℕ → ℕ → Type 0) → P opening.seed opening.moment → P (seed_of a.files) (moment_of a.files)
+of-items r opening a P p = subst (λ n. P n (moment_of a.files)) a.noted.seed (subst (P opening.seed) a.noted.moment p)
+
+has_run-start : (front : FrontEnd) (xs : List Item) (outs : List Out) (told : Option Bytes) (live : Live) → events_of xs ≡ [] → HasStarted front (world_files xs) (seed_of xs) (moment_of xs) told live outs
+    → HasRun front (xs ++ items.Start ∷ []) (outs ∷ []) told live
+has_run-start front xs outs told live e h = record {
+  last = h.first;
+  run = run-behind front xs items.Start [] (outs ∷ []) h.first refl refl (append-nil (events_of xs) ∙ e) (record { first = h.first; at_start = outs; more = []; starts = h.starts; runs = over; all = refl });
+  rest = h.rest;
+}
+
+-- the driver has started
+pub going-start : (r : Reading) (opening : Opening) (told : Option Bytes) (live : Live) (outs : List Out) (a : IsAtStart r opening) → StartsAs opening.store opening.seed opening.moment told live outs → IsClosed live
+    → (w : World) × IsAtRest told live w → IsGoing r told live (a.files ++ items.Start ∷ []) (outs ∷ [])
+going-start r opening told live outs a s closed rest = record {
   given = a.given;
   phase = a.phase;
-  yet = yet-push a.files items.Start a.yet refl;
   started = started-last a.files;
-  starts = subst (λ o. StartsFrom o (world_of live)) (a.found ∙ ap (λ fs. file_at fs master_path) (sym (files-append a.files (items.Start ∷ []) ∙ append-nil (files_of a.files)))) s;
-  world = ap (world_after (world_of live)) (sym (events-none r source a));
+  runs = λ front real. has_run-start front a.files outs told live (events-none r opening a)
+      (of-items r opening a (λ seed moment. HasStarted front (world_files a.files) seed moment told live outs) (s front (world_files a.files) real a.noted.files));
+  closed = closed;
+  rest = rest;
 }
 
-front-fits : (c : Context) (xs ys : List Item) → AllFit c (xs ++ ys) → AllFit c xs
-front-fits c [] ys f = tt
-front-fits c (x ∷ xs) ys f = (f.0, front-fits (after_item c x) xs ys f.1)
-
--- fewer items, too
-pub holds-front : (b : List ℕ) (xs ys : List Item) → AreRunYet xs → Holds b (xs ++ ys) → Holds b xs
-holds-front b xs ys y h = record {
-  begins = record { others = spellings ys ++ h.begins.others; spelled = h.begins.spelled ∙ ap (λ z. z ++ h.begins.others) (spellings-append xs ys) ∙ append_assoc (spellings xs) (spellings ys) h.begins.others; fit = front-fits beginning xs ys h.begins.fit };
-  yet = y;
-}
-
-held : (b : List ℕ) (r : Reading) (told source : Option (List ℕ)) (a : IsAtStart r source) → Reads b r told → Holds b (a.files ++ items.Start ∷ [])
-held b r told source a h = holds b r told (a.files ++ items.Start ∷ []) h (subst GoesOn (sym a.phase) tt) a.given (yet-push a.files items.Start a.yet refl)
+held : (b : List ℕ) (r : Reading) (told : Option (List ℕ)) (opening : Opening) (a : IsAtStart r opening) → Reads b r told → Holds b (a.files ++ items.Start ∷ [])
+held b r told opening a h = begins_with b r told (a.files ++ items.Start ∷ []) h (subst GoesOn (sym a.phase) tt) a.given
 
 -- nothing was written
 nothing-more : (from : Option (List ℕ)) (old : List ℕ) → from ≡ Some old → from ≡ Some (old ++ [])
 nothing-more from old e = e ∙ ap (λ z. Some z) (sym (append-nil old))
 
--- the master was not made, or there was no memory to say so
-pub replays-none : (b : List ℕ) (r : Reading) (told source from : Option (List ℕ)) (fault : Fault) (s : Status) (a : IsAtStart r source) → Reads b r told → MakesNoneFrom source fault → IsNoMaster fault s → Replays b s from from
-replays-none b r told source from fault (ends.NoMaster fs) a h m n = record {
+none-of : (r : Reading) (opening : Opening) (fs : List Fault) (a : IsAtStart r opening) → has_none opening.store opening.seed opening.moment fs → HasNoMaster a.files fs
+none-of r opening fs a m front real = of-items r opening a (λ seed moment. MakesNoMaster front (world_files a.files) seed moment fs) (m front (world_files a.files) real a.noted.files)
+
+-- there is no master
+pub replays-none : (b : List ℕ) (r : Reading) (told from : Option (List ℕ)) (opening : Opening) (fs : List Fault) (a : IsAtStart r opening) → Reads b r told → has_none opening.store opening.seed opening.moment fs → Replays b (ends.NoMaster fs) from from
+replays-none b r told from opening fs a h m = record {
   read = a.files;
-  ends = (held b r told source a h, a.not_started, fault, n, subst (λ o. MakesNoneFrom o fault) a.found m);
+  ends = (held b r told opening a h, a.not_started, none-of r opening fs a m);
   wrote = λ old e. ([], nothing-more from old e, refl);
 }
-replays-none b r told source from fault ends.NoMemory a h m n = record {
+
+-- the start was not carried out
+pub replays-unstarted : (b : List ℕ) (r : Reading) (told from : Option (List ℕ)) (opening : Opening) (e : VmFault) (at : ℕ) (a : IsAtStart r opening) → Reads b r told → at ≡ r.at → Replays b (stop_status at e) from from
+replays-unstarted b r told from opening faults.NoMemory at a h p = record {
   read = a.files;
-  ends = holds-front b a.files (items.Start ∷ []) a.yet (held b r told source a h);
+  ends = holds-front b a.files (items.Start ∷ []) (held b r told opening a h);
   wrote = λ old e. ([], nothing-more from old e, before a.not_started);
 }
-replays-none b r told source from fault ends.Done a h m n = absurd n
-replays-none b r told source from fault ends.BadWords a h m n = absurd n
-replays-none b r told source from fault (ends.BadScript at) a h m n = absurd n
-replays-none b r told source from fault ends.TooLarge a h m n = absurd n
-replays-none b r told source from fault ends.InputFault a h m n = absurd n
-replays-none b r told source from fault ends.OutputFault a h m n = absurd n
-
-pub replays-no-memory : (b : List ℕ) (r : Reading) (told source from : Option (List ℕ)) (a : IsAtStart r source) → Reads b r told → Replays b ends.NoMemory from from
-replays-no-memory b r told source from a h = record {
+replays-unstarted b r told from opening (faults.Swap cause) at a h p =
+    let k = held b r told opening a h in
+    record {
+      read = a.files;
+      ends = (holds-front b a.files (items.Start ∷ []) k, record { item = items.Start; begins = k; turns = refl });
+      wrote = λ old e. ([], nothing-more from old e, before a.not_started);
+    }
+replays-unstarted b r told from opening faults.NotYet at a h p = record {
   read = a.files;
-  ends = holds-front b a.files (items.Start ∷ []) a.yet (held b r told source a h);
+  ends = inr (record { stops = record { item = items.Start; begins = held b r told opening a h; turns = refl }; place = p ∙ a.place });
   wrote = λ old e. ([], nothing-more from old e, before a.not_started);
 }
 
 -- reading ended before `start`
 pub replays-early : (b : List ℕ) (from : Option (List ℕ)) (s : Status) (xs : List Item) → has_started xs ≡ false → Ends b xs s → IsReadingEnd s → Replays b s from from
 replays-early b from s xs n e k = record { read = xs; ends = e; wrote = λ old f. ([], nothing-more from old f, wrote-reading b xs [] s k (before n)) }
+
+abbrev is_done : Status → Bool
+is_done ends.Done = true
+is_done s = false
+
+-- what was not carried out is not done
+pub stop-not-done : (at : ℕ) (e : VmFault) → stop_status at e ≡ ends.Done → ⊥
+stop-not-done at faults.NoMemory e = let h : false ≡ true = ap is_done e in absurd cc
+stop-not-done at (faults.Swap cause) e = let h : false ≡ true = ap is_done e in absurd cc
+stop-not-done at faults.NotYet e = let h : false ≡ true = ap is_done e in absurd cc

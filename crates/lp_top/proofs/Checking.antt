@@ -6,7 +6,7 @@ use Rattle.lp_io.specs.Told.{after_adding}
 use Rattle.lp_events.specs.declared.item.Item.{Item}
 use Rattle.lp_events.specs.declared.item.Item.TheVariants as items
 use Rattle.lp_events.specs.Script.{IsScript, files_of, longest_input}
-use Rattle.lp_small.specs.Run.{BeginsWithItems, before as none_begun}
+use Rattle.lp_top.specs.Items.{Holds, before as none_begun}
 use Rattle.lp_script.specs.declared.fault.ScriptFault.{ScriptFault}
 use Rattle.lp_script.specs.declared.fault.ScriptFault.TheVariants as script
 use Rattle.lp_script.specs.Reader.{Reading, GoesOn, HasGiven, Reads, IsAfter, Says, fresh}
@@ -15,8 +15,8 @@ use Rattle.lp_check.specs.Report.{IsReport}
 use Rattle.lp_check.specs.Sources.{AreFiles}
 use Rattle.lp_top.specs.declared.status.Status.{Status}
 use Rattle.lp_top.specs.declared.status.Status.TheVariants as ends
-use Rattle.lp_top.specs.Check.{EndsCheck, WroteCheck, Checks, IsGathering, IsGathered, EndsGathering}
-use Rattle.lp_top.specs.Replay.{Replays, Finishes, IsReadingEnd, IsReplayEnd, status_of_fault, is_end}
+use Rattle.lp_top.specs.Check.{EndsCheck, WroteCheck, Checks, IsCheckEnd, IsGathering, IsGathered, EndsGathering}
+use Rattle.lp_top.specs.Replay.{Replays, Finishes, IsReadingEnd, status_of_fault, is_end}
 use Rattle.lp_top.proofs.Reading.{begins_with}
 use Rattle.lp_top.proofs.Filing.{files-append}
 use Rattle.lp_top.proofs.Completeness.{OneSpelling, bad-not-script}
@@ -61,10 +61,11 @@ checks_early simul b before (ends.NoMaster faults) h k = absurd k
 checks_early simul b before ends.TooLarge h k = wrote_none simul b before ends.TooLarge h.read h.ends (λ piece e. e)
 checks_early simul b before ends.InputFault h k = wrote_none simul b before ends.InputFault h.read h.ends (λ piece e. e)
 checks_early simul b before ends.OutputFault h k = absurd k
+checks_early simul b before (ends.SwapFault cause) h k = absurd k
 checks_early simul b before ends.NoMemory h k = wrote_none simul b before ends.NoMemory h.read h.ends (λ piece e. e)
 
 -- a script that was read whole is what the input begins with
-whole_begins : (b : List ℕ) (xs : List Item) → IsScript b xs → length b ≤ longest_input → BeginsWithItems (take longest_input b) xs
+whole_begins : (b : List ℕ) (xs : List Item) → IsScript b xs → length b ≤ longest_input → Holds b xs
 whole_begins b xs s l = record { others = []; spelled = take_all longest_input b l ∙ s.spelled ∙ sym (append-nil _); fit = s.fit }
 
 -- no memory for the report
@@ -78,7 +79,7 @@ checks_unread simul b told = wrote_none simul b told ends.NoMemory [] (record { 
 pub replays_unread : (b : List ℕ) (told : Option (List ℕ)) → Replays b ends.NoMemory told told
 replays_unread b told = record {
   read = [];
-  ends = record { begins = record { others = take longest_input b; spelled = refl; fit = tt }; yet = refl };
+  ends = record { others = take longest_input b; spelled = refl; fit = tt };
   wrote = λ old f. ([], added_none told old f, none_begun refl);
 }
 
@@ -94,14 +95,19 @@ checks_finished simul b before after sources whole (ends.BadScript at) h r i = a
 checks_finished simul b before after sources whole (ends.NoMaster fs) h r i = absurd i
 checks_finished simul b before after sources whole ends.TooLarge h r i = absurd i
 checks_finished simul b before after sources whole ends.InputFault h r i = absurd i
+checks_finished simul b before after sources whole (ends.SwapFault cause) h r i = absurd i
 checks_finished simul b before after sources whole ends.NoMemory h r i = absurd i
 
-pub kind_of_finish : (whole : List ℕ) (before after : Option (List ℕ)) (s : Status) → Finishes whole before after s → IsReplayEnd s
+pub kind_of_finish : (whole : List ℕ) (before after : Option (List ℕ)) (s : Status) → Finishes whole before after s → IsCheckEnd s
 kind_of_finish whole before after ends.BadWords i = absurd i
+kind_of_finish whole before after (ends.NoMaster fs) i = absurd i
+kind_of_finish whole before after (ends.SwapFault cause) i = absurd i
 kind_of_finish whole before after s i = tt
 
-pub kind_of_reading : (s : Status) → IsReadingEnd s → IsReplayEnd s
+pub kind_of_reading : (s : Status) → IsReadingEnd s → IsCheckEnd s
 kind_of_reading ends.BadWords i = absurd i
+kind_of_reading (ends.NoMaster fs) i = absurd i
+kind_of_reading (ends.SwapFault cause) i = absurd i
 kind_of_reading s i = tt
 
 -- a script over devices that do not fail is checked to its end, or memory runs out
@@ -113,4 +119,5 @@ completes_check law b xs ys (ends.NoMaster fs) l i p q e = absurd e
 completes_check law b xs ys ends.TooLarge l i p q e = absurd (omega (arith, e.0))
 completes_check law b xs ys ends.InputFault l i p q e = absurd (p refl)
 completes_check law b xs ys ends.OutputFault l i p q e = absurd (q refl)
+completes_check law b xs ys (ends.SwapFault cause) l i p q e = absurd e
 completes_check law b xs ys ends.NoMemory l i p q e = inr refl

@@ -1,21 +1,24 @@
--- A script whose master is made is never refused.
-use Rattle.std.proofs.Common.{subst, ◌≡◌, ◌∙◌, ◌<◌, ◌≤◌, ◌+◌, ◌&&◌, ℕ, List, [], ◌∷◌, ◌++◌, length, take, drop, Bool, true, false, Option, Some, refl, sym, ap, arith, append_assoc, ◌⊎◌, inl, inr}
+-- A script of whose files a master is made is never refused.
+use Rattle.std.proofs.Common.{subst, ◌≡◌, ◌∙◌, ◌<◌, ◌≤◌, ℕ, List, [], ◌∷◌, ◌++◌, length, map, take, drop, Bool, true, false, refl, sym, ap, arith, append_assoc, ◌⊎◌, inl, inr}
 use Rattle.std.proofs.lemmas.Bool.{cases_lt}
 use Rattle.std.proofs.lemmas.List.{append-nil, take_all, take-append-drop}
-use Rattle.std.specs.List.{list_all}
 use Rattle.lp_tree.specs.declared.fault.Fault.{Fault}
-use Rattle.lp_small.specs.declared.small.Kind.{Kind}
-use Rattle.lp_small.specs.declared.small.Function.{Function}
+use Rattle.lp_residence.specs.declared.answers.SwapCause.{SwapCause}
 use Rattle.lp_events.specs.declared.item.Item.{Item}
 use Rattle.lp_events.specs.declared.item.Item.TheVariants as items
-use Rattle.lp_events.specs.Script.{beginning, after_item, after_items, AllFit, Fits, Context, Stage, Beginning, Filing, Running, Over, spelling, spellings, files_of, longest_input, IsScript, IsBadScript}
-use Rattle.lp_small.specs.World.{World, master_path}
-use Rattle.lp_small.specs.Small.{kinds_of, tokens_of, IsUnit, IsUnexpected}
-use Rattle.lp_small.specs.Run.{is_run_yet, file_at, Starts, StartsFrom, MakesNoneFrom, missing, unexpected, BeginsWithItems}
+use Rattle.lp_events.specs.Script.{beginning, after_item, after_items, AllFit, Fits, Context, Stage, Beginning, Filing, Running, Over, spelling, spellings, files_of, seed_of, longest_input, IsScript, IsBadScript}
+use Rattle.lp_language.specs.Course.{End, Gives, Stops}
+use Rattle.lp_language.specs.World.{new_world}
+use Rattle.lp_meaning.specs.ClosingLaws.{OneEnd}
+use Rattle.lp_meaning.specs.EventTurns.{Begins, NoMaster, Start, starting, at_rest}
+use Rattle.lp_meaning.specs.Closing.{Starts}
+use Rattle.lp_front_end.specs.FrontEnds.{ThereIsOne}
 use Rattle.lp_top.specs.declared.status.Status.{Status}
 use Rattle.lp_top.specs.declared.status.Status.TheVariants as ends
-use Rattle.lp_top.specs.Replay.{AreRunYet, Ends}
-use Rattle.lp_top.proofs.Reading.{both, spellings-append}
+use Rattle.lp_top.specs.Items.{BeginsWithItems, HasMaster, HasNoMaster, moment_of, world_file, world_files}
+use Rattle.lp_top.specs.Replay.{Ends, IsCarriedOut}
+use Rattle.lp_top.proofs.Reading.{spellings-append}
+use Rattle.lp_top.proofs.Filing.{seed-front, moment-front}
 use Rattle.lp_top.proofs.Going.{is_late, late-not, after-late}
 
 -- the spelling of an item tells which item it is
@@ -66,14 +69,6 @@ front-held : OneSpelling → (b : List ℕ) (xs ys : List Item) → length b ≤
 front-held law b xs ys l s h =
     front-of-script law beginning xs ys h.others h.fit s.fit s.over (sym h.spelled ∙ take_all longest_input b l ∙ s.spelled)
 
-yet-front : (xs ys : List Item) → AreRunYet (xs ++ ys) → AreRunYet xs
-yet-front [] ys h = refl
-yet-front (x ∷ xs) ys h = let w = both (is_run_yet x) (list_all is_run_yet (xs ++ ys)) h in ap (λ t. t && list_all is_run_yet xs) w.0 ∙ yet-front xs ys w.1
-
-yet-last : (xs : List Item) (x : Item) → AreRunYet (xs ++ x ∷ []) → is_run_yet x ≡ true
-yet-last [] x h = (both (is_run_yet x) true h).0
-yet-last (y ∷ xs) x h = yet-last xs x (both (is_run_yet y) (list_all is_run_yet (xs ++ x ∷ [])) h).1
-
 fits-middle : (c : Context) (xs : List Item) (z : Item) (zs : List Item) → AllFit c (xs ++ z ∷ zs) → Fits (after_items c xs) z
 fits-middle c [] z zs f = f.0
 fits-middle c (x ∷ xs) z zs f = fits-middle (after_item c x) xs z zs f.1
@@ -110,37 +105,53 @@ files-before c (items.Start ∷ xs) zs f = files-before (after_item c items.Star
 files-before c (items.Event event ∷ xs) zs f = files-before (after_item c (items.Event event)) xs zs f.1
 files-before c (items.End ∷ xs) zs f = files-before (after_item c items.End) xs zs f.1
 
--- a unit is not refused
-unit-not-unexpected : (ks : List Kind) (fs : List Function) (at : ℕ) → IsUnit fs ks → IsUnexpected ks at → ⊥
-unit-not-unexpected ks fs at u h = elim (cases-le at (length ks) h.within) as (λ _. ⊥) [
-  | inl lt ↦ h.not_so lt (drop (at + 1) ks, fs, subst (IsUnit fs) (sym (take-append-drop (at + 1) ks)) u)
-  | inr e ↦ h.not_whole e fs u
-]
+-- what stands before `start` says the seed and the moment
+seed-before : (xs zs : List Item) → seed_of ((xs ++ items.Start ∷ []) ++ zs) ≡ seed_of xs
+seed-before [] zs = refl
+seed-before (y ∷ xs) zs = seed-front y ((xs ++ items.Start ∷ []) ++ zs) ∙ sym (seed-front y xs)
 
-source-same : {xs ys : List ℕ} → Some xs ≡ Some ys → xs ≡ ys
-source-same e = cc
+moment-before : (xs zs : List Item) → moment_of ((xs ++ items.Start ∷ []) ++ zs) ≡ moment_of xs
+moment-before [] zs = refl
+moment-before (y ∷ xs) zs = moment-front y ((xs ++ items.Start ∷ []) ++ zs) ∙ sym (moment-front y xs)
 
-pub made-not-none : (o : Option (List ℕ)) (w : World) (fault : Fault) → StartsFrom o w → MakesNoneFrom o fault → ⊥
-made-not-none o w fault s (missing e) = let h = sym s.there ∙ e in absurd cc
-made-not-none o w fault s (unexpected bytes at e u) =
-    let same : s.bytes ≡ bytes = source-same (sym s.there ∙ e) in
-    unit-not-unexpected (kinds_of (tokens_of bytes)) s.functions at (subst (λ x. IsUnit s.functions (kinds_of (tokens_of x))) same s.spelled) u
+abbrev begins_so : End Start → Bool
+begins_so (Gives Begins s) = true
+begins_so (Gives (NoMaster fs) s) = false
+begins_so (Stops x s) = false
 
--- a script whose master is made ends with its transcript, or for want of memory
-pub completes : OneSpelling → (b : List ℕ) (xs ys : List Item) (w : World) (s : Status) → length b ≤ longest_input → IsScript b ys → AreRunYet ys → Starts (files_of ys) w
-    → (s ≡ ends.InputFault → ⊥) → (s ≡ ends.OutputFault → ⊥) → Ends b xs s → (s ≡ ends.Done) ⊎ (s ≡ ends.NoMemory)
-completes law b xs ys w ends.Done l i y m p q e = inl refl
-completes law b xs ys w ends.BadWords l i y m p q e = absurd e
-completes law b xs ys w (ends.BadScript at) l i y m p q (f, inl h) = absurd (bad-not-script law b xs ys at l i h)
-completes law b xs ys w (ends.BadScript at) l i y m p q (f, inr h) =
-    let v = front-held law b (xs ++ h.item ∷ []) ys l i h.begins in
-    let t = yet-last xs h.item (yet-front (xs ++ h.item ∷ []) v.0 (subst AreRunYet v.1 y)) in
-    let n = h.not_yet in absurd cc
-completes law b xs ys w (ends.NoMaster fs) l i y m p q e =
-    let v = front-held law b (xs ++ items.Start ∷ []) ys l i e.0.begins in
-    let same : files_of ys ≡ files_of xs = ap files_of v.1 ∙ files-before beginning xs v.0 (subst (AllFit beginning) v.1 i.fit) in
-    absurd (made-not-none (file_at (files_of xs) master_path) w e.2 (subst (λ gs. Starts gs w) same m) e.4)
-completes law b xs ys w ends.TooLarge l i y m p q e = absurd (omega (arith, e.1.0))
-completes law b xs ys w ends.InputFault l i y m p q e = absurd (p refl)
-completes law b xs ys w ends.OutputFault l i y m p q e = absurd (q refl)
-completes law b xs ys w ends.NoMemory l i y m p q e = inr refl
+-- a start makes a master or none
+made-not-none : OneEnd Start → ThereIsOne → (xs : List Item) (fs : List Fault) → HasMaster xs → HasNoMaster xs fs → ⊥
+made-not-none one there xs fs made none =
+    let t = made there.0 there.1 in
+    let m = none there.0 there.1 in
+    let h : true ≡ false = ap begins_so (one there.0 (starting (at_rest (new_world (world_files xs) (seed_of xs) (moment_of xs)))) (Gives Begins t.2.at_end) (Gives (NoMaster fs) m.at_end) t.2.ends m.ends) in
+    absurd cc
+
+-- the master of a script is that of the items before its start
+master-before : (xs zs ys : List Item) → ys ≡ (xs ++ items.Start ∷ []) ++ zs → AllFit beginning ys → HasMaster ys → HasMaster xs
+master-before xs zs ys e f m front real =
+    let w = m front real in
+    let fs : world_files ys ≡ world_files xs = ap (map world_file) (ap files_of e ∙ files-before beginning xs zs (subst (AllFit beginning) e f)) in
+    let s : seed_of ys ≡ seed_of xs = ap seed_of e ∙ seed-before xs zs in
+    let n : moment_of ys ≡ moment_of xs = ap moment_of e ∙ moment-before xs zs in (
+      w.0,
+      w.1,
+      subst (λ gs. Starts front gs (seed_of xs) (moment_of xs) w.0 w.1) fs
+          (subst (λ k. Starts front (world_files ys) k (moment_of xs) w.0 w.1) s (subst (λ k. Starts front (world_files ys) (seed_of ys) k w.0 w.1) n w.2)),
+    )
+
+-- a script of whose files a master is made is carried out, to its end or up to an item that is not carried out yet, or memory runs out
+pub completes : OneSpelling → OneEnd Start → ThereIsOne → (b : List ℕ) (xs ys : List Item) (s : Status) → length b ≤ longest_input → IsScript b ys → HasMaster ys
+    → (s ≡ ends.InputFault → ⊥) → (s ≡ ends.OutputFault → ⊥) → ((cause : SwapCause) → s ≡ ends.SwapFault cause → ⊥) → Ends b xs s → IsCarriedOut b s
+completes law one there b xs ys ends.Done l i m p q r e = tt
+completes law one there b xs ys ends.BadWords l i m p q r e = absurd e
+completes law one there b xs ys (ends.BadScript at) l i m p q r (inl h) = absurd (bad-not-script law b xs ys at l i h)
+completes law one there b xs ys (ends.BadScript at) l i m p q r (inr h) = (xs, h)
+completes law one there b xs ys (ends.NoMaster fs) l i m p q r e =
+    let v = front-held law b (xs ++ items.Start ∷ []) ys l i e.0 in
+    absurd (made-not-none one there xs fs (master-before xs v.0 ys v.1 i.fit m) e.2)
+completes law one there b xs ys ends.TooLarge l i m p q r e = absurd (omega (arith, e.0))
+completes law one there b xs ys ends.InputFault l i m p q r e = absurd (p refl)
+completes law one there b xs ys ends.OutputFault l i m p q r e = absurd (q refl)
+completes law one there b xs ys (ends.SwapFault cause) l i m p q r e = absurd (r cause refl)
+completes law one there b xs ys ends.NoMemory l i m p q r e = tt

@@ -3,38 +3,31 @@ use Rattle.std.proofs.Common.{subst, ◌≡◌, ◌∙◌, ◌≤◌, ◌+◌, �
 use Rattle.std.proofs.lemmas.List.{append-nil, take-append-drop, take_all}
 use Rattle.std.specs.Prelude.{Ok, codes}
 use Rattle.lp_io.specs.Counts.{Rose}
-use Rattle.lp_io.specs.Told.{after_adding, before_giving}
+use Rattle.lp_io.specs.Told.{after_adding, before_giving, IsCut}
+use Rattle.lp_swapfile.specs.Device.{Bytes}
 use Rattle.lp_events.specs.declared.event.Event.{Event}
 use Rattle.lp_events.specs.declared.event.Event.TheVariants.{Connect, Line, Gone, Tick, Reload, Swap}
 use Rattle.lp_events.specs.declared.item.Item.{Item}
 use Rattle.lp_events.specs.declared.item.Item.TheVariants as items
 use Rattle.lp_events.specs.declared.out.Out.{Out}
-use Rattle.lp_events.specs.Script.{beginning, after_items, after_item, after_event, AllFit, Fits, Context, Stage, Beginning, Filing, Running, Over, files_of, events_of, IsScript, longest_input}
-use Rattle.lp_events.specs.Transcript.{block, blocks, transcript}
-use Rattle.lp_small.specs.World.{World}
-use Rattle.lp_small.specs.Run.{is_run_yet, has_started, Starts, turn, outputs, world_after, Blocks, started}
+use Rattle.lp_events.specs.Script.{beginning, after_items, after_item, after_event, AllFit, Fits, Context, Stage, Beginning, Filing, Running, Over, files_of, seed_of, events_of, spellings, IsScript, longest_input}
+use Rattle.lp_events.specs.Transcript.{block, blocks}
+use Rattle.lp_language.specs.World.{File, World}
+use Rattle.lp_meaning.specs.FrontEnd.{FrontEnd}
+use Rattle.lp_meaning.specs.Closing.{Run, RunsFrom, Turns, over, then}
+use Rattle.lp_front_end.specs.FrontEnds.{IsFrontEnd}
+use Rattle.lp_world.specs.declared.live.Live.{Live}
+use Rattle.lp_driver.specs.Driving.{TurnsAs}
 use Rattle.lp_script.specs.Reader.{Reading, GoesOn, HasGiven, IsAfter, IsInput, Reads}
 use Rattle.lp_script.specs.declared.phase.Phase.TheVariants.{Giving}
 use Rattle.lp_script.specs.declared.phase.Phase.TheVariants as phases
 use Rattle.lp_script.specs.declared.phase.Ending.TheVariants.{Whole}
-use Rattle.lp_small.specs.declared.live.Live.{Live}
-use Rattle.lp_small.specs.Running.{world_of}
 use Rattle.lp_top.specs.declared.status.Status.{Status}
 use Rattle.lp_top.specs.declared.status.Status.TheVariants as ends
-use Rattle.lp_top.specs.Replay.{AreRunYet, IsGoing, EndsReading, IsReadingEnd, Holds, Wrote, Replays, Interrupts, Finishes, IsReplayEnd}
-use Rattle.lp_top.proofs.Reading.{yet-push, holds, at_phase}
-use Rattle.lp_top.proofs.Filing.{files-append, last-fits}
-
--- the blocks of the start and of the events among these items
-abbrev pub blocks_of : World → List Item → List ℕ
-blocks_of w xs = blocks ([] ∷ outputs w (events_of xs))
-
--- Items were carried out: the state stands for the world after them, and their blocks are written.
-pub record IsRunning (r : Reading) (live : Live) (from now : Option (List ℕ)) : Type 0 where
-  pub read : List Item
-  pub world : World
-  pub going : IsGoing r live read world
-  pub written : now ≡ after_adding from (blocks_of world read)
+use Rattle.lp_top.specs.Items.{Holds, StopsAt, IsRunOf, Blocks, started, has_started, has_turn, moment_of, world_files}
+use Rattle.lp_top.specs.Replay.{AreOf, IsDone, IsGoing, HasRun, IsRunning, EndsReading, IsReadingEnd, Wrote, Replays, Interrupts, Finishes, IsReplayEnd}
+use Rattle.lp_top.proofs.Reading.{begins_with, at_phase, cut_is, spellings-append}
+use Rattle.lp_top.proofs.Filing.{world_files-same, last-fits, seed-same, moment-same, is_head}
 
 pub events-append : (xs ys : List Item) → events_of (xs ++ ys) ≡ events_of xs ++ events_of ys
 events-append [] ys = refl
@@ -44,23 +37,52 @@ events-append (items.Start ∷ xs) ys = events-append xs ys
 events-append (items.Event event ∷ xs) ys = ap (λ es. event ∷ es) (events-append xs ys)
 events-append (items.End ∷ xs) ys = events-append xs ys
 
-outputs-push : (w : World) (es : List Event) (e : Event) → outputs w (es ++ e ∷ []) ≡ outputs w es ++ (turn (world_after w es) e).outputs ∷ []
-outputs-push w [] e = refl
-outputs-push w (d ∷ es) e = ap (λ os. (turn w d).outputs ∷ os) (outputs-push (turn w d).world es e)
+-- one turn more
+runs-push : (front : FrontEnd) {w mid last : World} {es : List Event} {outputs : List (List Out)} (e : Event) (outs : List Out)
+    → RunsFrom front w es outputs mid → Turns front mid e outs last → RunsFrom front w (es ++ e ∷ []) (outputs ++ outs ∷ []) last
+runs-push front e outs over t = then t over
+runs-push front e outs (then u r) t = then u (runs-push front e outs r t)
 
-world-push : (w : World) (es : List Event) (e : Event) → world_after w (es ++ e ∷ []) ≡ (turn (world_after w es) e).world
-world-push w [] e = refl
-world-push w (d ∷ es) e = world-push (turn w d).world es e
+run-push : (front : FrontEnd) (seed moment : ℕ) (files : List File) (es : List Event) (outputs : List (List Out)) (mid last : World) (e : Event) (outs : List Out)
+    → Run front seed moment files es outputs mid → Turns front mid e outs last → Run front seed moment files (es ++ e ∷ []) (outputs ++ outs ∷ []) last
+run-push front seed moment files es outputs mid last e outs r t = record {
+  first = r.first;
+  at_start = r.at_start;
+  more = r.more ++ outs ∷ [];
+  starts = r.starts;
+  runs = runs-push front e outs r.runs t;
+  all = ap (λ os. os ++ outs ∷ []) r.all;
+}
 
-blocks-push : (ts : List (List Out)) (t : List Out) → blocks (ts ++ t ∷ []) ≡ blocks ts ++ block t
+-- the same run, told of other items with the same head, files and events
+pub run-same : (front : FrontEnd) (xs ys : List Item) (es : List Event) (outputs : List (List Out)) (last : World) → seed_of ys ≡ seed_of xs → moment_of ys ≡ moment_of xs → world_files ys ≡ world_files xs → events_of ys ≡ es
+    → Run front (seed_of xs) (moment_of xs) (world_files xs) es outputs last → Run front (seed_of ys) (moment_of ys) (world_files ys) (events_of ys) outputs last
+run-same front xs ys es outputs last s m f e r =
+    subst (λ n. Run front n (moment_of ys) (world_files ys) (events_of ys) outputs last) (sym s)
+    (subst (λ n. Run front (seed_of xs) n (world_files ys) (events_of ys) outputs last) (sym m)
+    (subst (λ fs. Run front (seed_of xs) (moment_of xs) fs (events_of ys) outputs last) (sym f)
+    (subst (λ ds. Run front (seed_of xs) (moment_of xs) (world_files xs) ds outputs last) (sym e) r)))
+
+-- an item that is no head and no file, and has these events, goes on with the same run
+pub run-behind : (front : FrontEnd) (xs : List Item) (x : Item) (es : List Event) (outputs : List (List Out)) (last : World) → is_head x ≡ false → files_of (x ∷ []) ≡ [] → events_of xs ++ events_of (x ∷ []) ≡ es
+    → Run front (seed_of xs) (moment_of xs) (world_files xs) es outputs last → Run front (seed_of (xs ++ x ∷ [])) (moment_of (xs ++ x ∷ [])) (world_files (xs ++ x ∷ [])) (events_of (xs ++ x ∷ [])) outputs last
+run-behind front xs x es outputs last h f e r =
+    run-same front xs (xs ++ x ∷ []) es outputs last (seed-same xs x h) (moment-same xs x h) (world_files-same xs x f) (events-append xs (x ∷ []) ∙ e) r
+
+-- one event more
+has_run-more : (front : FrontEnd) (real : IsFrontEnd front) (xs : List Item) (outputs : List (List Out)) (told0 told1 : Option Bytes) (live0 live1 : Live) (e : Event) (outs : List Out)
+    → HasRun front xs outputs told0 live0 → TurnsAs e told0 live0 told1 live1 outs → HasRun front (xs ++ items.Event e ∷ []) (outputs ++ outs ∷ []) told1 live1
+has_run-more front real xs outputs told0 told1 live0 live1 e outs h t =
+    let u = t front h.last real h.rest in
+    record {
+      last = u.next;
+      run = run-behind front xs (items.Event e) (events_of xs ++ e ∷ []) (outputs ++ outs ∷ []) u.next refl refl refl (run-push front _ _ _ (events_of xs) outputs h.last u.next e outs h.run u.turns);
+      rest = u.rest;
+    }
+
+pub blocks-push : (ts : List (List Out)) (t : List Out) → blocks (ts ++ t ∷ []) ≡ blocks ts ++ block t
 blocks-push [] t = append-nil (block t)
 blocks-push (u ∷ ts) t = ap (λ bs. block u ++ bs) (blocks-push ts t) ∙ sym (append_assoc (block u) (blocks ts) (block t))
-
--- the blocks with that of one event more
-pub blocks_of-event : (w : World) (xs : List Item) (e : Event) → blocks_of w (xs ++ items.Event e ∷ []) ≡ blocks_of w xs ++ block (turn (world_after w (events_of xs)) e).outputs
-blocks_of-event w xs e =
-    ap (λ es. blocks ([] ∷ outputs w es)) (events-append xs (items.Event e ∷ [])) ∙ ap (λ os. blocks ([] ∷ os)) (outputs-push w (events_of xs) e)
-    ∙ blocks-push ([] ∷ outputs w (events_of xs)) (turn (world_after w (events_of xs)) e).outputs
 
 pub started-push : (xs : List Item) (x : Item) → has_started xs ≡ true → has_started (xs ++ x ∷ []) ≡ true
 started-push [] x h = absurd cc
@@ -76,22 +98,22 @@ added-more None now xs ys next e f = f ∙ ap (λ o. after_adding o ys) e
 added-more (Some old) now xs ys next e f = f ∙ ap (λ o. after_adding o ys) e ∙ ap (λ zs. Some zs) (append_assoc old xs ys)
 
 -- one event more
-pub running-more : (old new : Reading) (live after : Live) (from now next : Option (List ℕ)) (e : Event) (h : IsRunning old live from now) → HasGiven new (h.read ++ items.Event e ∷ []) → is_run_yet (items.Event e) ≡ true
-    → IsAfter (Ok (items.Event e)) new.phase → world_of after ≡ (turn (world_of live) e).world → next ≡ after_adding now (block (turn (world_of live) e).outputs) → IsRunning new after from next
-running-more old new live after from now next e h v y p w n =
+pub running-more : (old new : Reading) (told0 told1 : Option Bytes) (live after : Live) (from now next : Option (List ℕ)) (e : Event) (h : IsRunning old told0 live from now) → HasGiven new (h.read ++ items.Event e ∷ [])
+    → IsAfter (Ok (items.Event e)) new.phase → IsDone e told0 live told1 after now next → IsRunning new told1 after from next
+running-more old new told0 told1 live after from now next e h v p d =
     let g = h.going in
     record {
       read = h.read ++ items.Event e ∷ [];
-      world = h.world;
+      outputs = h.outputs ++ d.outs ∷ [];
       going = record {
         given = v;
         phase = p;
-        yet = yet-push h.read (items.Event e) g.yet y;
         started = started-push h.read (items.Event e) g.started;
-        starts = subst (λ fs. Starts fs h.world) (sym (files-append h.read (items.Event e ∷ []) ∙ append-nil (files_of h.read))) g.starts;
-        world = w ∙ ap (λ u. (turn u e).world) g.world ∙ sym (ap (world_after h.world) (events-append h.read (items.Event e ∷ [])) ∙ world-push h.world (events_of h.read) e);
+        runs = λ front real. has_run-more front real h.read h.outputs told0 told1 live after e d.outs (g.runs front real) d.turns;
+        closed = d.closed;
+        rest = d.rest;
       };
-      written = added-more from now (blocks_of h.world h.read) _ next h.written (n ∙ ap (λ u. after_adding now (block (turn u e).outputs)) g.world) ∙ ap (after_adding from) (sym (blocks_of-event h.world h.read e));
+      written = added-more from now (blocks h.outputs) (block d.outs) next h.written d.written ∙ ap (after_adding from) (sym (blocks-push h.outputs d.outs));
     }
 
 -- after `start` a script is in its events, or over
@@ -149,19 +171,25 @@ first-not-late r xs x h i v = let w = last-fits beginning xs x v.fit in first-fi
 told-now : (from now : Option (List ℕ)) (piece old : List ℕ) → now ≡ after_adding from piece → from ≡ Some old → now ≡ Some (old ++ piece)
 told-now from now piece old e f = e ∙ ap (λ o. after_adding o piece) f
 
+-- the run of the items that were carried out
+run-of : (r : Reading) (told : Option Bytes) (live : Live) (xs : List Item) (outputs : List (List Out)) → IsGoing r told live xs outputs → IsRunOf xs outputs
+run-of r told live xs outputs g front real = let h = g.runs front real in (h.last, h.run)
+
+-- an `end` behind them has no turn
+run-ended : (xs : List Item) (outputs : List (List Out)) → IsRunOf xs outputs → IsRunOf (xs ++ items.End ∷ []) outputs
+run-ended xs outputs h front real = let u = h front real in (u.0, run-behind front xs items.End (events_of xs) outputs u.0 refl refl (append-nil (events_of xs)) u.1)
+
 -- the blocks of the items that were carried out
-pub blocks-running : (r : Reading) (live : Live) (xs : List Item) (w : World) → IsGoing r live xs w → Blocks xs (blocks_of w xs)
-blocks-running r live xs w g = started w g.started g.starts
+pub blocks-running : (r : Reading) (told : Option Bytes) (live : Live) (xs : List Item) (outputs : List (List Out)) → IsGoing r told live xs outputs → Blocks xs (blocks outputs)
+blocks-running r told live xs outputs g = started outputs g.started (run-of r told live xs outputs g)
 
 -- an `end` behind them has no block
-pub blocks-ended : (r : Reading) (live : Live) (xs : List Item) (w : World) → IsGoing r live xs w → Blocks (xs ++ items.End ∷ []) (blocks_of w xs)
-blocks-ended r live xs w g =
-    subst (Blocks (xs ++ items.End ∷ [])) (ap (λ es. blocks ([] ∷ outputs w es)) (events-append xs (items.End ∷ []) ∙ append-nil (events_of xs)))
-    (started w (started-push xs items.End g.started) (subst (λ fs. Starts fs w) (sym (files-append xs (items.End ∷ []) ∙ append-nil (files_of xs))) g.starts))
+pub blocks-ended : (r : Reading) (told : Option Bytes) (live : Live) (xs : List Item) (outputs : List (List Out)) → IsGoing r told live xs outputs → Blocks (xs ++ items.End ∷ []) (blocks outputs)
+blocks-ended r told live xs outputs g = started outputs (started-push xs items.End g.started) (run-ended xs outputs (run-of r told live xs outputs g))
 
-by_read : (r : Reading) (live : Live) (xs ys : List Item) (w : World) → IsGoing r live xs w → (ys ≡ xs) ⊎ (ys ≡ xs ++ items.End ∷ []) → Blocks ys (blocks_of w xs)
-by_read r live xs ys w g (inl e) = subst (λ zs. Blocks zs (blocks_of w xs)) (sym e) (blocks-running r live xs w g)
-by_read r live xs ys w g (inr e) = subst (λ zs. Blocks zs (blocks_of w xs)) (sym e) (blocks-ended r live xs w g)
+by_read : (r : Reading) (told : Option Bytes) (live : Live) (xs ys : List Item) (outputs : List (List Out)) → IsGoing r told live xs outputs → (ys ≡ xs) ⊎ (ys ≡ xs ++ items.End ∷ []) → Blocks ys (blocks outputs)
+by_read r told live xs ys outputs g (inl e) = subst (λ zs. Blocks zs (blocks outputs)) (sym e) (blocks-running r told live xs outputs g)
+by_read r told live xs ys outputs g (inr e) = subst (λ zs. Blocks zs (blocks outputs)) (sym e) (blocks-ended r told live xs outputs g)
 
 pub wrote-reading : (b : List ℕ) (ys : List Item) (piece : List ℕ) (s : Status) → IsReadingEnd s → Blocks ys piece → Wrote b ys piece s
 wrote-reading b ys piece (ends.BadScript at) k p = p
@@ -172,101 +200,136 @@ wrote-reading b ys piece ends.Done k p = absurd k
 wrote-reading b ys piece ends.BadWords k p = absurd k
 wrote-reading b ys piece (ends.NoMaster fs) k p = absurd k
 wrote-reading b ys piece ends.OutputFault k p = absurd k
+wrote-reading b ys piece (ends.SwapFault cause) k p = absurd k
 
 -- reading ended the replay
-pub replays-reading : (b : List ℕ) (r : Reading) (live : Live) (from now : Option (List ℕ)) (s : Status) (h : IsRunning r live from now) → EndsReading b h.read s → IsReadingEnd s → Replays b s from now
-replays-reading b r live from now s h e k = record {
+pub replays-reading : (b : List ℕ) (r : Reading) (told : Option Bytes) (live : Live) (from now : Option (List ℕ)) (s : Status) (h : IsRunning r told live from now) → EndsReading b h.read s → IsReadingEnd s → Replays b s from now
+replays-reading b r told live from now s h e k = record {
   read = e.read;
   ends = e.ends;
-  wrote = λ old f. (blocks_of h.world h.read, told-now from now (blocks_of h.world h.read) old h.written f, wrote-reading b e.read (blocks_of h.world h.read) s k (by_read r live h.read e.read h.world h.going e.same));
+  wrote = λ old f. (blocks h.outputs, told-now from now (blocks h.outputs) old h.written f, wrote-reading b e.read (blocks h.outputs) s k (by_read r told live h.read e.read h.outputs h.going e.same));
 }
+
+front-fits : (c : Context) (xs ys : List Item) → AllFit c (xs ++ ys) → AllFit c xs
+front-fits c [] ys f = tt
+front-fits c (x ∷ xs) ys f = (f.0, front-fits (after_item c x) xs ys f.1)
+
+-- fewer items, too
+pub holds-front : (b : List ℕ) (xs ys : List Item) → Holds b (xs ++ ys) → Holds b xs
+holds-front b xs ys h = record {
+  others = spellings ys ++ h.others;
+  spelled = h.spelled ∙ ap (λ z. z ++ h.others) (spellings-append xs ys) ∙ append_assoc (spellings xs) (spellings ys) h.others;
+  fit = front-fits beginning xs ys h.fit;
+}
+
+stops : (b : List ℕ) (xs : List Item) (x : Item) → Holds b (xs ++ x ∷ []) → has_turn x ≡ true → StopsAt b xs
+stops b xs x h t = record { item = x; begins = h; turns = t }
+
+-- the turn of an item was not carried out whole
+pub replays-interrupted : (b : List ℕ) (xs : List Item) (x : Item) (done : List ℕ) (turned : List Out → Type 0) (at : ℕ) (from now next : Option (List ℕ)) (s : Status)
+    → Holds b (xs ++ x ∷ []) → has_turn x ≡ true → Blocks xs done → ((outs : List Out) → turned outs → Blocks (xs ++ x ∷ []) (done ++ block outs)) → at ≡ length (spellings xs) → now ≡ after_adding from done
+    → Interrupts turned at now next s → Replays b s from next
+replays-interrupted b xs x done turned at from now next ends.NoMemory h t bs more place w i = record {
+  read = xs;
+  ends = holds-front b xs (x ∷ []) h;
+  wrote = λ old f. (done, i ∙ told-now from now done old w f, bs);
+}
+replays-interrupted b xs x done turned at from now next (ends.SwapFault cause) h t bs more place w i = record {
+  read = xs;
+  ends = (holds-front b xs (x ∷ []) h, stops b xs x h t);
+  wrote = λ old f. (done, i ∙ told-now from now done old w f, bs);
+}
+replays-interrupted b xs x done turned at from now next (ends.BadScript n) h t bs more place w i = record {
+  read = xs;
+  ends = inr (record { stops = stops b xs x h t; place = i.1 ∙ place });
+  wrote = λ old f. (done, i.0 ∙ told-now from now done old w f, bs);
+}
+replays-interrupted b xs x done turned at from now next ends.OutputFault h t bs more place w (outs, u, cut) =
+    let k : List ℕ = block outs in
+    record {
+      read = xs ++ x ∷ [];
+      ends = h;
+      wrote = λ old f. (
+        done ++ take cut.0 k,
+        told-now from next (done ++ take cut.0 k) old (added-more from now done (take cut.0 k) next w cut.2) f,
+        (done ++ k, more outs u, inl (drop cut.0 k, ap (λ z. done ++ z) (sym (take-append-drop cut.0 k)) ∙ sym (append_assoc done (take cut.0 k) (drop cut.0 k)))),
+      );
+    }
+replays-interrupted b xs x done turned at from now next ends.Done h t bs more place w i = absurd i
+replays-interrupted b xs x done turned at from now next ends.BadWords h t bs more place w i = absurd i
+replays-interrupted b xs x done turned at from now next (ends.NoMaster fs) h t bs more place w i = absurd i
+replays-interrupted b xs x done turned at from now next ends.TooLarge h t bs more place w i = absurd i
+replays-interrupted b xs x done turned at from now next ends.InputFault h t bs more place w i = absurd i
+
+-- the blocks with that of one event more
+blocks-event : (r : Reading) (told told1 : Option Bytes) (live live1 : Live) (xs : List Item) (outputs : List (List Out)) (e : Event) (outs : List Out) → IsGoing r told live xs outputs → TurnsAs e told live told1 live1 outs
+    → Blocks (xs ++ items.Event e ∷ []) (blocks outputs ++ block outs)
+blocks-event r told told1 live live1 xs outputs e outs g t =
+    subst (Blocks (xs ++ items.Event e ∷ [])) (blocks-push outputs outs)
+    (started (outputs ++ outs ∷ []) (started-push xs (items.Event e) g.started) (λ front real. let h = has_run-more front real xs outputs told told1 live live1 e outs (g.runs front real) t in (h.last, h.run)))
 
 -- an event was not carried out whole
-pub replays-interrupted : (b : List ℕ) (r new : Reading) (live : Live) (told next_told from now next : Option (List ℕ)) (s : Status) (e : Event) (h : IsRunning r live from now) → Reads b r told → Reads b new next_told
-    → HasGiven new (h.read ++ items.Event e ∷ []) → is_run_yet (items.Event e) ≡ true → IsAfter (Ok (items.Event e)) new.phase → Interrupts now next (block (turn (world_of live) e).outputs) s → Replays b s from next
-replays-interrupted b r new live told next_told from now next ends.NoMemory e h m n v y p i = record {
-  read = h.read;
-  ends = holds b r told h.read m (subst GoesOn (sym h.going.phase) tt) h.going.given h.going.yet;
-  wrote = λ old f. (blocks_of h.world h.read, i ∙ told-now from now (blocks_of h.world h.read) old h.written f, blocks-running r live h.read h.world h.going);
-}
-replays-interrupted b r new live told next_told from now next ends.OutputFault e h m n v y p i =
-    let xs = h.read ++ items.Event e ∷ [] in
-    let t : List ℕ = block (turn (world_of live) e).outputs in
-    let same : blocks_of h.world xs ≡ blocks_of h.world h.read ++ t = blocks_of-event h.world h.read e ∙ ap (λ u. blocks_of h.world h.read ++ block (turn u e).outputs) (sym h.going.world) in
-    record {
-      read = xs;
-      ends = holds b new next_told xs n (subst GoesOn (sym p) tt) v (yet-push h.read (items.Event e) h.going.yet y);
-      wrote = λ old f. (
-        blocks_of h.world h.read ++ take i.0 t,
-        told-now from next (blocks_of h.world h.read ++ take i.0 t) old (added-more from now (blocks_of h.world h.read) (take i.0 t) next h.written i.2) f,
-        (
-          blocks_of h.world xs,
-          started h.world (started-push h.read (items.Event e) h.going.started) (subst (λ fs. Starts fs h.world) (sym (files-append h.read (items.Event e ∷ []) ∙ append-nil (files_of h.read))) h.going.starts),
-          inl (drop i.0 t, same ∙ ap (λ x. blocks_of h.world h.read ++ x) (sym (take-append-drop i.0 t)) ∙ sym (append_assoc (blocks_of h.world h.read) (take i.0 t) (drop i.0 t))),
-        ),
-      );
-    }
-replays-interrupted b r new live told next_told from now next ends.Done e h m n v y p i = absurd i
-replays-interrupted b r new live told next_told from now next ends.BadWords e h m n v y p i = absurd i
-replays-interrupted b r new live told next_told from now next (ends.BadScript at) e h m n v y p i = absurd i
-replays-interrupted b r new live told next_told from now next (ends.NoMaster fs) e h m n v y p i = absurd i
-replays-interrupted b r new live told next_told from now next ends.TooLarge e h m n v y p i = absurd i
-replays-interrupted b r new live told next_told from now next ends.InputFault e h m n v y p i = absurd i
+pub replays-stopped : (b : List ℕ) (r new : Reading) (told : Option Bytes) (live : Live) (next_told from now next : Option (List ℕ)) (s : Status) (e : Event) (at : ℕ) (h : IsRunning r told live from now)
+    → Reads b new next_told → HasGiven new (h.read ++ items.Event e ∷ []) → IsAfter (Ok (items.Event e)) new.phase → at ≡ r.cut → Interrupts (AreOf e told live) at now next s → Replays b s from next
+replays-stopped b r new told live next_told from now next s e at h n v p place i =
+    replays-interrupted b h.read (items.Event e) (blocks h.outputs) (AreOf e told live) at from now next s
+    (begins_with b new next_told (h.read ++ items.Event e ∷ []) n (subst GoesOn (sym p) tt) v) refl
+    (blocks-running r told live h.read h.outputs h.going) (λ outs u. blocks-event r told u.0 live u.1 h.read h.outputs e outs h.going u.2)
+    (place ∙ cut_is r h.read h.going.given) h.written i
 
 -- the items of a script that was read whole, as the input begins with them
-script-holds : (b : List ℕ) (xs : List Item) → IsScript b xs → length b ≤ longest_input → AreRunYet xs → Holds b xs
-script-holds b xs s l y = record {
-  begins = record { others = []; spelled = take_all longest_input b l ∙ s.spelled ∙ sym (append-nil _); fit = s.fit };
-  yet = y;
-}
+script-holds : (b : List ℕ) (xs : List Item) → IsScript b xs → length b ≤ longest_input → Holds b xs
+script-holds b xs s l = record { others = []; spelled = take_all longest_input b l ∙ s.spelled ∙ sym (append-nil _); fit = s.fit }
 
 -- the end was read, and the line at the end written, or a front of it
-pub replays-finished : (b : List ℕ) (r : Reading) (live : Live) (from now next : Option (List ℕ)) (s : Status) (h : IsRunning r live from now) → IsScript b (h.read ++ items.End ∷ []) × (length b ≤ longest_input) → Finishes (codes "end\n") now next s → Replays b s from next
-replays-finished b r live from now next ends.Done h t i =
-    let xs = h.read ++ items.End ∷ [] in
-    let es : events_of xs ≡ events_of h.read = events-append h.read (items.End ∷ []) ∙ append-nil (events_of h.read) in
+pub replays-finished : (b : List ℕ) (r : Reading) (told : Option Bytes) (live : Live) (from now next : Option (List ℕ)) (s : Status) (h : IsRunning r told live from now) → IsScript b (h.read ++ items.End ∷ []) × (length b ≤ longest_input) → Finishes (codes "end\n") now next s → Replays b s from next
+replays-finished b r told live from now next ends.Done h t i =
+    let whole = run-ended h.read h.outputs (run-of r told live h.read h.outputs h.going) in
     record {
-      read = xs;
-      ends = (t.0, yet-push h.read items.End h.going.yet refl, t.1, (h.world, subst (λ fs. Starts fs h.world) (sym (files-append h.read (items.End ∷ []) ∙ append-nil (files_of h.read))) h.going.starts));
+      read = h.read ++ items.End ∷ [];
+      ends = (t.0, t.1, (h.outputs, whole));
       wrote = λ old f. (
-        blocks_of h.world h.read ++ codes "end\n",
-        told-now from next (blocks_of h.world h.read ++ codes "end\n") old (added-more from now (blocks_of h.world h.read) (codes "end\n") next h.written i) f,
-        (
-          h.world,
-          subst (λ fs. Starts fs h.world) (sym (files-append h.read (items.End ∷ []) ∙ append-nil (files_of h.read))) h.going.starts,
-          ap (λ e. transcript ([] ∷ outputs h.world e)) (sym es),
-        ),
+        blocks h.outputs ++ codes "end\n",
+        told-now from next (blocks h.outputs ++ codes "end\n") old (added-more from now (blocks h.outputs) (codes "end\n") next h.written i) f,
+        (h.outputs, whole, refl),
       );
     }
-replays-finished b r live from now next ends.OutputFault h t i =
+replays-finished b r told live from now next ends.OutputFault h t i =
     let xs = h.read ++ items.End ∷ [] in
     record {
       read = xs;
-      ends = script-holds b xs t.0 t.1 (yet-push h.read items.End h.going.yet refl);
+      ends = script-holds b xs t.0 t.1;
       wrote = λ old f. (
-        blocks_of h.world h.read ++ i.0,
-        told-now from next (blocks_of h.world h.read ++ i.0) old (added-more from now (blocks_of h.world h.read) i.0 next h.written i.2) f,
-        (
-          blocks_of h.world h.read,
-          blocks-ended r live h.read h.world h.going,
-          inr (t.0, (i.1.0, ap (λ x. blocks_of h.world h.read ++ x) i.1.1 ∙ sym (append_assoc (blocks_of h.world h.read) i.0 i.1.0))),
-        ),
+        blocks h.outputs ++ i.0,
+        told-now from next (blocks h.outputs ++ i.0) old (added-more from now (blocks h.outputs) i.0 next h.written i.2) f,
+        (blocks h.outputs, blocks-ended r told live h.read h.outputs h.going, inr (t.0, (i.1.0, ap (λ x. blocks h.outputs ++ x) i.1.1 ∙ sym (append_assoc (blocks h.outputs) i.0 i.1.0)))),
       );
     }
-replays-finished b r live from now next ends.BadWords h t i = absurd i
-replays-finished b r live from now next (ends.BadScript at) h t i = absurd i
-replays-finished b r live from now next (ends.NoMaster fs) h t i = absurd i
-replays-finished b r live from now next ends.TooLarge h t i = absurd i
-replays-finished b r live from now next ends.InputFault h t i = absurd i
-replays-finished b r live from now next ends.NoMemory h t i = absurd i
+replays-finished b r told live from now next ends.BadWords h t i = absurd i
+replays-finished b r told live from now next (ends.BadScript at) h t i = absurd i
+replays-finished b r told live from now next (ends.NoMaster fs) h t i = absurd i
+replays-finished b r told live from now next ends.TooLarge h t i = absurd i
+replays-finished b r told live from now next ends.InputFault h t i = absurd i
+replays-finished b r told live from now next (ends.SwapFault cause) h t i = absurd i
+replays-finished b r told live from now next ends.NoMemory h t i = absurd i
 
-nothing : (from : Option (List ℕ)) → from ≡ after_adding from []
-nothing None = refl
-nothing (Some xs) = ap (λ ys. Some ys) (sym (append-nil xs))
+-- only the block of the start is written yet
+pub running-start : (r : Reading) (told : Option Bytes) (live : Live) (from now : Option (List ℕ)) (xs : List Item) (outs : List Out) → IsGoing r told live xs (outs ∷ []) → now ≡ after_adding from (block outs) → IsRunning r told live from now
+running-start r told live from now xs outs g e = record { read = xs; outputs = outs ∷ []; going = g; written = e ∙ ap (after_adding from) (sym (append-nil (block outs))) }
 
--- nothing was carried out yet
-pub running-start : (r : Reading) (live : Live) (from : Option (List ℕ)) (xs : List Item) (w : World) → IsGoing r live xs w → events_of xs ≡ [] → IsRunning r live from from
-running-start r live from xs w g e = record { read = xs; world = w; going = g; written = nothing from ∙ ap (λ es. after_adding from (blocks ([] ∷ outputs w es))) (sym e) }
+-- the block of the start was cut
+pub replays-cut : (b : List ℕ) (r : Reading) (told : Option Bytes) (live : Live) (told_input from next : Option (List ℕ)) (xs : List Item) (outs : List Out) → Reads b r told_input → IsGoing r told live xs (outs ∷ []) → IsCut from next (block outs) → Replays b ends.OutputFault from next
+replays-cut b r told live told_input from next xs outs h g cut =
+    let k : List ℕ = block outs in
+    record {
+      read = xs;
+      ends = begins_with b r told_input xs h (subst GoesOn (sym g.phase) tt) g.given;
+      wrote = λ old f. (
+        take cut.0 k,
+        told-now from next (take cut.0 k) old cut.2 f,
+        (blocks (outs ∷ []), blocks-running r told live xs (outs ∷ []) g, inl (drop cut.0 k, append-nil k ∙ sym (take-append-drop cut.0 k))),
+      );
+    }
 
 -- a count that rose within a longer time rose in it
 pub rose-wider : (m n p q : ℕ) → m ≤ n → p ≤ q → Rose n p → Rose m q
@@ -276,16 +339,16 @@ pub rose-wider-either : (m n p q s t u v : ℕ) → m ≤ n → p ≤ q → s �
 rose-wider-either m n p q s t u v a b c d (inl r) = inl (rose-wider m n p q a b r)
 rose-wider-either m n p q s t u v a b c d (inr r) = inr (rose-wider s t u v c d r)
 
-pub kind-interrupted : (now next : Option (List ℕ)) (t : List ℕ) (s : Status) → Interrupts now next t s → IsReplayEnd s
-kind-interrupted now next t ends.BadWords i = absurd i
-kind-interrupted now next t s i = tt
+pub kind-interrupted : (turned : List Out → Type 0) (at : ℕ) (now next : Option (List ℕ)) (s : Status) → Interrupts turned at now next s → IsReplayEnd s
+kind-interrupted turned at now next ends.BadWords i = absurd i
+kind-interrupted turned at now next s i = tt
 
 pub kind-finished : (now next : Option (List ℕ)) (s : Status) → Finishes (codes "end\n") now next s → IsReplayEnd s
 kind-finished now next ends.BadWords i = absurd i
 kind-finished now next s i = tt
 
-pub goes-running : (r : Reading) (live : Live) (from now : Option (List ℕ)) → IsRunning r live from now → GoesOn r.phase
-goes-running r live from now h = subst GoesOn (sym h.going.phase) tt
+pub goes-running : (r : Reading) (told : Option Bytes) (live : Live) (from now : Option (List ℕ)) → IsRunning r told live from now → GoesOn r.phase
+goes-running r told live from now h = subst GoesOn (sym h.going.phase) tt
 
 some-same : {xs ys : List ℕ} → Some xs ≡ Some ys → ys ≡ xs
 some-same e = cc

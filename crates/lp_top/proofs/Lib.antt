@@ -4,6 +4,7 @@ pub mod Filing
 pub mod Going
 pub mod Beginning
 pub mod Completeness
+pub mod Swapping
 pub mod Counting
 pub mod Making
 pub mod Checking

@@ -43,6 +43,7 @@ completes_make (ends.BadScript at) i q = absurd i
 completes_make (ends.NoMaster faults) i q = absurd i
 completes_make ends.TooLarge i q = absurd i
 completes_make ends.InputFault i q = absurd i
+completes_make (ends.SwapFault cause) i q = absurd i
 
 some_same : {x y : Command} → Some x ≡ Some y → x ≡ y
 some_same e = cc

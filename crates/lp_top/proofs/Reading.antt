@@ -1,23 +1,21 @@
 -- What a reader that has given items says of its input.
-use Rattle.std.proofs.Common.{subst, ◌≡◌, ◌∙◌, ◌<◌, ◌≤◌, ◌+◌, ℕ, zero, suc, List, [], ◌∷◌, ◌++◌, length, take, drop, ◌&&◌, Bool, true, false, Option, Some, None, refl, sym, ap, arith, append_assoc, length-append, inl, inr}
+use Rattle.std.proofs.Common.{subst, ◌≡◌, ◌∙◌, ◌<◌, ◌≤◌, ◌+◌, ℕ, zero, suc, List, [], ◌∷◌, ◌++◌, length, take, drop, false, Option, Some, None, refl, sym, ap, arith, append_assoc, length-append, inl, inr}
 use Rattle.std.proofs.Math.Seq.{drop-append_seam}
 use Rattle.std.proofs.lemmas.List.{length-take, length-take-le, take-append-le, take-append-drop}
-use Rattle.std.specs.List.{list_all}
 use Rattle.std.specs.Prelude.{Ok, Err}
 use Rattle.lp_io.specs.Told.{before_giving}
 use Rattle.lp_events.specs.declared.item.Item.{Item}
 use Rattle.lp_events.specs.declared.item.Item.TheVariants as items
 use Rattle.lp_events.specs.declared.event.Event.TheVariants.{Connect, Line, Gone, Tick, Reload, Swap}
 use Rattle.lp_events.specs.Script.{IsScript, longest_input, spelling, event_spelling, spellings}
-use Rattle.lp_small.specs.Run.{is_run_yet, BeginsWithItems}
+use Rattle.lp_top.specs.Items.{Holds}
 use Rattle.lp_script.specs.declared.phase.Phase.{Phase}
 use Rattle.lp_script.specs.declared.phase.Phase.TheVariants.{Taking, Giving, Over}
 use Rattle.lp_script.specs.declared.phase.Ending.TheVariants.{Whole, Bad, Large, Failed}
 use Rattle.lp_script.specs.Reader.{Reading, GoesOn, GoneAtMost, HasGiven, IsInput, Reads, IsAfter, Says}
 use Rattle.lp_script.specs.declared.fault.ScriptFault.{ScriptFault}
 use Rattle.lp_script.specs.declared.fault.ScriptFault.TheVariants as script
-use Rattle.lp_top.specs.declared.status.Status.TheVariants as ends
-use Rattle.lp_top.specs.Replay.{AreRunYet, Holds, EndsReading, status_of_fault}
+use Rattle.lp_top.specs.Replay.{EndsReading, is_end, status_of_fault}
 
 -- a front of a front
 take-front : (n m : ℕ) (xs : List ℕ) → n ≤ m → take n (take m xs) ≡ take n xs
@@ -56,13 +54,10 @@ by_phase b taken told n Giving h g l =
 by_phase b taken told n (Over ending) h g l = absurd g
 
 -- the input begins with the items that were given
-pub begins_with : (b : List ℕ) (r : Reading) (told : Option (List ℕ)) (xs : List Item) → Reads b r told → GoesOn r.phase → HasGiven r xs → BeginsWithItems (take longest_input b) xs
+pub begins_with : (b : List ℕ) (r : Reading) (told : Option (List ℕ)) (xs : List Item) → Reads b r told → GoesOn r.phase → HasGiven r xs → Holds b xs
 begins_with b r told xs h g v =
     let e = by_phase b r.taken told r.cut r.phase h g v.within in
     record { others = drop r.cut (take longest_input b); spelled = sym (take-append-drop r.cut (take longest_input b)) ∙ ap (λ z. z ++ drop r.cut (take longest_input b)) (e ∙ v.spelled); fit = v.fit }
-
-pub holds : (b : List ℕ) (r : Reading) (told : Option (List ℕ)) (xs : List Item) → Reads b r told → GoesOn r.phase → HasGiven r xs → AreRunYet xs → Holds b xs
-holds b r told xs h g v y = record { begins = begins_with b r told xs h g v; yet = y }
 
 -- the items that were given have as many bytes as the reader is far
 pub cut_is : (r : Reading) (xs : List Item) → HasGiven r xs → r.cut ≡ length (spellings xs)
@@ -106,44 +101,14 @@ goes_on old new xs x v w =
 pub script_within : (b : List ℕ) (r : Reading) (xs : List Item) → HasGiven r xs → IsScript b xs → length b ≤ longest_input
 script_within b r xs v s = let c = cut_is r xs v in let l = cut_within r xs v in omega (arith, ap length s.spelled, c, l)
 
-pub both : (a b : Bool) → a && b ≡ true → (a ≡ true) × (b ≡ true)
-both true b e = (refl, e)
-both false b e = absurd cc
-
-yet-append : (xs ys : List Item) → AreRunYet xs → AreRunYet ys → AreRunYet (xs ++ ys)
-yet-append [] ys a b = b
-yet-append (x ∷ xs) ys a b = let w = both (is_run_yet x) (list_all is_run_yet xs) a in ap (λ t. t && list_all is_run_yet (xs ++ ys)) w.0 ∙ yet-append xs ys w.1 b
-
-pub yet-push : (xs : List Item) (x : Item) → AreRunYet xs → is_run_yet x ≡ true → AreRunYet (xs ++ x ∷ [])
-yet-push xs x a b = yet-append xs (x ∷ []) a (ap (λ t. t && true) b)
-
 -- a fault of the script gives its end
-pub ends-reading : (b : List ℕ) (old : Reading) (told : Option (List ℕ)) (xs : List Item) (f : ScriptFault) → Reads b old told → GoesOn old.phase → HasGiven old xs → AreRunYet xs → Says f b xs → EndsReading b xs (status_of_fault f)
-ends-reading b old told xs (script.BadScript at) h g v y (inl s) = record { read = xs; same = inl refl; ends = (y, inl s) }
-ends-reading b old told xs (script.BadScript at) h g v y (inr s) = record { read = xs ++ items.End ∷ []; same = inr refl; ends = (yet-push xs items.End y refl, inl s) }
-ends-reading b old told xs script.TooLarge h g v y (inl s) = record { read = xs; same = inl refl; ends = (y, s) }
-ends-reading b old told xs script.TooLarge h g v y (inr s) = record { read = xs ++ items.End ∷ []; same = inr refl; ends = (yet-push xs items.End y refl, s) }
-ends-reading b old told xs script.InputFault h g v y s = record { read = xs; same = inl refl; ends = holds b old told xs h g v y }
-ends-reading b old told xs script.NoMemory h g v y s = record { read = xs; same = inl refl; ends = holds b old told xs h g v y }
-
--- an item that is not run yet
-pub ends-not-yet : (b : List ℕ) (old new : Reading) (told : Option (List ℕ)) (xs : List Item) (x : Item) (at : ℕ) → Reads b new told → GoesOn new.phase → HasGiven old xs → HasGiven new (xs ++ x ∷ []) → AreRunYet xs
-    → is_run_yet x ≡ false → at ≡ old.cut → EndsReading b xs (ends.BadScript at)
-ends-not-yet b old new told xs x at h g v w y n e =
-    let f = by_phase b new.taken told new.cut new.phase h g w.within in
-    record {
-      read = xs;
-      same = inl refl;
-      ends = (
-        y,
-        inr (record {
-          item = x;
-          begins = record { others = drop new.cut (take longest_input b); spelled = sym (take-append-drop new.cut (take longest_input b)) ∙ ap (λ z. z ++ drop new.cut (take longest_input b)) (f ∙ w.spelled); fit = w.fit };
-          not_yet = n;
-          place = e ∙ cut_is old xs v;
-        }),
-      );
-    }
+pub ends-reading : (b : List ℕ) (old : Reading) (told : Option (List ℕ)) (xs : List Item) (f : ScriptFault) → Reads b old told → GoesOn old.phase → HasGiven old xs → Says f b xs → EndsReading b xs (status_of_fault f)
+ends-reading b old told xs (script.BadScript at) h g v (inl s) = record { read = xs; same = inl refl; ends = inl s }
+ends-reading b old told xs (script.BadScript at) h g v (inr s) = record { read = xs ++ items.End ∷ []; same = inr refl; ends = inl s }
+ends-reading b old told xs script.TooLarge h g v (inl s) = record { read = xs; same = inl refl; ends = s }
+ends-reading b old told xs script.TooLarge h g v (inr s) = record { read = xs ++ items.End ∷ []; same = inr refl; ends = s }
+ends-reading b old told xs script.InputFault h g v s = record { read = xs; same = inl refl; ends = begins_with b old told xs h g v }
+ends-reading b old told xs script.NoMemory h g v s = record { read = xs; same = inl refl; ends = begins_with b old told xs h g v }
 
 -- at most the bytes that a reader took are gone
 gone-of : (b taken : List ℕ) (told : Option (List ℕ)) → length taken ≤ longest_input + 1 → before_giving taken told ≡ Some b → GoneAtMost b told
@@ -169,8 +134,8 @@ pub taken-after : (b : List ℕ) (r : Reading) (told : Option (List ℕ)) (x : I
 taken-after b r told items.End e h = (at_phase b r.taken told r.phase (Over Whole) e h).0
 taken-after b r told x e h = (at_phase b r.taken told r.phase Giving e h).0
 
--- an item that is not run yet is not the last one
-pub goes-after : (r : Reading) (x : Item) → is_run_yet x ≡ false → IsAfter (Ok x) r.phase → GoesOn r.phase
+-- an item that does not end a script leaves the reader going
+pub goes-after : (r : Reading) (x : Item) → is_end x ≡ false → IsAfter (Ok x) r.phase → GoesOn r.phase
 goes-after r items.End n e = absurd cc
 goes-after r x n e = subst GoesOn (sym e) tt
 

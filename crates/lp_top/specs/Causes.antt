@@ -1,11 +1,17 @@
--- Which device an end blames: only one whose count of faults rose.
-use Rattle.std.specs.Prelude.{◌≡◌, ℕ, List, ◌⊎◌}
+-- Which device an end blames: only one whose count of faults rose, or the swap file where it gave other bytes.
+use Rattle.std.specs.Prelude.{◌≡◌, ℕ, ◌⊎◌, Bool, true, false, Option, Result, Ok, Err, ⊤}
 use Rattle.lp_io.specs.Counts.{Rose}
-use Rattle.lp_tree.specs.declared.fault.Fault.{Fault}
-use Rattle.lp_small.specs.World.{World}
-use Rattle.lp_small.specs.Run.{Starts, MakesNone}
+use Rattle.lp_swapfile.specs.Counts as swap
+use Rattle.lp_swapfile.specs.Device.{Bytes, Last}
+use Rattle.lp_residence.specs.Entering.{IsHonestFault}
+use Rattle.lp_residence.specs.declared.answers.EnterFault.TheVariants as enter
+use Rattle.lp_residence.specs.declared.answers.SwapCause.TheVariants.{Read, Changed}
+use Rattle.lp_targets.specs.Brought.{IsFaultOf}
+use Rattle.lp_world.specs.declared.live.Live.{Live}
+use Rattle.lp_vm.specs.declared.fault.VmFault.{VmFault}
+use Rattle.lp_vm.specs.declared.fault.VmFault.TheVariants as faults
 use Rattle.lp_top.specs.declared.status.Status.{Status}
-use Rattle.lp_top.specs.declared.status.Status.TheVariants.{InputFault, OutputFault}
+use Rattle.lp_top.specs.declared.status.Status.TheVariants.{Done, BadScript, InputFault, OutputFault, SwapFault, NoMemory}
 
 -- the input is blamed only where the source's count of faults rose between two moments
 abbrev pub BlamesInput : Status → ℕ → ℕ → Type 0
@@ -15,6 +21,37 @@ BlamesInput s before now = s ≡ InputFault → Rose before now
 abbrev pub BlamesOutput : Status → ℕ → ℕ → ℕ → ℕ → Type 0
 BlamesOutput s before now zeros_before zeros_now = s ≡ OutputFault → Rose before now ⊎ Rose zeros_before zeros_now
 
--- files that make a world have no fault that hinders it
-abbrev pub StartsOrFaults : Type 0
-StartsOrFaults = (files : List (List ℕ × List ℕ)) (w : World) (fault : Fault) → Starts files w → MakesNone files fault → ⊥
+-- a read of the swap file failed
+abbrev pub is_read_end : Status → Bool
+is_read_end (SwapFault Read) = true
+is_read_end (SwapFault (Changed owner found)) = false
+is_read_end s = false
+
+-- the swap file is blamed for a read of an object or a program that was out, as its latest read shows where it tells
+abbrev pub HasSwapCause : Status → Option Bytes → Last → Type 0
+HasSwapCause (SwapFault cause) told last = (live : Live) × IsFaultOf live told last (enter.Swap cause)
+HasSwapCause s told last = ⊤
+
+-- the end is not that bytes changed
+abbrev pub IsHonestEnd : Status → Type 0
+IsHonestEnd (SwapFault cause) = IsHonestFault (enter.Swap cause)
+IsHonestEnd s = ⊤
+
+-- WHAT THE SWAP FILE DID up to an end: its count of read faults rose exactly where a failed read is the end. One that is honest
+-- and truthful never gives other bytes.
+pub record SwapTells (status : Status) (told : Option Bytes) (last : Last) (reads0 reads1 : ℕ) (true0 true1 honest0 honest1 : Type 0) : Type 0 where
+  pub cause : HasSwapCause status told last
+  pub faults : swap.Counts (is_read_end status) reads0 reads1
+  pub truthful : true1 → true0
+  pub honest : honest1 → honest0 × (true1 → IsHonestEnd status)
+
+-- the end of a turn of an item at this place that was not carried out
+abbrev pub stop_status : ℕ → VmFault → Status
+stop_status at faults.NoMemory = NoMemory
+stop_status at (faults.Swap cause) = SwapFault cause
+stop_status at faults.NotYet = BadScript at
+
+-- the end that stands in an answer, if there is one
+abbrev pub end_in : {A : Type 0} → Result A Status → Status
+end_in (Ok x) = Done
+end_in (Err s) = s

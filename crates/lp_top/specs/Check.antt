@@ -1,14 +1,14 @@
 -- What a check ends with, by the bytes of its input, and what it has written then.
-use Rattle.std.specs.Prelude.{◌≡◌, ℕ, ◌≤◌, List, [], ◌++◌, length, take, Option, Some}
+use Rattle.std.specs.Prelude.{◌≡◌, ℕ, ◌≤◌, List, [], ◌++◌, length, Option, Some}
 use Rattle.lp_events.specs.declared.item.Item.{Item}
 use Rattle.lp_events.specs.Script.{IsScript, IsBadScript, IsTooLarge, files_of, longest_input}
-use Rattle.lp_small.specs.Run.{BeginsWithItems}
 use Rattle.lp_script.specs.Reader.{Reading, GoesOn, HasGiven}
 use Rattle.lp_check.specs.declared.sources.Sources.{Sources}
 use Rattle.lp_check.specs.Report.{IsReport}
 use Rattle.lp_check.specs.Sources.{AreFiles}
 use Rattle.lp_top.specs.declared.status.Status.{Status}
-use Rattle.lp_top.specs.declared.status.Status.TheVariants.{Done, BadWords, BadScript, NoMaster, TooLarge, InputFault, OutputFault, NoMemory}
+use Rattle.lp_top.specs.declared.status.Status.TheVariants.{Done, BadWords, BadScript, NoMaster, TooLarge, InputFault, OutputFault, SwapFault, NoMemory}
+use Rattle.lp_top.specs.Items.{Holds}
 use Rattle.lp_top.specs.Replay.{IsFrontOf}
 
 -- The input, with the items that were read, gives this end. The whole of a script is read before anything is written.
@@ -17,10 +17,18 @@ EndsCheck bytes xs Done = IsScript bytes xs × (length bytes ≤ longest_input)
 EndsCheck bytes xs OutputFault = IsScript bytes xs × (length bytes ≤ longest_input)
 EndsCheck bytes xs (BadScript at) = IsBadScript bytes xs at
 EndsCheck bytes xs TooLarge = IsTooLarge bytes xs
-EndsCheck bytes xs InputFault = BeginsWithItems (take longest_input bytes) xs
-EndsCheck bytes xs NoMemory = BeginsWithItems (take longest_input bytes) xs
+EndsCheck bytes xs InputFault = Holds bytes xs
+EndsCheck bytes xs NoMemory = Holds bytes xs
 EndsCheck bytes xs BadWords = ⊥
 EndsCheck bytes xs (NoMaster faults) = ⊥
+EndsCheck bytes xs (SwapFault cause) = ⊥
+
+-- the ends that a check may have once the words are right
+abbrev pub IsCheckEnd : Status → Type 0
+IsCheckEnd BadWords = ⊥
+IsCheckEnd (NoMaster faults) = ⊥
+IsCheckEnd (SwapFault cause) = ⊥
+IsCheckEnd s = Unit {0}
 
 -- What was written at an end: the report of the script's files, where this path was given for the simul efuns, or where
 -- the sink failed a front of it, and else nothing.

@@ -7,8 +7,8 @@ ghost use Rattle.lp_io.specs.Told.{IsPassedOn};
 ghost use Rattle.lp_check.specs.Sources.{AreFiles};
 ghost use Rattle.lp_script.specs.Reader.{GoneAtMost, Reads, fresh};
 ghost use Rattle.lp_top.specs.Causes.{BlamesInput, BlamesOutput};
-ghost use Rattle.lp_top.specs.Check.{Checks, EndsGathering, IsGathered};
-ghost use Rattle.lp_top.specs.Replay.{IsReadingEnd, IsReplayEnd};
+ghost use Rattle.lp_top.specs.Check.{Checks, EndsGathering, IsCheckEnd, IsGathered};
+ghost use Rattle.lp_top.specs.Replay.{IsReadingEnd};
 
 use crate::finish::finish;
 use crate::items::{is_end, status_of};
@@ -70,7 +70,7 @@ pub(crate) fn check<S: Source, K: Sink>(
     ensures whole { result ≡ Status.Done → (b : List ℕ) → S.remaining input.old ≡ Some b → S.remaining input.new ≡ Some [] }
     ensures most { (b : List ℕ) → S.remaining input.old ≡ Some b → GoneAtMost b (S.remaining input.new) }
     ensures passed { result ≡ Status.Done → IsPassedOn (K.passed out.new) }
-    ensures kind { IsReplayEnd result }
+    ensures kind { IsCheckEnd result }
     ensures input_cause { BlamesInput result (S.faults input.old) (S.faults input.new) }
     ensures output_cause { BlamesOutput result (K.faults out.old) (K.faults out.new) (K.zeros out.old) (K.zeros out.new) }
 {

@@ -4,14 +4,14 @@ ghost use Rattle.std.specs.Option.{option_copied};
 ghost use Rattle.lp_io.specs.Counts.{Rose};
 ghost use Rattle.lp_io.specs.Told.{IsPassedOn};
 ghost use Rattle.lp_events.specs.declared.item.Item.{Item as I};
-ghost use Rattle.lp_events.specs.Script.{IsScript, files_of, longest_input};
-ghost use Rattle.lp_small.specs.World.{World};
-ghost use Rattle.lp_small.specs.Run.{Starts};
+ghost use Rattle.lp_events.specs.Script.{IsScript, longest_input};
 ghost use Rattle.lp_script.specs.Reader.{GoneAtMost};
-ghost use Rattle.lp_top.specs.Causes.{BlamesInput, BlamesOutput};
+ghost use Rattle.lp_top.specs.Causes.{BlamesInput, BlamesOutput, SwapTells};
 ghost use Rattle.lp_top.specs.Check.{Checks};
 ghost use Rattle.lp_top.specs.Make.{Makes};
-ghost use Rattle.lp_top.specs.Replay.{AreRunYet, Replays};
+ghost use Rattle.lp_swapfile.specs.Counts.{Rose as SwapRose};
+ghost use Rattle.lp_top.specs.Items.{HasMaster};
+ghost use Rattle.lp_top.specs.Replay.{IsCarriedOut, Replays};
 ghost use Rattle.lp_top.specs.Words.{Name, NameMake, command_in};
 
 use crate::check::check;
@@ -19,7 +19,10 @@ use crate::make::make;
 use crate::replay::replay;
 use crate::status::Status;
 use crate::words::{Command, WordsFault, command_of};
+use lp_asking::truth::Truthful;
+use lp_front_end::law_there_is_one;
 use lp_io::{Sink, Source};
+use lp_meaning::one_end_of_the_start;
 use lp_script::one_spelling;
 use lp_tree::path::FilePath;
 use std::alloc::Global;
@@ -35,8 +38,12 @@ fn text_of(path: &Option<FilePath>) -> Option<&str>
 }
 
 /// Carries out the command that the words name: `replay` reads a script from `input` and writes its
-/// transcript to `out`; `check` reads a script and tells what is wrong with its files, running nothing;
-/// `make` writes a script and reads nothing.
+/// transcript to `out`, with what is put out in `swap`; `check` reads a script and tells what is wrong
+/// with its files, running nothing; `make` writes a script and reads nothing.
+///
+/// A replay starts the driver on the files of the script, with the seed and at the moment of its head,
+/// and gives each event its turn. What it writes is the transcript of the run that the written meaning
+/// gives these items, by each front end that there is.
 ///
 /// A check loads each file that ends in `.c`, by path and its parents first. It writes a line
 /// `FILE line N: TEXT` for each fault, by the paths of the files and each file's faults once, and then
@@ -59,17 +66,22 @@ fn text_of(path: &Option<FilePath>) -> Option<&str>
 ///   or its report; or they are the script of the workload.
 /// - `BadWords`: exactly where the words name no command, unless there is no memory to see it; nothing
 ///   was read or written.
-/// - `BadScript`: at this offset stands no item that fits there, or one that a replay does not carry
-///   out; a replay has written the blocks of the events before, a check nothing.
-/// - `NoMaster`: the files make no master, with this one fault; nothing was written. A check never
+/// - `BadScript`: at this offset stands no item that fits there; or one that a replay does not carry
+///   out yet: a tick, or a `start` or an event in whose turn something is asked that is not carried
+///   out yet. A replay has written the blocks of the turns before, a check nothing.
+/// - `NoMaster`: no master is made of the files, for these faults; nothing was written. A check never
 ///   answers it.
 /// - `TooLarge`: the input goes on past 67108864 bytes, and where its items end within them nothing
 ///   is left, or an item is begun.
 /// - `InputFault`: a read failed, and the source's count of faults rose.
 /// - `OutputFault`: a write or a flush failed, or a write took nothing, and one of the sink's counts
 ///   rose. A front of the transcript, of the report or of the workload was written.
-/// - `NoMemory`: a replay has written the blocks of the events before, a check nothing, and `make` a
-///   front of the workload.
+/// - `SwapFault`: in a turn the swap file failed to give back what was put out, or gave bytes of another
+///   digest. Its count of read faults rose exactly where a failed read is the end; one that is honest
+///   and truthful never gives other bytes. A replay has written the blocks of the turns before; the
+///   other commands leave the swap file as it was.
+/// - `NoMemory`: a replay has written the blocks of the turns before, a check nothing, and `make` a
+///   front of the workload. It also comes where the swap file gave other bytes of the same digest.
 ///
 /// `make` ends with `Done`, `OutputFault` or `NoMemory` alone.
 ///
@@ -77,11 +89,12 @@ fn text_of(path: &Option<FilePath>) -> Option<&str>
 /// passed on by a flush.
 ///
 /// What was read and written is known of a source and a sink that tell it, such as those in memory.
-pub fn run<S: Source, K: Sink>(
+pub fn run<S: Source, K: Sink, W: Truthful>(
     alloc: Global,
     words: &[String],
     input: &mut S,
     out: &mut K,
+    swap: &mut W,
 ) -> Status
     ensures words { result ≡ Status.BadWords → command_in (map string_bytes words.now) ≡ None }
     ensures refused { command_in (map string_bytes words.now) ≡ None → (result ≡ Status.BadWords) ⊎ (result ≡ Status.NoMemory) }
@@ -95,10 +108,16 @@ pub fn run<S: Source, K: Sink>(
     ensures passed { result ≡ Status.Done → IsPassedOn (K.passed out.new) }
     ensures input_fault { BlamesInput result (S.faults input.old) (S.faults input.new) }
     ensures output_fault { BlamesOutput result (K.faults out.old) (K.faults out.new) (K.zeros out.old) (K.zeros out.new) }
-    // A script whose master is made, over devices that do not fail, is carried out to its end.
-    ensures complete { (b : List ℕ) (xs : List I) (w : World) → Name words.now Command.Replay → S.remaining input.old ≡ Some b → length b ≤ longest_input → IsScript b xs → AreRunYet xs → Starts (files_of xs) w
+    ensures swap_fault { SwapTells result (W.content swap.new) (W.last swap.new) (W.read_faults swap.old) (W.read_faults swap.new)
+        (W.is_truthful swap.old) (W.is_truthful swap.new) (W.is_honest swap.old) (W.is_honest swap.new) }
+    // Only a replay uses the swap file.
+    ensures swapless { (Name words.now Command.Replay → ⊥) → swap.new ≡ swap.old }
+    // A script of whose files a master is made, over devices that do not fail and a swap file that is honest, is carried out to its end, or
+    // up to an item that is not carried out yet.
+    ensures complete { (b : List ℕ) (xs : List I) → Name words.now Command.Replay → S.remaining input.old ≡ Some b → length b ≤ longest_input → IsScript b xs → HasMaster xs
+        → W.is_honest swap.new → W.is_truthful swap.new → (SwapRose (W.read_faults swap.old) (W.read_faults swap.new) → ⊥)
         → (Rose (S.faults input.old) (S.faults input.new) → ⊥) → (Rose (K.faults out.old) (K.faults out.new) → ⊥) → (Rose (K.zeros out.old) (K.zeros out.new) → ⊥)
-        → (result ≡ Status.Done) ⊎ (result ≡ Status.NoMemory) }
+        → IsCarriedOut b result }
     // Each script, over devices that do not fail, is checked to its end.
     ensures complete_check { (simul : Option (List ℕ)) (b : List ℕ) (xs : List I) → Name words.now (Command.Check simul) → S.remaining input.old ≡ Some b → length b ≤ longest_input → IsScript b xs
         → (Rose (S.faults input.old) (S.faults input.new) → ⊥) → (Rose (K.faults out.old) (K.faults out.new) → ⊥) → (Rose (K.zeros out.old) (K.zeros out.new) → ⊥)
@@ -108,8 +127,10 @@ pub fn run<S: Source, K: Sink>(
         → (result ≡ Status.Done) ⊎ (result ≡ Status.NoMemory) }
 {
     one_spelling();
+    one_end_of_the_start();
+    law_there_is_one();
     match command_of(alloc, words) {
-        Ok(Command::Replay) => replay(alloc, input, out),
+        Ok(Command::Replay) => replay(alloc, input, out, swap),
         Ok(Command::Check { simul }) => check(alloc, text_of(&simul), input, out),
         Ok(Command::Make { count, seed }) => make(alloc, count, seed, out),
         Err(WordsFault::BadWords) => Status::BadWords,

@@ -7,6 +7,7 @@ mod finish;
 mod items;
 mod make;
 mod number;
+pub mod opening;
 pub mod replay;
 pub mod status;
 pub mod words;

@@ -1,139 +1,61 @@
 //! The command `replay`: reads a script, and writes its transcript.
-ghost use Rattle.std.specs.Prelude.{◌≡◌, ◌≢◌, ℕ, ◌≤◌, List, [], ◌∷◌, ◌++◌, Some, true, false, IfOk, IfErr, OnOk, OnErr, length};
+ghost use Rattle.std.specs.Prelude.{◌≡◌, ℕ, ◌≤◌, List, [], ◌∷◌, ◌++◌, Some, IfErr, OnOk, Option};
 ghost use Rattle.lp_events.specs.declared.item.Item.{Item as I};
-ghost use Rattle.lp_events.specs.declared.item.Item.TheVariants.{End as the_end};
-ghost use Rattle.lp_events.specs.Script.{IsScript, longest_input};
-ghost use Rattle.lp_io.specs.Told.{IsPassedOn, after_adding};
-ghost use Rattle.lp_top.specs.Causes.{BlamesInput, BlamesOutput, StartsOrFaults};
-ghost use Rattle.lp_events.specs.Script.{events_of, files_of};
-ghost use Rattle.lp_events.specs.Transcript.{block};
-ghost use Rattle.lp_small.specs.World.{World, master_path};
-ghost use Rattle.lp_small.specs.Run.{is_run_yet as run_yet, has_started, turn, Starts};
-ghost use Rattle.lp_small.specs.Running.{world_of};
-ghost use Rattle.lp_script.specs.Reader.{fresh, GoesOn, GoneAtMost, HasGiven, Reads, IsAfter};
-ghost use Rattle.std.specs.Option.{option_copied};
-ghost use Rattle.lp_top.specs.Replay.{AreRunYet, EndsReading, IsReadingEnd, IsAtStart, IsGoing, IsReplayEnd, IsNoMaster, Interrupts, Replays, Ends, source_with, is_start as start_item};
+ghost use Rattle.lp_events.specs.declared.out.Out.{Out as O};
+ghost use Rattle.lp_io.specs.Told.{IsPassedOn};
+ghost use Rattle.lp_language.specs.World.{World};
+ghost use Rattle.lp_world.specs.Closed.{IsClosed};
+ghost use Rattle.lp_driver.specs.Driving.{IsAtRest};
+ghost use Rattle.lp_script.specs.Reader.{GoneAtMost, Reads};
+ghost use Rattle.lp_top.specs.Causes.{BlamesInput, BlamesOutput, SwapTells, end_in, stop_status};
+ghost use Rattle.lp_top.specs.Replay.{AreOf, Interrupts, IsAtStart, IsDone, IsGoing, IsReplayEnd, IsRunning, Replays};
 
 use crate::finish::finish;
-use crate::items::{is_end, status_of};
+use crate::opening::{Opening, next_item, open};
 use crate::status::{Faults, Status};
+use lp_asking::truth::Truthful;
+use lp_driver::driver::{StartFault, start, turn};
 use lp_events::event::Event;
 use lp_events::item::Item;
-use lp_events::octets::Octets;
+use lp_events::out::Outs;
 use lp_io::{Sink, Source};
 use lp_script::{Reader, write_outs};
-use lp_small::live::{Live, StartFault, start};
-use lp_tree::fault::{Fault, FaultKind};
-use lp_tree::path::FilePath;
+use lp_vm::fault::VmFault;
+use lp_world::live::Live;
 use std::alloc::Global;
 
-/// The most bytes that the master's file may have until the whole language runs.
-const MOST_BYTES: usize = 65536;
-
-// Whether an item is one that a replay carries out until the whole language runs.
-fn is_run_yet(item: &Item) -> bool
-    ensures { result ≡ run_yet item.now }
+// The end of a turn, of an item at this offset, that was not carried out.
+fn stopped(fault: VmFault, at: u64) -> Status
+    ensures { result ≡ stop_status at fault }
 {
-    match item {
-        Item::Head(_, _) | Item::Start | Item::End => true,
-        Item::File(path, bytes) => {
-            path.as_str() == "/secure/master.c" && bytes.as_slice().len() <= MOST_BYTES
-        }
-        Item::Event(event) => matches!(event, Event::Connect(_) | Event::Line(_, _)),
+    match fault {
+        VmFault::NoMemory => Status::NoMemory,
+        VmFault::Swap(cause) => Status::SwapFault { cause },
+        VmFault::NotYet => Status::BadScript { at },
     }
 }
 
-// The next item, if it is one that a replay carries out.
-fn next_item<S: Source>(reader: &mut Reader, input: &mut S) -> Result<Item, Status>
-    ensures given { (xs : List I) → GoesOn reader.old.phase → HasGiven reader.old xs → IfOk result (λ x. HasGiven reader.new (xs ++ x ∷ [])) }
-    ensures yet { IfOk result (λ x. run_yet x ≡ true) }
-    ensures phase { IfOk result (λ x. IsAfter (Ok x) reader.new.phase) }
-    ensures reads { (b : List ℕ) → Reads b reader.old (S.remaining input.old) → Reads b reader.new (S.remaining input.new) }
-    ensures end { (b : List ℕ) (xs : List I) → GoesOn reader.old.phase → HasGiven reader.old xs → Reads b reader.old (S.remaining input.old)
-        → IfOk result (λ x. x ≡ the_end → IsScript b (xs ++ x ∷ []) × (length b ≤ longest_input)) }
-    ensures fault { (b : List ℕ) (xs : List I) → GoesOn reader.old.phase → HasGiven reader.old xs → AreRunYet xs → Reads b reader.old (S.remaining input.old)
-        → IfErr result (EndsReading b xs) }
-    ensures kind { IfErr result IsReadingEnd }
-    ensures cause { GoesOn reader.old.phase → IfErr result (λ s. BlamesInput s (S.faults input.old) (S.faults input.new)) }
-    ensures no_fall { S.faults input.old ≤ S.faults input.new }
-    ensures most { (b : List ℕ) → Reads b reader.old (S.remaining input.old) → GoneAtMost b (S.remaining input.new) }
-{
-    match reader.next(input) {
-        Ok(item) => {
-            if is_run_yet(&item) {
-                return Ok(item);
-            }
-            Err(Status::BadScript { at: reader.at() })
-        }
-        Err(fault) => Err(status_of(fault)),
-    }
-}
-
-fn source_after(source: Option<Octets>, item: Item) -> Option<Octets>
-    ensures { result ≡ source_with source item }
-{
-    match source {
-        Some(bytes) => Some(bytes),
-        None => match item {
-            Item::File(_path, bytes) => Some(bytes),
-            Item::Head(_, _) => None,
-            Item::Start => None,
-            Item::Event(_event) => None,
-            Item::End => None,
-        },
-    }
-}
-
-fn is_start(item: &Item) -> bool
-    ensures { result ≡ start_item item.now }
-{
-    matches!(item, Item::Start)
-}
-
-// Reads up to the item `start`, and gives the source of the master if there is one.
-fn files<S: Source>(reader: &mut Reader, input: &mut S) -> Result<Option<Octets>, Status>
-    requires { reader.old ≡ fresh }
-    ensures start { IfOk result (IsAtStart reader.new) }
-    ensures reads { (b : List ℕ) → S.remaining input.old ≡ Some b → OnOk result (Reads b reader.new (S.remaining input.new)) }
-    ensures end { (b : List ℕ) → S.remaining input.old ≡ Some b → IfErr result (λ s. (xs : List I) × (has_started xs ≡ false) × Ends b xs s) }
-    ensures kind { IfErr result IsReadingEnd }
-    ensures cause { IfErr result (λ s. BlamesInput s (S.faults input.old) (S.faults input.new)) }
-    ensures no_fall { S.faults input.old ≤ S.faults input.new }
-    ensures most { (b : List ℕ) → S.remaining input.old ≡ Some b → GoneAtMost b (S.remaining input.new) }
-{
-    let mut source = None;
-    loop {
-        let item = match next_item(reader, input) {
-            Ok(item) => item,
-            Err(status) => return Err(status),
-        };
-        if is_start(&item) {
-            return Ok(source);
-        }
-        if is_end(&item) {
-            unreachable!();
-        }
-        source = source_after(source, item);
-    }
-}
-
-// Carries out one event and writes its block.
-fn carry_out<K: Sink>(
-    alloc: Global,
+// Carries out one event, which stands at this offset, and writes its block.
+fn carry_out<K: Sink, W: Truthful>(
     live: &mut Live,
     event: &Event,
+    at: u64,
     out: &mut K,
+    swap: &mut W,
 ) -> Result<(), Status>
-    ensures world { OnOk result (world_of live.new ≡ (turn (world_of live.old) event.now).world) }
-    ensures written { OnOk result (K.written out.new ≡ after_adding (K.written out.old) (block (turn (world_of live.old) event.now).outputs)) }
-    ensures end { IfErr result (Interrupts (K.written out.old) (K.written out.new) (block (turn (world_of live.old) event.now).outputs)) }
+    requires closed { IsClosed live.old }
+    requires rest { (w : World) × IsAtRest (W.content swap.old) live.old w }
+    ensures done { OnOk result (IsDone event.now (W.content swap.old) live.old (W.content swap.new) live.new (K.written out.old) (K.written out.new)) }
+    ensures end { IfErr result (Interrupts (AreOf event.now (W.content swap.old) live.old) at (K.written out.old) (K.written out.new)) }
     ensures cause { IfErr result (λ s. BlamesOutput s (K.faults out.old) (K.faults out.new) (K.zeros out.old) (K.zeros out.new)) }
     ensures no_fall { K.faults out.old ≤ K.faults out.new }
     ensures zeros_no_fall { K.zeros out.old ≤ K.zeros out.new }
+    ensures swap { SwapTells (end_in result) (W.content swap.new) (W.last swap.new) (W.read_faults swap.old) (W.read_faults swap.new)
+        (W.is_truthful swap.old) (W.is_truthful swap.new) (W.is_honest swap.old) (W.is_honest swap.new) }
 {
-    let outs = match live.turn(alloc, event) {
+    let outs = match turn(live, swap, event) {
         Ok(outs) => outs,
-        Err(_) => return Err(Status::NoMemory),
+        Err(fault) => return Err(stopped(fault, at)),
     };
     match write_outs(out, &outs) {
         Ok(()) => Ok(()),
@@ -141,22 +63,45 @@ fn carry_out<K: Sink>(
     }
 }
 
+// The same with an event that is used up.
+fn carry<K: Sink, W: Truthful>(
+    live: &mut Live,
+    event: Event,
+    at: u64,
+    out: &mut K,
+    swap: &mut W,
+) -> Result<(), Status>
+    requires closed { IsClosed live.old }
+    requires rest { (w : World) × IsAtRest (W.content swap.old) live.old w }
+    ensures done { OnOk result (IsDone event (W.content swap.old) live.old (W.content swap.new) live.new (K.written out.old) (K.written out.new)) }
+    ensures end { IfErr result (Interrupts (AreOf event (W.content swap.old) live.old) at (K.written out.old) (K.written out.new)) }
+    ensures cause { IfErr result (λ s. BlamesOutput s (K.faults out.old) (K.faults out.new) (K.zeros out.old) (K.zeros out.new)) }
+    ensures no_fall { K.faults out.old ≤ K.faults out.new }
+    ensures zeros_no_fall { K.zeros out.old ≤ K.zeros out.new }
+    ensures swap { SwapTells (end_in result) (W.content swap.new) (W.last swap.new) (W.read_faults swap.old) (W.read_faults swap.new)
+        (W.is_truthful swap.old) (W.is_truthful swap.new) (W.is_honest swap.old) (W.is_honest swap.new) }
+{
+    carry_out(live, &event, at, out, swap)
+}
+
 // Carries out the events up to the end.
-fn events<S: Source, K: Sink>(
-    alloc: Global,
+fn events<S: Source, K: Sink, W: Truthful>(
     reader: &mut Reader,
     input: &mut S,
     out: &mut K,
+    swap: &mut W,
     live: Live,
 ) -> Status
-    requires { (xs : List I) × (w : World) × IsGoing reader.old live xs w × (events_of xs ≡ []) }
-    ensures replays { (b : List ℕ) → Reads b reader.old (S.remaining input.old) → Replays b result (K.written out.old) (K.written out.new) }
+    requires { (from : Option (List ℕ)) × IsRunning reader.old (W.content swap.old) live from (K.written out.old) }
+    ensures replays { (b : List ℕ) (from : Option (List ℕ)) → IsRunning reader.old (W.content swap.old) live from (K.written out.old) → Reads b reader.old (S.remaining input.old) → Replays b result from (K.written out.new) }
     ensures whole { result ≡ Status.Done → (b : List ℕ) → Reads b reader.old (S.remaining input.old) → S.remaining input.new ≡ Some [] }
     ensures most { (b : List ℕ) → Reads b reader.old (S.remaining input.old) → GoneAtMost b (S.remaining input.new) }
     ensures passed { result ≡ Status.Done → IsPassedOn (K.passed out.new) }
     ensures kind { IsReplayEnd result }
     ensures input_cause { BlamesInput result (S.faults input.old) (S.faults input.new) }
     ensures output_cause { BlamesOutput result (K.faults out.old) (K.faults out.new) (K.zeros out.old) (K.zeros out.new) }
+    ensures swap { SwapTells result (W.content swap.new) (W.last swap.new) (W.read_faults swap.old) (W.read_faults swap.new)
+        (W.is_truthful swap.old) (W.is_truthful swap.new) (W.is_honest swap.old) (W.is_honest swap.new) }
 {
     let mut live = live;
     loop {
@@ -165,7 +110,7 @@ fn events<S: Source, K: Sink>(
             Err(status) => return status,
         };
         match item {
-            Item::Event(event) => match carry_out(alloc, &mut live, &event, out) {
+            Item::Event(event) => match carry(&mut live, event, reader.at(), out, swap) {
                 Ok(()) => {}
                 Err(status) => return status,
             },
@@ -177,41 +122,16 @@ fn events<S: Source, K: Sink>(
     }
 }
 
-// The end of a replay whose master is not made.
-fn no_master(alloc: Global, line: u32, kind: FaultKind) -> Status
-    ensures { IsNoMaster (record { file = master_path; line = line; kind = kind }) result }
-{
-    let file = match FilePath::from_str(alloc, "/secure/master.c") {
-        Ok(file) => file,
-        Err(_) => return Status::NoMemory,
-    };
-    let mut faults = Vec::new(alloc);
-    if faults.push(Fault { file, line, kind }).is_err() {
-        return Status::NoMemory;
-    }
-    Status::NoMaster {
-        faults: Faults::from_vec(faults),
-    }
-}
-
-fn as_source(source: &Option<Octets>) -> Option<&[u8]>
-    ensures { option_copied result ≡ source.now }
-{
-    match source {
-        Some(bytes) => Some(bytes.as_slice()),
-        None => None,
-    }
-}
-
-// Makes the master, and carries out the events.
-fn begin<S: Source, K: Sink>(
-    alloc: Global,
-    source: &Option<Octets>,
+// Writes the block of the start, and carries out the events.
+fn begun<S: Source, K: Sink, W: Truthful>(
     reader: &mut Reader,
     input: &mut S,
     out: &mut K,
+    swap: &mut W,
+    live: Live,
+    outs: &Outs,
 ) -> Status
-    requires { IsAtStart reader.old source.now }
+    requires { (xs : List I) × IsGoing reader.old (W.content swap.old) live xs (outs.now ∷ []) }
     ensures replays { (b : List ℕ) → Reads b reader.old (S.remaining input.old) → Replays b result (K.written out.old) (K.written out.new) }
     ensures whole { result ≡ Status.Done → (b : List ℕ) → Reads b reader.old (S.remaining input.old) → S.remaining input.new ≡ Some [] }
     ensures most { (b : List ℕ) → GoneAtMost b (S.remaining input.old) → Reads b reader.old (S.remaining input.old) → GoneAtMost b (S.remaining input.new) }
@@ -219,17 +139,57 @@ fn begin<S: Source, K: Sink>(
     ensures kind { IsReplayEnd result }
     ensures input_cause { BlamesInput result (S.faults input.old) (S.faults input.new) }
     ensures output_cause { BlamesOutput result (K.faults out.old) (K.faults out.new) (K.zeros out.old) (K.zeros out.new) }
+    ensures swap { SwapTells result (W.content swap.new) (W.last swap.new) (W.read_faults swap.old) (W.read_faults swap.new)
+        (W.is_truthful swap.old) (W.is_truthful swap.new) (W.is_honest swap.old) (W.is_honest swap.new) }
 {
-    match start(alloc, as_source(source)) {
-        Ok(live) => events(alloc, reader, input, out, live),
-        Err(StartFault::NoFile) => no_master(alloc, 0, FaultKind::NoFile),
-        Err(StartFault::Unexpected { line }) => no_master(alloc, line, FaultKind::Unexpected),
-        Err(StartFault::NoMemory) => Status::NoMemory,
+    match write_outs(out, outs) {
+        Ok(()) => events(reader, input, out, swap, live),
+        Err(_) => Status::OutputFault,
+    }
+}
+
+// Starts the driver, and carries out the events.
+fn begin<S: Source, K: Sink, W: Truthful>(
+    alloc: Global,
+    opening: Opening,
+    reader: &mut Reader,
+    input: &mut S,
+    out: &mut K,
+    swap: &mut W,
+) -> Status
+    requires { IsAtStart reader.old opening }
+    ensures replays { (b : List ℕ) → Reads b reader.old (S.remaining input.old) → Replays b result (K.written out.old) (K.written out.new) }
+    ensures whole { result ≡ Status.Done → (b : List ℕ) → Reads b reader.old (S.remaining input.old) → S.remaining input.new ≡ Some [] }
+    ensures most { (b : List ℕ) → GoneAtMost b (S.remaining input.old) → Reads b reader.old (S.remaining input.old) → GoneAtMost b (S.remaining input.new) }
+    ensures passed { result ≡ Status.Done → IsPassedOn (K.passed out.new) }
+    ensures kind { IsReplayEnd result }
+    ensures input_cause { BlamesInput result (S.faults input.old) (S.faults input.new) }
+    ensures output_cause { BlamesOutput result (K.faults out.old) (K.faults out.new) (K.zeros out.old) (K.zeros out.new) }
+    ensures swap { SwapTells result (W.content swap.new) (W.last swap.new) (W.read_faults swap.old) (W.read_faults swap.new)
+        (W.is_truthful swap.old) (W.is_truthful swap.new) (W.is_honest swap.old) (W.is_honest swap.new) }
+{
+    let at = reader.at();
+    let Opening {
+        store,
+        seed,
+        moment,
+    } = opening;
+    match start(alloc, store, seed, moment, swap) {
+        Ok((live, outs)) => begun(reader, input, out, swap, live, &outs),
+        Err(StartFault::NoMaster { faults }) => Status::NoMaster {
+            faults: Faults::from_vec(faults),
+        },
+        Err(StartFault::Stopped(fault)) => stopped(fault, at),
     }
 }
 
 /// Carries out a script.
-pub(crate) fn replay<S: Source, K: Sink>(alloc: Global, input: &mut S, out: &mut K) -> Status
+pub(crate) fn replay<S: Source, K: Sink, W: Truthful>(
+    alloc: Global,
+    input: &mut S,
+    out: &mut K,
+    swap: &mut W,
+) -> Status
     ensures replays { (b : List ℕ) → S.remaining input.old ≡ Some b → Replays b result (K.written out.old) (K.written out.new) }
     ensures whole { result ≡ Status.Done → (b : List ℕ) → S.remaining input.old ≡ Some b → S.remaining input.new ≡ Some [] }
     ensures most { (b : List ℕ) → S.remaining input.old ≡ Some b → GoneAtMost b (S.remaining input.new) }
@@ -237,16 +197,13 @@ pub(crate) fn replay<S: Source, K: Sink>(alloc: Global, input: &mut S, out: &mut
     ensures kind { IsReplayEnd result }
     ensures input_cause { BlamesInput result (S.faults input.old) (S.faults input.new) }
     ensures output_cause { BlamesOutput result (K.faults out.old) (K.faults out.new) (K.zeros out.old) (K.zeros out.new) }
+    ensures swap { SwapTells result (W.content swap.new) (W.last swap.new) (W.read_faults swap.old) (W.read_faults swap.new)
+        (W.is_truthful swap.old) (W.is_truthful swap.new) (W.is_honest swap.old) (W.is_honest swap.new) }
 {
     let mut reader = Reader::new(alloc);
-    let source = match files(&mut reader, input) {
-        Ok(source) => source,
+    let opening = match open(alloc, &mut reader, input) {
+        Ok(opening) => opening,
         Err(status) => return status,
     };
-    begin(alloc, &source, &mut reader, input, out)
+    begin(alloc, opening, &mut reader, input, out, swap)
 }
-
-/// A law of the definitions: files that make a master have no fault that hinders it.
-pub fn law_start()
-    ensures { StartsOrFaults }
-{}

@@ -2,6 +2,7 @@
 ghost use Rattle.std.specs.Prelude.{◌≡◌};
 ghost use Rattle.lp_top.specs.Ends.{number_of};
 
+use lp_residence::answers::SwapCause;
 use lp_tree::fault::Fault;
 use std::marker::Model;
 
@@ -43,7 +44,8 @@ pub enum Status {
     Done,
     /// The words name no command.
     BadWords,
-    /// At this offset of the input stands no item of a script, or one that may not stand there.
+    /// At this offset of the input stands no item of a script, or one that may not stand there, or that a replay does not
+    /// carry out yet.
     BadScript { at: u64 },
     /// The master could not be made.
     NoMaster { faults: Faults },
@@ -53,6 +55,8 @@ pub enum Status {
     InputFault,
     /// A write or a flush of the output failed, or a write took nothing.
     OutputFault,
+    /// The swap file did not give what was written: a read failed, or gave other bytes.
+    SwapFault { cause: SwapCause },
     /// There was no memory.
     NoMemory,
 }
@@ -69,6 +73,7 @@ pub fn code(status: &Status) -> u8
         Status::TooLarge => 4,
         Status::InputFault => 5,
         Status::OutputFault => 6,
+        Status::SwapFault { .. } => 7,
         Status::NoMemory => 11,
     }
 }

@@ -1,4 +1,5 @@
 //! Runs of the driver over devices in memory.
+use crate::device::NoSwap;
 use lp_io::{MemSink, MemSource, Octets};
 use lp_top::{Status, code, run};
 use lp_tree::fault::FaultKind;
@@ -92,7 +93,8 @@ fn ran_with(
     input: &mut MemSource,
     out: &mut MemSink,
 ) -> Result<Outcome, AllocError> {
-    let status = run(alloc, words, input, out);
+    let mut swap = NoSwap::new();
+    let status = run(alloc, words, input, out, &mut swap);
     outcome_of(alloc, &status, input, out)
 }
 

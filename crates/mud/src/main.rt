@@ -1,10 +1,16 @@
 //! `mud`: a driver for LPC mudlibs.
 #![tactic(auto)]
 
+mod no_swap;
+
+use crate::no_swap::NoSwap;
+use lp_asking::truth::Truthful;
 use lp_io::{Sink, StdSink, StdSource};
+use lp_swapfile::DiskSwap;
 use lp_top::{Status, code, run};
 use std::env::{self, FillError};
-use std::io::{BufWriter, ErrorKind};
+use std::fs::{File, OpenOptions};
+use std::io::{self, BufWriter, ErrorKind};
 use std::process::ExitCode;
 use std::rt::Env;
 
@@ -53,20 +59,51 @@ fn status_of_words(kind: ErrorKind) -> Status {
     }
 }
 
-fn status(rt: &HostRuntime) -> Status {
-    let words = match words(rt) {
-        Ok(words) => words,
-        Err(status) => return status,
-    };
+/// Carries out the command, over standard input and output and this swap file.
+fn carried_out<W: Truthful>(rt: &HostRuntime, words: &[String], swap: &mut W) -> Status {
     let writer = match BufWriter::new(rt.alloc(), rt.stdout()) {
         Ok(writer) => writer,
         Err(_) => return Status::NoMemory,
     };
     let mut input = StdSource::new(rt.stdin());
     let mut out = StdSink::new(writer);
-    let status = run(rt.alloc(), words.as_slice(), &mut input, &mut out);
+    let status = run(rt.alloc(), words, &mut input, &mut out, swap);
     let _ = out.flush();
     status
+}
+
+/// Whether the words are those of a replay, which wants a swap file.
+fn is_replay(words: &[String]) -> bool {
+    match words.first() {
+        Some(word) => word.as_str() == "replay",
+        None => false,
+    }
+}
+
+/// The file `mud.swap` in the current folder, made empty.
+fn swap_file(rt: &HostRuntime) -> io::Result<File> {
+    let mut options = OpenOptions::new();
+    options.read(true).write(true).create(true).truncate(true);
+    options.open(rt, "mud.swap")
+}
+
+/// A replay whose swap file cannot be made goes on without one: then nothing goes out.
+fn replayed(rt: &HostRuntime, words: &[String]) -> Status {
+    match swap_file(rt) {
+        Ok(file) => carried_out(rt, words, &mut DiskSwap::new(file)),
+        Err(_) => carried_out(rt, words, &mut NoSwap::new()),
+    }
+}
+
+fn status(rt: &HostRuntime) -> Status {
+    let words = match words(rt) {
+        Ok(words) => words,
+        Err(status) => return status,
+    };
+    if is_replay(words.as_slice()) {
+        return replayed(rt, words.as_slice());
+    }
+    carried_out(rt, words.as_slice(), &mut NoSwap::new())
 }
 
 fn main(rt: HostRuntime) -> ExitCode {

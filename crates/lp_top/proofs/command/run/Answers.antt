@@ -1,5 +1,6 @@
 use Rattle.std.proofs.Common.{◌≡◌, ◌∙◌, ◌⊎◌, inl, inr, subst, ap, Some, Err}
 use Rattle.lp_top.proofs.Completeness.{completes}
+use Rattle.lp_top.proofs.Swapping.{still-tells, never-blamed, check-calm, make-calm}
 use Rattle.lp_top.proofs.Checking.{completes_check, checks_unread, replays_unread}
 use Rattle.lp_top.specs.Make.{IsMakeEnd}
 use Rattle.lp_top.proofs.Making.{completes_make, makes_named, makes_nothing, not_check, not_none, not_replay}
@@ -10,9 +11,16 @@ either_not (inl a) f g = f a
 either_not (inr b) f g = g b
 
 pub returns-in-Ok-Replay-clause-complete : goal.returns-in-Ok-Replay-clause-complete
-returns-in-Ok-Replay-clause-complete g c = λ b xs w words told short script yet starts source sink zeros.
+returns-in-Ok-Replay-clause-complete g c = λ b xs words told short script master honest true reads source sink zeros.
     let r = c.replay.ensures.replays b told in
-    completes c.one_spelling.ensures b r.read xs w c.replay.result short script yet starts (λ e. source (c.replay.ensures.input_cause e)) (λ e. either_not (c.replay.ensures.output_cause e) sink zeros) r.ends
+    completes c.one_spelling.ensures c.one_end_of_the_start.ensures c.law_there_is_one.ensures b r.read xs c.replay.result short script master
+    (λ e. source (c.replay.ensures.input_cause e)) (λ e. either_not (c.replay.ensures.output_cause e) sink zeros) (never-blamed c.replay.result _ _ _ _ _ _ _ _ c.replay.ensures.swap honest true reads) r.ends
+
+pub returns-in-Ok-Check-clause-swap_fault : goal.returns-in-Ok-Check-clause-swap_fault
+returns-in-Ok-Check-clause-swap_fault g c = still-tells c.check.result _ _ _ _ _ (check-calm c.check.result c.check.ensures.kind)
+
+pub returns-in-Ok-Make-clause-swap_fault : goal.returns-in-Ok-Make-clause-swap_fault
+returns-in-Ok-Make-clause-swap_fault g c = still-tells c.make.result _ _ _ _ _ (make-calm c.make.result c.make.ensures.kind)
 
 pub returns-in-Ok-Check-clause-complete_check : goal.returns-in-Ok-Check-clause-complete_check
 returns-in-Ok-Check-clause-complete_check g c = λ simul b xs words told short script source sink zeros.

@@ -1,34 +1,32 @@
-use Rattle.std.proofs.Common.{◌∙◌, sym, subst, arith, length, ◌≤◌}
-use Rattle.std.specs.Option.{option_copied}
-use Rattle.lp_tree.specs.declared.fault.FaultKind.TheVariants as faults
-use Rattle.lp_small.specs.World.{master_path}
-use Rattle.lp_small.specs.Run.{StartsFrom, MakesNoneFrom}
-use Rattle.lp_small.specs.Faults.{IsStartFault}
-use Rattle.lp_small.specs.Running.{world_of}
-use Rattle.lp_top.proofs.Beginning.{small-source, events-none, going-start, replays-none, replays-no-memory}
+use Rattle.std.proofs.Common.{◌∙◌, sym, subst}
+use Rattle.lp_driver.specs.Driving.{HasNoMasterIf}
+use Rattle.lp_top.proofs.Beginning.{may-start, going-start, replays-none, replays-unstarted, stop-not-done}
+use Rattle.lp_top.proofs.Swapping.{stop-tells}
+use Rattle.lp_top.specs.Items.{world_files}
 use Rattle.lp_top.proofs.replay.begin.Goals as goal
 
-pub start-requires : goal.start-requires
-start-requires g c = λ bytes e.
-    let l : length bytes ≤ 65536 = small-source c.requires.files bytes c.requires.yet (sym (sym e ∙ c.as_source.ensures ∙ c.requires.found)) in
-    omega arith
+pub start-requires-clause-moment : goal.start-requires-clause-moment
+start-requires-clause-moment g c = may-start c.args.reader.now c.args.opening c.requires
 
-pub events-requires : goal.events-requires
-events-requires g c =
-    (_, world_of c.in-Ok.live, going-start c.args.reader.now c.args.source.now c.in-Ok.live c.requires (subst (λ o. StartsFrom o (world_of c.in-Ok.live)) c.as_source.ensures c.in-Ok.ensures.made), events-none c.args.reader.now c.args.source.now c.requires)
+pub start-requires-clause-files : goal.start-requires-clause-files
+start-requires-clause-files g c = (world_files c.requires.files, c.requires.noted.files)
 
-pub returns-in-Err-NoFile-clause-replays : goal.returns-in-Err-NoFile-clause-replays
-returns-in-Err-NoFile-clause-replays g c = λ b h.
-    replays-none b c.args.reader.now _ c.args.source.now _ (record { file = master_path; line = 0; kind = faults.NoFile }) c.no_master.result c.requires h
-    (subst (λ o. MakesNoneFrom o (record { file = master_path; line = 0; kind = faults.NoFile })) c.as_source.ensures (subst (IsStartFault (option_copied c.as_source.result)) c.in-Err-NoFile.field-0-is c.in-Err-NoFile.ensures.fault)) c.no_master.ensures
+pub begun-requires : goal.begun-requires
+begun-requires g c = (_, going-start c.args.reader.now c.args.opening _ c.in-Ok.live c.in-Ok.outs c.requires c.in-Ok.ensures.starts c.in-Ok.ensures.closed c.in-Ok.ensures.rest)
 
-pub returns-in-Err-Unexpected-clause-replays : goal.returns-in-Err-Unexpected-clause-replays
-returns-in-Err-Unexpected-clause-replays g c = λ b h.
-    replays-none b c.args.reader.now _ c.args.source.now _ (record { file = master_path; line = c.in-Err-Unexpected.line; kind = faults.Unexpected }) c.no_master-in-Err-Unexpected.result c.requires h
-    (subst (λ o. MakesNoneFrom o (record { file = master_path; line = c.in-Err-Unexpected.line; kind = faults.Unexpected })) c.as_source.ensures (subst (IsStartFault (option_copied c.as_source.result)) c.in-Err-Unexpected.field-0-is c.in-Err-Unexpected.ensures.fault)) c.no_master-in-Err-Unexpected.ensures
+pub returns-in-Err-NoMaster-clause-replays : goal.returns-in-Err-NoMaster-clause-replays
+returns-in-Err-NoMaster-clause-replays g c = λ b h.
+    rw c.from_vec.ensures
+    (replays-none b c.args.reader.now _ _ c.args.opening c.in-Err-NoMaster.faults.items c.requires h
+    (subst (HasNoMasterIf c.args.opening.store c.args.opening.seed c.args.opening.moment) c.in-Err-NoMaster.field-0-is c.in-Err-NoMaster.ensures.none))
 
-pub returns-in-Err-NoMemory-clause-replays : goal.returns-in-Err-NoMemory-clause-replays
-returns-in-Err-NoMemory-clause-replays g c = λ b h. replays-no-memory b c.args.reader.now _ c.args.source.now _ c.requires h
+pub returns-in-Err-Stopped-clause-replays : goal.returns-in-Err-Stopped-clause-replays
+returns-in-Err-Stopped-clause-replays g c = λ b h. rw c.stopped.ensures (replays-unstarted b c.args.reader.now _ _ c.args.opening c.in-Err-Stopped.fault c.at-at.result c.requires h c.at-at.ensures)
 
-pub returns-in-Ok-clause-most : goal.returns-in-Ok-clause-most
-returns-in-Ok-clause-most g c = λ b m h. c.events.ensures.most b h
+pub returns-in-Err-Stopped-clause-whole : goal.returns-in-Err-Stopped-clause-whole
+returns-in-Err-Stopped-clause-whole g c = λ e. absurd (stop-not-done c.at-at.result c.in-Err-Stopped.fault (sym c.stopped.ensures ∙ e))
+
+pub returns-in-Err-Stopped-clause-swap : goal.returns-in-Err-Stopped-clause-swap
+returns-in-Err-Stopped-clause-swap g c =
+    let t = rw c.in-Err-Stopped.field-0-is at c.in-Err-Stopped.ensures.tells in
+    rw c.stopped.ensures (stop-tells c.at-at.result c.in-Err-Stopped.fault _ _ _ _ _ _ _ _ _ _ t.0 t.1)

@@ -1,4 +1,0 @@
-pub mod Lexing
-pub mod Parsing
-pub mod Turning
-pub mod Lines
