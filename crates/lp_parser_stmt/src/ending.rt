@@ -1,10 +1,11 @@
 //! How statements end.
-ghost use Rattle.std.specs.Prelude.{◌≡◌, IfOk, option_map};
+ghost use Rattle.std.specs.Prelude.{◌≡◌, None, suc, IfOk, Ok, OnOk, false, if◌then◌else◌, option_map, true};
 ghost use Rattle.lp_tree.specs.StatementView.{init_of, part_trees, stmt_of};
-ghost use Rattle.lp_tree.specs.Statements.{DoWhile, Else, For, Foreach, If, Switch, While};
+ghost use Rattle.lp_tree.specs.Statements.{DoWhile, StmtTree, Switch};
 ghost use Rattle.lp_tree.specs.TreeView.{tree_of};
-ghost use Rattle.lp_parser_stmt.specs.Endings.{Ends};
-ghost use Rattle.lp_parser_stmt.specs.Machine.{IfYes, settle as settled};
+ghost use Rattle.lp_parser_stmt.specs.Depth.{depth};
+ghost use Rattle.lp_parser_stmt.specs.Endings.{Ends, ended};
+ghost use Rattle.lp_parser_stmt.specs.Machine.{EachBody, ForBody, IfNo, IfYes, Inside, WhileBody, settle as settled};
 ghost use Rattle.lp_parser_stmt.specs.StackView.{stack_of};
 ghost use Rattle.lp_parser_stmt.specs.View.{frame_of, switching_of};
 
@@ -34,42 +35,45 @@ pub fn switch_of(switching: Switching) -> Stmt
     }
 }
 
-// `if (test) yes`, where no `else` follows.
-#[tactic(auto, using(crate::proofs::Ends::if_only))]
-fn end_yes(
-    alloc: Global,
-    line: u32,
-    test: Expr,
-    yes: Stmt,
-    is_else: bool,
-) -> Result<Ended, AllocError>
-    ensures { Ends is_else (stmt_of yes) (IfYes line (tree_of test)) result }
+// A statement on the heap.
+pub(crate) fn boxed(alloc: Global, stmt: Stmt) -> Result<Box<Stmt>, AllocError>
+    ensures { IfOk result (λ b. b.value ≡ stmt) }
 {
-    if is_else {
-        return Ok(Ended::Stays(Frame::IfYes(line, test), yes));
-    }
-    let yes = Box::new(alloc, yes)?;
-    Ok(Ended::Whole(Stmt::If {
+    Ok(Box::new(alloc, stmt)?)
+}
+
+// `do body while (test)`
+fn do_of(line: u32, body: Box<Stmt>, test: Expr) -> Stmt
+    ensures { stmt_of result ≡ DoWhile line (stmt_of body.value) (tree_of test) }
+{
+    Stmt::DoWhile { line, body, test }
+}
+
+/// `do body while (test);`
+pub fn end_do(alloc: Global, line: u32, body: Stmt, test: Expr) -> Result<Stmt, AllocError>
+    ensures { IfOk result (λ t. stmt_of t ≡ DoWhile line (stmt_of body) (tree_of test)) }
+{
+    let body = boxed(alloc, body)?;
+    Ok(do_of(line, body, test))
+}
+
+// `if (test) yes`, where no `else` follows.
+fn end_yes(line: u32, test: Expr, yes: Box<Stmt>) -> Ended
+    ensures { Ends false (stmt_of yes.value) (IfYes line (tree_of test)) (Ok result) }
+{
+    Ended::Whole(Stmt::If {
         line,
         test,
         yes,
         no: None,
-    }))
+    })
 }
 
 // `if (test) yes else no`
-#[tactic(auto, using(crate::proofs::Ends::if_else))]
-fn end_no(
-    alloc: Global,
-    line: u32,
-    test: Expr,
-    yes: Box<Stmt>,
-    no: Stmt,
-) -> Result<Stmt, AllocError>
-    ensures { IfOk result (λ t. stmt_of t ≡ If line (tree_of test) (stmt_of yes.value) (Else (stmt_of no))) }
+fn end_no(line: u32, test: Expr, yes: Box<Stmt>, no: Box<Stmt>) -> Ended
+    ensures { Ends false (stmt_of no.value) (IfNo line (tree_of test) (stmt_of yes.value)) (Ok result) }
 {
-    let no = Box::new(alloc, no)?;
-    Ok(Stmt::If {
+    Ended::Whole(Stmt::If {
         line,
         test,
         yes,
@@ -78,34 +82,17 @@ fn end_no(
 }
 
 // `while (test) body`
-fn end_while(alloc: Global, line: u32, test: Expr, body: Stmt) -> Result<Stmt, AllocError>
-    ensures { IfOk result (λ t. stmt_of t ≡ While line (tree_of test) (stmt_of body)) }
+fn end_while(line: u32, test: Expr, body: Box<Stmt>) -> Ended
+    ensures { Ends false (stmt_of body.value) (WhileBody line (tree_of test)) (Ok result) }
 {
-    let body = Box::new(alloc, body)?;
-    Ok(Stmt::While { line, test, body })
-}
-
-/// `do body while (test);`
-pub fn end_do(alloc: Global, line: u32, body: Stmt, test: Expr) -> Result<Stmt, AllocError>
-    ensures { IfOk result (λ t. stmt_of t ≡ DoWhile line (stmt_of body) (tree_of test)) }
-{
-    let body = Box::new(alloc, body)?;
-    Ok(Stmt::DoWhile { line, body, test })
+    Ended::Whole(Stmt::While { line, test, body })
 }
 
 // `for (init; test; step) body`
-fn end_for(
-    alloc: Global,
-    line: u32,
-    init: Init,
-    test: Option<Expr>,
-    step: Option<Expr>,
-    body: Stmt,
-) -> Result<Stmt, AllocError>
-    ensures { IfOk result (λ t. stmt_of t ≡ For line (init_of init) (option_map tree_of test) (option_map tree_of step) (stmt_of body)) }
+fn end_for(line: u32, init: Init, test: Option<Expr>, step: Option<Expr>, body: Box<Stmt>) -> Ended
+    ensures { Ends false (stmt_of body.value) (ForBody line (init_of init) (option_map tree_of test) (option_map tree_of step)) (Ok result) }
 {
-    let body = Box::new(alloc, body)?;
-    Ok(Stmt::For {
+    Ended::Whole(Stmt::For {
         line,
         init,
         test,
@@ -115,18 +102,10 @@ fn end_for(
 }
 
 // `foreach (first, second : over) body`
-fn end_each(
-    alloc: Global,
-    line: u32,
-    first: Each,
-    second: Option<Each>,
-    over: Expr,
-    body: Stmt,
-) -> Result<Stmt, AllocError>
-    ensures { IfOk result (λ t. stmt_of t ≡ Foreach line first second (tree_of over) (stmt_of body)) }
+fn end_each(line: u32, first: Each, second: Option<Each>, over: Expr, body: Box<Stmt>) -> Ended
+    ensures { Ends false (stmt_of body.value) (EachBody line first second (tree_of over)) (Ok result) }
 {
-    let body = Box::new(alloc, body)?;
-    Ok(Stmt::Foreach {
+    Ended::Whole(Stmt::Foreach {
         line,
         first,
         second,
@@ -135,26 +114,114 @@ fn end_each(
     })
 }
 
+// A whole statement in an open one, where no `else` follows.
+fn end_with(frame: Frame, stmt: Box<Stmt>) -> Ended
+    ensures { Ends false (stmt_of stmt.value) (frame_of frame) (Ok result) }
+{
+    match frame {
+        Frame::IfYes(line, test) => end_yes(line, test, stmt),
+        Frame::IfNo(line, test, yes) => end_no(line, test, yes, stmt),
+        Frame::WhileBody(line, test) => end_while(line, test, stmt),
+        Frame::ForBody(line, init, test, step) => end_for(line, init, test, step, stmt),
+        Frame::EachBody(line, first, second, over) => end_each(line, first, second, over, stmt),
+        other => Ended::Stays(other, Box::into_inner(stmt)),
+    }
+}
+
+// Whether a whole statement in an open one ends it.
+fn ends(frame: &Frame, is_else: bool) -> bool
+    ensures { (t : StmtTree) → ended is_else t (frame_of frame.now) ≡ (if result then ended false t (frame_of frame.now) else None) }
+{
+    match frame {
+        Frame::IfYes(_, _) => !is_else,
+        Frame::InBlock(_, _) | Frame::InSwitch(_) | Frame::DoBody(_) => false,
+        _ => true,
+    }
+}
+
 // A whole statement in an open one: that ends, where nothing but this was missing.
 fn end_frame(alloc: Global, frame: Frame, stmt: Stmt, is_else: bool) -> Result<Ended, AllocError>
     ensures { Ends is_else (stmt_of stmt) (frame_of frame) result }
 {
-    match frame {
-        Frame::IfYes(line, test) => end_yes(alloc, line, test, stmt, is_else),
-        Frame::IfNo(line, test, yes) => Ok(Ended::Whole(end_no(alloc, line, test, yes, stmt)?)),
-        Frame::WhileBody(line, test) => Ok(Ended::Whole(end_while(alloc, line, test, stmt)?)),
-        Frame::ForBody(line, init, test, step) => Ok(Ended::Whole(end_for(
-            alloc, line, init, test, step, stmt,
-        )?)),
-        Frame::EachBody(line, first, second, over) => Ok(Ended::Whole(end_each(
-            alloc, line, first, second, over, stmt,
-        )?)),
-        other => Ok(Ended::Stays(other, stmt)),
+    if ends(&frame, is_else) {
+        return match boxed(alloc, stmt) {
+            Ok(stmt) => Ok(end_with(frame, stmt)),
+            Err(error) => {
+                drop(frame);
+                Err(error)
+            }
+        };
+    }
+    Ok(Ended::Stays(frame, stmt))
+}
+
+// A whole statement, and whether it ends no other.
+#[derive(Drop)]
+struct Settling {
+    stmt: Stmt,
+    is_last: bool,
+}
+
+// A statement that stays open again, with the whole one in it.
+fn stays(stack: &mut Stack, frame: Frame, stmt: Stmt) -> Result<Settling, AllocError>
+    ensures last { IfOk result (λ n. n.is_last ≡ true) }
+    ensures stmt { IfOk result (λ n. n.stmt ≡ stmt) }
+    ensures stack { OnOk result (stack_of stack.new ≡ Inside (frame_of frame) (stack_of stack.old)) }
+{
+    match stack.push(frame) {
+        Ok(()) => Ok(Settling {
+            stmt,
+            is_last: true,
+        }),
+        Err(error) => {
+            drop(stmt);
+            Err(error)
+        }
+    }
+}
+
+// A whole statement in an open one, which was taken from the stack.
+fn settle_frame(
+    alloc: Global,
+    stack: &mut Stack,
+    frame: Frame,
+    stmt: Stmt,
+    is_else: bool,
+) -> Result<Settling, AllocError>
+    ensures goes { IfOk result (λ n. n.is_last ≡ false → settled is_else (stmt_of stmt) (Inside (frame_of frame) (stack_of stack.old)) ≡ settled is_else (stmt_of n.stmt) (stack_of stack.new)) }
+    ensures below { IfOk result (λ n. n.is_last ≡ false → stack_of stack.new ≡ stack_of stack.old) }
+    ensures stops { IfOk result (λ n. n.is_last ≡ true → settled is_else (stmt_of stmt) (Inside (frame_of frame) (stack_of stack.old)) ≡ record { stmt = stmt_of n.stmt; stack = stack_of stack.new }) }
+{
+    match end_frame(alloc, frame, stmt, is_else)? {
+        Ended::Whole(whole) => Ok(Settling {
+            stmt: whole,
+            is_last: false,
+        }),
+        Ended::Stays(frame, same) => stays(stack, frame, same),
+    }
+}
+
+// A whole statement: the innermost open one ends with it, or none does.
+fn settle_once(
+    alloc: Global,
+    stack: &mut Stack,
+    stmt: Stmt,
+    is_else: bool,
+) -> Result<Settling, AllocError>
+    ensures goes { IfOk result (λ n. n.is_last ≡ false → settled is_else (stmt_of stmt) (stack_of stack.old) ≡ settled is_else (stmt_of n.stmt) (stack_of stack.new)) }
+    ensures below { IfOk result (λ n. n.is_last ≡ false → suc (depth (stack_of stack.new)) ≡ depth (stack_of stack.old)) }
+    ensures stops { IfOk result (λ n. n.is_last ≡ true → settled is_else (stmt_of stmt) (stack_of stack.old) ≡ record { stmt = stmt_of n.stmt; stack = stack_of stack.new }) }
+{
+    match stack.pop() {
+        None => Ok(Settling {
+            stmt,
+            is_last: true,
+        }),
+        Some(frame) => settle_frame(alloc, stack, frame, stmt, is_else),
     }
 }
 
 /// Ends the statements that a token ends, which is an `else` or not. An `else` goes with the nearest `if`.
-#[tactic(auto, using(crate::proofs::Ends::settle_goes, crate::proofs::Ends::settle_stops))]
 pub fn settle(
     alloc: Global,
     stack: &mut Stack,
@@ -164,14 +231,11 @@ pub fn settle(
     ensures { IfOk result (λ u. settled is_else (stmt_of stmt) (stack_of stack.old) ≡ record { stmt = stmt_of u; stack = stack_of stack.new }) }
 {
     let mut stmt = stmt;
-    while let Some(frame) = stack.pop() {
-        match end_frame(alloc, frame, stmt, is_else)? {
-            Ended::Whole(whole) => stmt = whole,
-            Ended::Stays(frame, same) => {
-                stack.push(frame)?;
-                return Ok(same);
-            }
+    loop {
+        let next = settle_once(alloc, stack, stmt, is_else)?;
+        stmt = next.stmt;
+        if next.is_last {
+            return Ok(stmt);
         }
     }
-    Ok(stmt)
 }

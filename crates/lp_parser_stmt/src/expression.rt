@@ -41,7 +41,7 @@ pub fn begin_expression(alloc: Global, role: Role, seen: Seen) -> Result<Moved, 
 }
 
 // What was read of the statement is on the stack, and a statement comes.
-fn opens(stack: &mut Stack, frame: Frame) -> Result<Moved, AllocError>
+pub(crate) fn opens(stack: &mut Stack, frame: Frame) -> Result<Moved, AllocError>
     ensures { Steps (Some (Need (Inside (frame_of frame) (stack_of stack.old)))) (stack_of stack.new) result }
 {
     stack.push(frame)?;
@@ -146,6 +146,8 @@ fn after(
     if ends_by(mark, &role) {
         return used(alloc, stack, role, tree);
     }
+    drop(role);
+    drop(tree);
     Ok(Moved::Refuses)
 }
 
@@ -162,10 +164,22 @@ pub fn reading(
 {
     let mark = mark_of(&seen.sort);
     let mut inner = inner;
-    match expr_step(alloc, &mut inner, at, seen)? {
-        ExprMoved::Goes(next) => Ok(Moved::Goes(Focus::Reading(inner, next, role))),
-        ExprMoved::Ends(Some(tree)) => after(alloc, stack, role, tree.expr, mark),
-        ExprMoved::Ends(None) => Ok(Moved::Refuses),
+    match expr_step(alloc, &mut inner, at, seen) {
+        Ok(ExprMoved::Goes(next)) => Ok(Moved::Goes(Focus::Reading(inner, next, role))),
+        Ok(ExprMoved::Ends(Some(tree))) => {
+            drop(inner);
+            after(alloc, stack, role, tree.expr, mark)
+        }
+        Ok(ExprMoved::Ends(None)) => {
+            drop(inner);
+            drop(role);
+            Ok(Moved::Refuses)
+        }
+        Err(error) => {
+            drop(inner);
+            drop(role);
+            Err(error)
+        }
     }
 }
 
@@ -204,6 +218,7 @@ fn skips(stack: &mut Stack, part: Optional, is_end: bool) -> Result<Moved, Alloc
     if is_end {
         return filled(stack, part, None);
     }
+    drop(part);
     Ok(Moved::Refuses)
 }
 
@@ -219,11 +234,21 @@ fn maybe_class(
 {
     let is_last = is_last(&part);
     match class {
-        Class::SemicolonEnds => skips(stack, part, !is_last),
-        Class::ParenCloses => skips(stack, part, is_last),
+        Class::SemicolonEnds => {
+            drop(seen);
+            skips(stack, part, !is_last)
+        }
+        Class::ParenCloses => {
+            drop(seen);
+            skips(stack, part, is_last)
+        }
         Class::TypeBegins(base) => Ok(first_declares(alloc, part, base, seen.line)),
         Class::ExpressionBegins => begin_expression(alloc, Role::OneOf(part), seen),
-        _ => Ok(Moved::Refuses),
+        _ => {
+            drop(part);
+            drop(seen);
+            Ok(Moved::Refuses)
+        }
     }
 }
 

@@ -1,27 +1,44 @@
 //! Labels of a `switch`.
 ghost use Rattle.std.specs.Prelude.{◌≡◌, OnOk, Ok, Some};
 ghost use Rattle.lp_tree.specs.declared.token.Mark.TheVariants.{Colon};
-ghost use Rattle.lp_parser_stmt.specs.Machine.{Expect, Need, Stack as Opens, have_int, labelled, need_const, need_digits, need_to, need_to_digits, step};
+ghost use Rattle.lp_parser_stmt.specs.Machine.{Expect, InSwitch, Inside, Need, Stack as Opens, have_int, labelled, need_const, need_digits, need_to, need_to_digits, step, with_part};
 ghost use Rattle.lp_parser_stmt.specs.Moves.{IsUnsigned, Steps, label_state};
 ghost use Rattle.lp_parser_stmt.specs.StackView.{stack_of};
-ghost use Rattle.lp_parser_stmt.specs.View.{switching_of};
+ghost use Rattle.lp_parser_stmt.specs.View.{part_view, switching_of};
 
 use crate::focus::{Focus, LabelAt, Moved};
 use crate::frame::{Frame, Switching};
 use crate::stack::Stack;
 use lp_tree::operator::BinOp;
 use lp_tree::seen::{Seen, Sort};
-use lp_tree::stmt::{Constant, Label, Part};
+use lp_tree::stmt::{Constant, Label, Part, Stmt};
 use lp_tree::token::Mark;
 use std::alloc::AllocError;
+
+// A `switch` with one more whole part.
+pub(crate) fn more_of_switch(
+    stack: &mut Stack,
+    switching: Switching,
+    part: Part<Stmt>,
+) -> Result<(), AllocError>
+    ensures { OnOk result (stack_of stack.new ≡ Inside (InSwitch (with_part (switching_of switching) (part_view part))) (stack_of stack.old)) }
+{
+    let mut switching = switching;
+    match switching.done.push(part) {
+        Ok(()) => stack.push(Frame::InSwitch(switching)),
+        Err(refused) => {
+            drop(refused);
+            drop(switching);
+            Err(AllocError)
+        }
+    }
+}
 
 // A label up to its colon, or with it.
 fn with_label(stack: &mut Stack, label: Label, switching: Switching) -> Result<(), AllocError>
     ensures { OnOk result (Need (stack_of stack.new) ≡ labelled label (switching_of switching) (stack_of stack.old)) }
 {
-    let mut switching = switching;
-    switching.done.push(Part::Label(label))?;
-    stack.push(Frame::InSwitch(switching))
+    more_of_switch(stack, switching, Part::Label(label))
 }
 
 /// A label whose colon comes.

@@ -1,5 +1,5 @@
 //! The machine, moved by one token at a time.
-ghost use Rattle.std.specs.Prelude.{◌≡◌, ◌+◌, max, ℕ, None, Ok, Some, if◌then◌else◌};
+ghost use Rattle.std.specs.Prelude.{◌≡◌, ◌+◌, ◌∷◌, ◌++◌, [], max, ℕ, None, Ok, OnOk, Some, if◌then◌else◌};
 ghost use Rattle.lp_tree.specs.StatementView.{stmt_of};
 ghost use Rattle.lp_tree.specs.TreeView.{tree_of};
 ghost use Rattle.lp_tree.specs.declared.token.Mark.TheVariants.{OpenParen, Semicolon};
@@ -12,11 +12,11 @@ ghost use Rattle.lp_parser_stmt.specs.View.{names_of, optional_of, stmts_of, swi
 
 use crate::begin::begin;
 use crate::declaration::{declaring, variable};
-use crate::ending::settle;
-use crate::expression::{maybe, reading};
+use crate::ending::{boxed, settle};
+use crate::expression::{maybe, opens, reading};
 use crate::focus::{EachAt, Focus, Moved, Opening};
 use crate::frame::{Frame, Switching};
-use crate::label::label;
+use crate::label::{label, more_of_switch};
 use crate::names::Names;
 use crate::role::{Optional, Role, Whose};
 use crate::stack::Stack;
@@ -63,9 +63,13 @@ fn begin_else(
 ) -> Result<Moved, AllocError>
     ensures { Steps (Some (Need (Inside (IfNo line (tree_of test) (stmt_of yes)) (stack_of stack.old)))) (stack_of stack.new) result }
 {
-    let yes = Box::new(alloc, yes)?;
-    stack.push(Frame::IfNo(line, test, yes))?;
-    Ok(Moved::Goes(Focus::Need))
+    match boxed(alloc, yes) {
+        Ok(yes) => opens(stack, Frame::IfNo(line, test, yes)),
+        Err(error) => {
+            drop(test);
+            Err(error)
+        }
+    }
 }
 
 // A token behind the first statement of an `if`.
@@ -120,6 +124,20 @@ fn next_of_function(
     begin(alloc, stack, seen)
 }
 
+// A block with one more whole statement.
+fn more_of_block(
+    stack: &mut Stack,
+    line: u32,
+    done: Vec<Stmt>,
+    stmt: Stmt,
+) -> Result<(), AllocError>
+    ensures { OnOk result (stack_of stack.new ≡ Inside (InBlock line (stmts_of done ++ stmt_of stmt ∷ [])) (stack_of stack.old)) }
+{
+    let mut done = done;
+    done.push(stmt)?;
+    stack.push(Frame::InBlock(line, done))
+}
+
 // A whole statement of a block.
 fn next_of_block(
     alloc: Global,
@@ -131,9 +149,7 @@ fn next_of_block(
 ) -> Result<Moved, AllocError>
     ensures { Steps (acted seen (stmt_of stmt) (Inside (InBlock line (stmts_of done)) (stack_of stack.old))) (stack_of stack.new) result }
 {
-    let mut done = done;
-    done.push(stmt)?;
-    stack.push(Frame::InBlock(line, done))?;
+    more_of_block(stack, line, done, stmt)?;
     begin(alloc, stack, seen)
 }
 
@@ -147,9 +163,7 @@ fn next_of_switch(
 ) -> Result<Moved, AllocError>
     ensures { Steps (acted seen (stmt_of stmt) (Inside (InSwitch (switching_of switching)) (stack_of stack.old))) (stack_of stack.new) result }
 {
-    let mut switching = switching;
-    switching.done.push(Part::Stmt(stmt))?;
-    stack.push(Frame::InSwitch(switching))?;
+    more_of_switch(stack, switching, Part::Stmt(stmt))?;
     begin(alloc, stack, seen)
 }
 
@@ -196,6 +210,7 @@ fn end_stmt(stmt: Stmt, sort: Sort) -> Moved
     if is_mark(Mark::Semicolon, &sort) {
         return Moved::Goes(Focus::Have(stmt));
     }
+    drop(stmt);
     Moved::Refuses
 }
 

@@ -166,12 +166,26 @@ fn valued(
 {
     let mark = mark_of(&seen.sort);
     let mut inner = inner;
-    match expr_step(alloc, &mut inner, at, seen)? {
-        ExprMoved::Goes(next) => Ok(NamesMoved::Goes(Names::Valued(
+    match expr_step(alloc, &mut inner, at, seen) {
+        Ok(ExprMoved::Goes(next)) => Ok(NamesMoved::Goes(Names::Valued(
             done, line, stars, name, inner, next,
         ))),
-        ExprMoved::Ends(Some(tree)) => end_value(done, line, stars, name, tree.expr, mark),
-        ExprMoved::Ends(None) => Ok(NamesMoved::Ends(None)),
+        Ok(ExprMoved::Ends(Some(tree))) => {
+            drop(inner);
+            end_value(done, line, stars, name, tree.expr, mark)
+        }
+        Ok(ExprMoved::Ends(None)) => {
+            drop(done);
+            drop(name);
+            drop(inner);
+            Ok(NamesMoved::Ends(None))
+        }
+        Err(error) => {
+            drop(done);
+            drop(name);
+            drop(inner);
+            Err(error)
+        }
     }
 }
 

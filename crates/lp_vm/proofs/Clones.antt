@@ -1,5 +1,5 @@
 -- `clone_object`: how it begins, what follows the load of its blueprint, and its end.
-use Rattle.std.proofs.Common.{◌≡◌, ◌∙◌, ◌++◌, ◌∷◌, [], ◌+◌, ◌≤◌, ℕ, List, Option, Some, None, refl, ap, sym, subst, map, append-nil, arith}
+use Rattle.std.proofs.Common.{◌≡◌, ◌∙◌, ◌++◌, ◌∷◌, [], ◌≤◌, ℕ, List, Option, Some, refl, ap, sym, subst, append-nil}
 use Rattle.std.specs.Prelude.{IsSome, reverse}
 use Rattle.std.specs.Str.{chars}
 use Rattle.std.specs.String.{string_bytes}
@@ -8,7 +8,6 @@ use Rattle.std.proofs.Math.Nat.{le_trans}
 use Rattle.std.proofs.lemmas.List.{reverse-append}
 use Rattle.lp_values.specs.declared.id.ObjId.{ObjId}
 use Rattle.lp_values.specs.declared.value.Value.{Value}
-use Rattle.lp_cells.specs.Cells.{Store}
 use Rattle.lp_code.specs.declared.program.RawProgram.{RawProgram}
 use Rattle.lp_events.specs.declared.out.Out.{Out}
 use Rattle.lp_instr.specs.declared.efun.Efun.TheVariants as efuns
@@ -18,17 +17,15 @@ use Rattle.lp_language.specs.Course.{Ask, Asks, CanAnswer, Course, End, Failed, 
 use Rattle.lp_meaning.specs.Askers as meaning
 use Rattle.lp_meaning.specs.Askers.{asker_of, question, state_of}
 use Rattle.lp_meaning.specs.Closing.{Ends, Has}
-use Rattle.lp_meaning.specs.FileLoads.{could_not_load, load_call, load_value, loaded_value, object_reply}
+use Rattle.lp_meaning.specs.FileLoads.{could_not_load, load_call, load_value, loaded_value}
 use Rattle.lp_meaning.specs.FrontEnd.{FrontEnd}
 use Rattle.lp_meaning.specs.FunctionCalls.{callers_behind}
-use Rattle.lp_meaning.specs.Questions.{efun_in}
 use Rattle.lp_meaning.proofs.Kept.{outcomes_can_be}
 use Rattle.lp_front_end.specs.FrontEnds.{IsFrontEnd}
 use Rattle.lp_world.specs.declared.live.Live.{Live}
 use Rattle.lp_world.specs.Rows.{variables_at}
 use Rattle.lp_step.specs.Steps.{IsFit, KeepsVariables}
 use Rattle.lp_run.proofs.Together.{home_later}
-use Rattle.lp_efuns.specs.declared.caller.Turn.{Turn}
 use Rattle.lp_asking.specs.declared.asker.Asker.{Asker}
 use Rattle.lp_asking.specs.declared.ending.Ending.{Ending}
 use Rattle.lp_asking.specs.declared.ending.Ending.TheVariants as endings
@@ -40,7 +37,6 @@ use Rattle.lp_beginning.specs.declared.job.Making.{Making}
 use Rattle.lp_beginning.specs.Beginning.{Fits}
 use Rattle.lp_beginning.specs.Ends.{IsReplyEnd, IsValueEnd, state_at}
 use Rattle.lp_beginning.specs.Jobs as making
-use Rattle.lp_cloning.specs.declared.job.Begun.{Begun}
 use Rattle.lp_cloning.specs.declared.job.Begun.TheVariants as begun
 use Rattle.lp_cloning.specs.declared.job.Cloning.{Cloning}
 use Rattle.lp_cloning.specs.declared.job.Cloning.TheVariants as stages
@@ -52,7 +48,7 @@ use Rattle.lp_loading.specs.declared.job.Answer.TheVariants as answers
 use Rattle.lp_loading.specs.declared.job.Purpose.TheVariants as purposes
 use Rattle.lp_loading.specs.Going.{IsAnswerOf, IsAt, setting, state_in}
 use Rattle.lp_vm.specs.declared.request.Request.TheVariants as requests
-use Rattle.lp_vm.specs.Answering.{CanServe, IsAsked, IsSameAsker, Served}
+use Rattle.lp_vm.specs.Answering.{CanServe, IsAsked}
 use Rattle.lp_vm.specs.Cloning.{CanClone, Clones, IsCloning}
 use Rattle.lp_vm.specs.Cycle.{Answers}
 use Rattle.lp_vm.specs.Going.{IsOutcome}
@@ -61,7 +57,6 @@ use Rattle.lp_vm.specs.Loaded.{loaded_ending}
 use Rattle.lp_vm.specs.Loading.{CanLoad, LoadEnds, Loads, load_course}
 use Rattle.lp_vm.specs.Making.{AsksAt, CanMake, IsBehind, Makes, StandsForOne}
 use Rattle.lp_vm.specs.Requests.{AsksEfun}
-use Rattle.lp_vm.specs.Working.{WorkedTo}
 use Rattle.lp_vm.proofs.Answered.{efun_has}
 use Rattle.lp_vm.proofs.Grown.{grows_same, outcome_grown}
 use Rattle.lp_vm.proofs.Loads.{answer_after, at_after, behind_later, end_after, is_at}

@@ -1,0 +1,127 @@
+//! Loads that lead to loads.
+use crate::game::Game;
+use crate::rows::Step::{Call, Lives, Load};
+use crate::rows::{File, Row, add, game_of, hold, play};
+use std::alloc::Global;
+use std::process::Abort;
+use std::test::Fail;
+
+const CYCLES: [File; 6] = [
+    ("/a.c", "inherit \"/b\";"),
+    ("/b.c", "int f();\n\ninherit \"/c\";"),
+    ("/c.c", "int f();\ninherit \"/ok\"; inherit \"/a\";"),
+    ("/s.c", "inherit \"s\";"),
+    ("/ok.c", "int z;"),
+    (
+        "/m.c",
+        "object go() { return load_object(\"/b\"); }
+    object self() { return clone_object(\"/s\"); }",
+    ),
+];
+
+// The fault is that of the file whose `inherit` leads back.
+const CYCLES_ROWS: [Row; 9] = [
+    (Load("/a"), "faulty 1 | /c.c line 2: inherits itself"),
+    (Load("/c"), "faulty 1 | /b.c line 3: inherits itself"),
+    (Load("/s"), "faulty 1 | /s.c line 1: inherits itself"),
+    (Load("/m"), "/m"),
+    (
+        Call("/m", "go"),
+        "error: Could not load /a [go of /m, object /m] | /a.c line 1: inherits itself",
+    ),
+    (
+        Call("/m", "self"),
+        "error: Could not load /s [self of /m, object /m] | /s.c line 1: inherits itself",
+    ),
+    (Lives("/ok"), "yes"),
+    (Lives("/a"), "no"),
+    (Lives("/c"), "no"),
+];
+
+#[test]
+fn files_that_inherit_themselves(rt: HostRuntime) -> Result<(), Fail> {
+    hold(&rt, rt.alloc(), &CYCLES, &CYCLES_ROWS)
+}
+
+/// The files with these numbers, below the last, inherit the next one each; the last has a function.
+fn heirs(rt: &impl Abort, alloc: Global, last: u64) -> Result<Game, Fail> {
+    let mut game = game_of(rt, alloc, &[])?;
+    for n in 0..last {
+        let path = format!(in alloc; "/n{n}.c")?;
+        let text = format!(in alloc;
+            "int own{n}();\ninherit \"/n{}\";\nint own{n}() {{ return {n}; }}",
+            n + 1
+        )?;
+        game = add(rt, game, path.as_str(), text.as_str())?;
+    }
+    let path = format!(in alloc; "/n{last}.c")?;
+    add(
+        rt,
+        game,
+        path.as_str(),
+        "int own0(); int own9();\nint v() { return own0() * 100 + own9(); }",
+    )
+}
+
+const NESTED: [Row; 4] = [
+    (Load("/n0"), "/n0"),
+    (Lives("/n64"), "yes"),
+    (Call("/n0", "v"), "9"),
+    (Call("/n64", "v"), "0"),
+];
+
+// One load too deep: no file has an object. From the second file on it is not.
+const TOO_NESTED: [Row; 4] = [
+    (Load("/n0"), "faulty 1 | /n64.c line 2: inherits too deep"),
+    (Lives("/n64"), "no"),
+    (Load("/n1"), "/n1"),
+    (Load("/n0"), "/n0"),
+];
+
+// 64 loads for an `inherit` may lead to one another, and what lives already counts for none.
+#[test]
+fn inherits_64_deep(rt: HostRuntime) -> Result<(), Fail> {
+    let deep = heirs(&rt, rt.alloc(), 64)?;
+    play(&rt, rt.alloc(), deep, &NESTED, false)?;
+    let deeper = heirs(&rt, rt.alloc(), 65)?;
+    play(&rt, rt.alloc(), deeper, &TOO_NESTED, false)?;
+    Ok(())
+}
+
+/// The files with these numbers load the next one each in their `create`.
+fn loaders(rt: &impl Abort, alloc: Global, last: u64) -> Result<Game, Fail> {
+    let mut game = game_of(rt, alloc, &[])?;
+    for n in 1..last {
+        let path = format!(in alloc; "/n{n}.c")?;
+        let text = format!(in alloc; "void create() {{ load_object(\"/n{}\"); }}", n + 1)?;
+        game = add(rt, game, path.as_str(), text.as_str())?;
+    }
+    let path = format!(in alloc; "/n{last}.c")?;
+    add(
+        rt,
+        game,
+        path.as_str(),
+        "void create() { write(\"last\"); }",
+    )
+}
+
+const LOADERS: [Row; 2] = [(Load("/n1"), "/n1 | last"), (Lives("/n100"), "yes")];
+
+const TOO_MANY_LOADERS: [Row; 3] = [
+    (
+        Load("/n1"),
+        "error: Too deep recursion [create of /n100, object /n100]",
+    ),
+    (Lives("/n101"), "yes"),
+    (Lives("/n1"), "yes"),
+];
+
+// A load is no call, but what begins in it is: functions are 100 deep, also where loads lie between.
+#[test]
+fn calls_are_100_deep_through_loads(rt: HostRuntime) -> Result<(), Fail> {
+    let deep = loaders(&rt, rt.alloc(), 100)?;
+    play(&rt, rt.alloc(), deep, &LOADERS, false)?;
+    let deeper = loaders(&rt, rt.alloc(), 101)?;
+    play(&rt, rt.alloc(), deeper, &TOO_MANY_LOADERS, false)?;
+    Ok(())
+}
