@@ -62,12 +62,12 @@ makes_named o a b count seed s before after e f h =
 
 abbrev is_make : Command → Bool
 is_make (Make count seed) = true
-is_make Replay = false
+is_make (Replay swap_time) = false
 is_make (Check simul) = false
 
 -- words that name another command, or none, name no workload
-pub not_replay : (o : Option Command) (count seed : ℕ) → o ≡ Some Replay → o ≡ Some (Make count seed) → ⊥
-not_replay o count seed e f = let h = ap is_make (some_same (sym e ∙ f)) in absurd cc
+pub not_replay : (o : Option Command) (swap_time count seed : ℕ) → o ≡ Some (Replay swap_time) → o ≡ Some (Make count seed) → ⊥
+not_replay o swap_time count seed e f = let h = ap is_make (some_same (sym e ∙ f)) in absurd cc
 
 pub not_check : (o : Option Command) (simul : Option (List ℕ)) (count seed : ℕ) → o ≡ Some (Check simul) → o ≡ Some (Make count seed) → ⊥
 not_check o simul count seed e f = let h = ap is_make (some_same (sym e ∙ f)) in absurd cc

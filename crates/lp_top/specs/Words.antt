@@ -27,6 +27,10 @@ is_free_word word = not (bytes_eq word (codes "--")) && not (bytes_eq word (code
 abbrev pub are_free : List (List ℕ) → Bool
 are_free words = list_all is_free_word words
 
+-- the option `--swap-time`, with one value
+abbrev pub swap_time_option : Rule
+swap_time_option = record (new_rule (codes "swap-time")) { long = Some (codes "swap-time"); action = Some Set }
+
 -- the option `--simul`, with one value
 abbrev pub simul_option : Rule
 simul_option = record (new_rule (codes "simul")) { long = Some (codes "simul"); action = Some Set }
@@ -37,7 +41,7 @@ wanted_value id = record (new_rule id) { action = Some Set; required = true }
 
 -- the words of a command as clap has them: its name, and its options and values
 abbrev pub line_of : CommandName → App
-line_of name.Replay = new_app (codes "replay")
+line_of name.Replay = with_rule (new_app (codes "replay")) swap_time_option
 line_of name.Check = with_rule (new_app (codes "check")) simul_option
 line_of name.Make = with_rule (with_rule (new_app (codes "make")) (wanted_value (codes "count"))) (wanted_value (codes "seed"))
 
@@ -68,6 +72,15 @@ abbrev pub number_in : ℕ → ℕ → Option (List ℕ) → Option ℕ
 number_in low high None = None
 number_in low high (Some value) = number_named (is_between low high) value
 
+-- a replay with the value of `--swap-time`, a number up to 1000000000; without it 900
+abbrev pub replay_of : Option ℕ → Option Command
+replay_of (Some n) = Some (Replay n)
+replay_of None = None
+
+abbrev pub replay_with : Option (List ℕ) → Option Command
+replay_with None = Some (Replay 900)
+replay_with (Some value) = replay_of (number_in 0 1000000000 (Some value))
+
 abbrev pub make_of : Option ℕ → Option ℕ → Option Command
 make_of (Some count) (Some seed) = Some (Make count seed)
 make_of (Some count) None = None
@@ -79,7 +92,7 @@ make_with count seed = make_of (number_in 1 200000 count) (number_in 0 184467440
 
 -- the command of this name with its values
 abbrev pub with_values : CommandName → List (List ℕ) → Option Command
-with_values name.Replay words = Some Replay
+with_values name.Replay words = replay_with (value_in name.Replay (codes "swap-time") words)
 with_values name.Check words = check_with (value_in name.Check (codes "simul") words)
 with_values name.Make words = make_with (value_in name.Make (codes "count") words) (value_in name.Make (codes "seed") words)
 

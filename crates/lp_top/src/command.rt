@@ -45,6 +45,10 @@ fn text_of(path: &Option<FilePath>) -> Option<&str>
 /// and gives each event its turn. What it writes is the transcript of the run that the written meaning
 /// gives these items, by each front end that there is.
 ///
+/// `--swap-time N` tells after how many seconds without an entry an object or a program is idle, a number
+/// up to 1000000000, by default 900. What is idle goes out at a tick; none is carried out yet, so it
+/// changes nothing.
+///
 /// A check loads each file that ends in `.c`, by path and its parents first. It writes a line
 /// `FILE line N: TEXT` for each fault, by the paths of the files and each file's faults once, and then
 /// the line `F files, E faults`, where F counts the script's files that end in `.c`. A file has its
@@ -99,7 +103,7 @@ pub fn run<S: Source, K: Sink, W: Truthful>(
     ensures words { result ≡ Status.BadWords → command_in (map string_bytes words.now) ≡ None }
     ensures refused { command_in (map string_bytes words.now) ≡ None → (result ≡ Status.BadWords) ⊎ (result ≡ Status.NoMemory) }
     ensures untouched { command_in (map string_bytes words.now) ≡ None → (input.new ≡ input.old) × (out.new ≡ out.old) }
-    ensures replays { Name words.now Command.Replay → (b : List ℕ) → S.remaining input.old ≡ Some b → Replays b result (K.written out.old) (K.written out.new) }
+    ensures replays { (swap_time : ℕ) → Name words.now (Command.Replay swap_time) → (b : List ℕ) → S.remaining input.old ≡ Some b → Replays b result (K.written out.old) (K.written out.new) }
     ensures checks { (simul : Option (List ℕ)) → Name words.now (Command.Check simul) → (b : List ℕ) → S.remaining input.old ≡ Some b → Checks simul b result (K.written out.old) (K.written out.new) }
     ensures makes { (count seed : ℕ) → Name words.now (Command.Make count seed) → Makes count seed result (K.written out.old) (K.written out.new) }
     ensures unread { NameMake words.now → input.new ≡ input.old }
@@ -111,10 +115,10 @@ pub fn run<S: Source, K: Sink, W: Truthful>(
     ensures swap_fault { SwapTells result (W.content swap.new) (W.last swap.new) (W.read_faults swap.old) (W.read_faults swap.new)
         (W.is_truthful swap.old) (W.is_truthful swap.new) (W.is_honest swap.old) (W.is_honest swap.new) }
     // Only a replay uses the swap file.
-    ensures swapless { (Name words.now Command.Replay → ⊥) → swap.new ≡ swap.old }
+    ensures swapless { ((swap_time : ℕ) → Name words.now (Command.Replay swap_time) → ⊥) → swap.new ≡ swap.old }
     // A script of whose files a master is made, over devices that do not fail and a swap file that is honest, is carried out to its end, or
     // up to an item that is not carried out yet.
-    ensures complete { (b : List ℕ) (xs : List I) → Name words.now Command.Replay → S.remaining input.old ≡ Some b → length b ≤ longest_input → IsScript b xs → HasMaster xs
+    ensures complete { (swap_time : ℕ) (b : List ℕ) (xs : List I) → Name words.now (Command.Replay swap_time) → S.remaining input.old ≡ Some b → length b ≤ longest_input → IsScript b xs → HasMaster xs
         → W.is_honest swap.new → W.is_truthful swap.new → (SwapRose (W.read_faults swap.old) (W.read_faults swap.new) → ⊥)
         → (Rose (S.faults input.old) (S.faults input.new) → ⊥) → (Rose (K.faults out.old) (K.faults out.new) → ⊥) → (Rose (K.zeros out.old) (K.zeros out.new) → ⊥)
         → IsCarriedOut b result }
@@ -130,7 +134,7 @@ pub fn run<S: Source, K: Sink, W: Truthful>(
     one_end_of_the_start();
     law_there_is_one();
     match command_of(alloc, words) {
-        Ok(Command::Replay) => replay(alloc, input, out, swap),
+        Ok(Command::Replay { swap_time: _ }) => replay(alloc, input, out, swap),
         Ok(Command::Check { simul }) => check(alloc, text_of(&simul), input, out),
         Ok(Command::Make { count, seed }) => make(alloc, count, seed, out),
         Err(WordsFault::BadWords) => Status::BadWords,

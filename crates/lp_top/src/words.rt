@@ -3,7 +3,7 @@ ghost use Rattle.std.specs.Prelude.{◌≡◌, true, false, Err, IfOk, map, stri
 ghost use Rattle.std.specs.List.{list_all};
 ghost use Rattle.std.specs.Option.{option_copied};
 ghost use Rattle.clap.specs.Words.{HasMatchesOf, app_of, fault_of, is_simple_and_free, rule_of};
-ghost use Rattle.lp_top.specs.Words.{check_with, command_in, command_named as named, has_some, is_free_word, is_value as may_be_value, line_of, make_with, wanted_value as wanted, taken_with, text_of};
+ghost use Rattle.lp_top.specs.Words.{check_with, command_in, command_named as named, has_some, is_free_word, is_value as may_be_value, line_of, make_with, replay_with, wanted_value as wanted, taken_with, text_of};
 ghost use Rattle.lp_top.specs.declared.words.WordsFault.TheVariants as fault;
 
 use crate::number::number_in;
@@ -16,8 +16,8 @@ use thiserror::Error;
 /// What the program is asked to do.
 #[derive(Debug, Drop)]
 pub enum Command {
-    /// Reads a script and writes its transcript.
-    Replay,
+    /// Reads a script and writes its transcript. After so many seconds without an entry an object or a program is idle.
+    Replay { swap_time: u32 },
     /// Reads a script and tells what is wrong with its files. With `simul` they see the functions of
     /// the file with this path as simul efuns.
     Check { simul: Option<FilePath> },
@@ -35,6 +35,11 @@ pub enum CommandName {
 
 /// The most events that a workload may have.
 const MOST_EVENTS: u64 = 200_000;
+
+/// The most seconds of a swap time, and those that are taken where none is given.
+const MOST_SWAP_TIME: u64 = 1_000_000_000;
+
+const USUAL_SWAP_TIME: u32 = 900;
 
 /// Why words name no command.
 #[derive(Clone, Copy, Debug, PartialEq, Eq, Error)]
@@ -111,7 +116,12 @@ fn line<'a>(alloc: Global, name: CommandName) -> Result<Line<'a>, AllocError>
 {
     let line = Line::new(alloc, name_of(name));
     match name {
-        CommandName::Replay => Ok(line),
+        CommandName::Replay => {
+            let swap_time = Arg::new(alloc, "swap-time")
+                .long("swap-time")
+                .action(ArgAction::Set);
+            line.arg(swap_time)
+        }
         CommandName::Check => {
             let simul = Arg::new(alloc, "simul")
                 .long("simul")
@@ -147,6 +157,24 @@ fn is_value(text: &str) -> bool
     match text.as_bytes().first() {
         Some(byte) => *byte != b'-',
         None => false,
+    }
+}
+
+// A replay with the value of `--swap-time`.
+fn replay_of(swap_time: Option<&str>) -> Result<Command, WordsFault>
+    ensures named { IfOk result (λ c. replay_with (option_copied swap_time.entry) ≡ Some c) }
+    ensures refused { result ≡ Err fault.BadWords → replay_with (option_copied swap_time.entry) ≡ None }
+{
+    match swap_time {
+        None => Ok(Command::Replay {
+            swap_time: USUAL_SWAP_TIME,
+        }),
+        Some(value) => match number_in(0, MOST_SWAP_TIME, Some(value)) {
+            Some(number) => Ok(Command::Replay {
+                swap_time: number as u32,
+            }),
+            None => Err(WordsFault::BadWords),
+        },
     }
 }
 
@@ -190,7 +218,7 @@ fn command_with(alloc: Global, name: CommandName, words: &[String]) -> Result<Co
 {
     let matches = matched(line(alloc, name)?, words)?;
     match name {
-        CommandName::Replay => Ok(Command::Replay),
+        CommandName::Replay => replay_of(matches.get_str("swap-time")),
         CommandName::Check => check_of(alloc, matches.get_str("simul")),
         CommandName::Make => make_of(matches.get_str("count"), matches.get_str("seed")),
     }

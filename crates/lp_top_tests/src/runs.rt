@@ -92,6 +92,21 @@ fn transcripts(rt: HostRuntime) -> Result<(), Fail> {
     Ok(())
 }
 
+// Whether a script of the master that says hello is carried out with these words.
+fn says_hello(alloc: Global, words: &[&str]) -> Result<bool, AllocError> {
+    let text = script(alloc, HELLO, "connect 1\nend\n")?;
+    let well: (&[u64], &[u64], usize) = (&[], &[], 65536);
+    let output = b"to 1 6\nHello\n\nend\n";
+    ends(alloc, words, text.as_bytes(), well, 0, output)
+}
+
+#[test]
+fn swap_times(rt: HostRuntime) -> Result<(), Fail> {
+    assert!(rt; says_hello(rt.alloc(), &["replay", "--swap-time", "0"])?);
+    assert!(rt; says_hello(rt.alloc(), &["replay", "--swap-time=1000000000"])?);
+    Ok(())
+}
+
 /// Items behind `start`, and the offset of the first one that is not spelled or does not fit.
 const REFUSED: [(&str, u64, &str); 4] = [
     ("connect 1\nline 2 1\nx\nend\n", 145, "to 1 6\nHello\n\n"),

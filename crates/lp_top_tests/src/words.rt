@@ -62,13 +62,21 @@ const SIMUL: [Words; 15] = [
 ];
 
 /// Words in another order, and the option of another command.
-const OTHERS: [Words; 6] = [
+const OTHERS: [Words; 13] = [
     &["--simul", "/s.c", "check"],
     &["check", "x", "--simul", "/s.c"],
     &["check", "--Simul", "/s.c"],
     &["replay", "--simul", "/s.c"],
     &["replay", "--simul=/s.c"],
     &["replay", "--fast"],
+    // a swap time that is missing, or no number up to the limit
+    &["replay", "--swap-time"],
+    &["replay", "--swap-time="],
+    &["replay", "--swap-time", "1000000001"],
+    &["replay", "--swap-time", "00"],
+    &["replay", "--swap-time=1", "--swap-time=1"],
+    &["check", "--swap-time", "1"],
+    &["replay", "900"],
 ];
 
 /// Words of a workload that is none: values that are missing or too many, or that are not spelled as

@@ -1,7 +1,7 @@
 use Rattle.std.proofs.Common.{◌∙◌, ap, sym, map, string_bytes, codes}
 use Rattle.clap.specs.Words.{fault_of, is_simple_and_free}
 use Rattle.std.proofs.lemmas.Result.{IfOk-weaker}
-use Rattle.lp_top.specs.Words.{has_some, check_with, taken_with, line_of}
+use Rattle.lp_top.specs.Words.{has_some, check_with, replay_with, taken_with, line_of}
 use Rattle.lp_top.specs.declared.words.CommandName.TheVariants as name
 use Rattle.lp_top.proofs.Naming.{is_simple_line, make_refused, make_taken, value_read, taken_by}
 use Rattle.lp_top.proofs.words.command_with.Goals as goal
@@ -9,11 +9,32 @@ use Rattle.lp_top.proofs.words.command_with.Goals as goal
 pub matched-requires : goal.matched-requires
 matched-requires c = ap is_simple_and_free c.in_ok-line.ensures ∙ is_simple_line c.args.name
 
+pub returns-in-Replay-clause-named : goal.returns-in-Replay-clause-named
+returns-in-Replay-clause-named c =
+    let words = map string_bytes c.args.words.now in
+    let replay = c.in_ok-line.ensures ∙ ap line_of c.in-Replay.is in
+    let read = sym (c.get_str.ensures ∙ value_read name.Replay (codes "swap-time") words _ c.in_ok-matches.matches replay c.in_ok-matches.ensures.matches) in
+    IfOk-weaker c.replay_of.result _ _ (λ command h.
+    ap (λ n. taken_with n words) c.in-Replay.is
+    ∙ taken_by name.Replay words (sym (ap (λ a. has_some (fault_of a words)) replay) ∙ c.in_ok-matches.ensures.taken)
+    ∙ ap replay_with read
+    ∙ h) c.replay_of.ensures.named
+
+pub returns-in-Replay-clause-refused : goal.returns-in-Replay-clause-refused
+returns-in-Replay-clause-refused c = λ e.
+    let words = map string_bytes c.args.words.now in
+    let replay = c.in_ok-line.ensures ∙ ap line_of c.in-Replay.is in
+    let read = sym (c.get_str.ensures ∙ value_read name.Replay (codes "swap-time") words _ c.in_ok-matches.matches replay c.in_ok-matches.ensures.matches) in
+    ap (λ n. taken_with n words) c.in-Replay.is
+    ∙ taken_by name.Replay words (sym (ap (λ a. has_some (fault_of a words)) replay) ∙ c.in_ok-matches.ensures.taken)
+    ∙ ap replay_with read
+    ∙ c.replay_of.ensures.refused e
+
 pub returns-in-Check-clause-named : goal.returns-in-Check-clause-named
 returns-in-Check-clause-named c =
     let words = map string_bytes c.args.words.now in
     let check = c.in_ok-line.ensures ∙ ap line_of c.in-Check.is in
-    let read = sym (c.get_str.ensures ∙ value_read name.Check (codes "simul") words _ c.in_ok-matches.matches check c.in_ok-matches.ensures.matches) in
+    let read = sym (c.get_str-in-Check.ensures ∙ value_read name.Check (codes "simul") words _ c.in_ok-matches.matches check c.in_ok-matches.ensures.matches) in
     IfOk-weaker c.check_of.result _ _ (λ command h.
     ap (λ n. taken_with n words) c.in-Check.is
     ∙ taken_by name.Check words (sym (ap (λ a. has_some (fault_of a words)) check) ∙ c.in_ok-matches.ensures.taken)
@@ -24,7 +45,7 @@ pub returns-in-Check-clause-refused : goal.returns-in-Check-clause-refused
 returns-in-Check-clause-refused c = λ e.
     let words = map string_bytes c.args.words.now in
     let check = c.in_ok-line.ensures ∙ ap line_of c.in-Check.is in
-    let read = sym (c.get_str.ensures ∙ value_read name.Check (codes "simul") words _ c.in_ok-matches.matches check c.in_ok-matches.ensures.matches) in
+    let read = sym (c.get_str-in-Check.ensures ∙ value_read name.Check (codes "simul") words _ c.in_ok-matches.matches check c.in_ok-matches.ensures.matches) in
     ap (λ n. taken_with n words) c.in-Check.is
     ∙ taken_by name.Check words (sym (ap (λ a. has_some (fault_of a words)) check) ∙ c.in_ok-matches.ensures.taken)
     ∙ ap check_with read
