@@ -43,24 +43,32 @@ fn files_that_inherit_themselves(rt: HostRuntime) -> Result<(), Fail> {
     hold(&rt, rt.alloc(), &CYCLES, &CYCLES_ROWS)
 }
 
-/// The files with these numbers, below the last, inherit the next one each; the last has a function.
-fn heirs(rt: &impl Abort, alloc: Global, last: u64) -> Result<Game, Fail> {
+/// The path of the file with a number.
+fn path_of(alloc: Global, n: u64) -> Result<String, Fail> {
+    Ok(format!(in alloc; "/n{n}.c")?)
+}
+
+/// A file that inherits the one with the next number.
+fn heir(alloc: Global, n: u64, next: u64) -> Result<String, Fail> {
+    Ok(format!(in alloc; "int own{n}();\ninherit \"/n{next}\";\nint own{n}() {{ return {n}; }}")?)
+}
+
+/// It comes to a game.
+fn add_heir(rt: &impl Abort, alloc: Global, game: Game, n: u64) -> Result<Game, Fail> {
+    let path = path_of(alloc, n)?;
+    let text = heir(alloc, n, n.saturating_add(1))?;
+    add(rt, game, path.as_str(), text.as_str())
+}
+
+const LAST_HEIR: &str = "int own0(); int own9();\nint v() { return own0() * 100 + own9(); }";
+
+/// The files with numbers below the last inherit the next one each; the last has a function.
+fn heirs(rt: &impl Abort, alloc: Global, last: u64, path: &str) -> Result<Game, Fail> {
     let mut game = game_of(rt, alloc, &[])?;
     for n in 0..last {
-        let path = format!(in alloc; "/n{n}.c")?;
-        let text = format!(in alloc;
-            "int own{n}();\ninherit \"/n{}\";\nint own{n}() {{ return {n}; }}",
-            n + 1
-        )?;
-        game = add(rt, game, path.as_str(), text.as_str())?;
+        game = add_heir(rt, alloc, game, n)?;
     }
-    let path = format!(in alloc; "/n{last}.c")?;
-    add(
-        rt,
-        game,
-        path.as_str(),
-        "int own0(); int own9();\nint v() { return own0() * 100 + own9(); }",
-    )
+    add(rt, game, path, LAST_HEIR)
 }
 
 const NESTED: [Row; 4] = [
@@ -81,28 +89,32 @@ const TOO_NESTED: [Row; 4] = [
 // 64 loads for an `inherit` may lead to one another, and what lives already counts for none.
 #[test]
 fn inherits_64_deep(rt: HostRuntime) -> Result<(), Fail> {
-    let deep = heirs(&rt, rt.alloc(), 64)?;
+    let deep = heirs(&rt, rt.alloc(), 64, "/n64.c")?;
     play(&rt, rt.alloc(), deep, &NESTED, false)?;
-    let deeper = heirs(&rt, rt.alloc(), 65)?;
+    let deeper = heirs(&rt, rt.alloc(), 65, "/n65.c")?;
     play(&rt, rt.alloc(), deeper, &TOO_NESTED, false)?;
     Ok(())
 }
 
-/// The files with these numbers load the next one each in their `create`.
-fn loaders(rt: &impl Abort, alloc: Global, last: u64) -> Result<Game, Fail> {
+/// A file whose `create` loads the one with the next number.
+fn loader(alloc: Global, next: u64) -> Result<String, Fail> {
+    Ok(format!(in alloc; "void create() {{ load_object(\"/n{next}\"); }}")?)
+}
+
+/// It comes to a game.
+fn add_loader(rt: &impl Abort, alloc: Global, game: Game, n: u64) -> Result<Game, Fail> {
+    let path = path_of(alloc, n)?;
+    let text = loader(alloc, n.saturating_add(1))?;
+    add(rt, game, path.as_str(), text.as_str())
+}
+
+/// The files with numbers below the last load the next one each in their `create`.
+fn loaders(rt: &impl Abort, alloc: Global, last: u64, path: &str) -> Result<Game, Fail> {
     let mut game = game_of(rt, alloc, &[])?;
     for n in 1..last {
-        let path = format!(in alloc; "/n{n}.c")?;
-        let text = format!(in alloc; "void create() {{ load_object(\"/n{}\"); }}", n + 1)?;
-        game = add(rt, game, path.as_str(), text.as_str())?;
+        game = add_loader(rt, alloc, game, n)?;
     }
-    let path = format!(in alloc; "/n{last}.c")?;
-    add(
-        rt,
-        game,
-        path.as_str(),
-        "void create() { write(\"last\"); }",
-    )
+    add(rt, game, path, "void create() { write(\"last\"); }")
 }
 
 const LOADERS: [Row; 2] = [(Load("/n1"), "/n1 | last"), (Lives("/n100"), "yes")];
@@ -119,9 +131,9 @@ const TOO_MANY_LOADERS: [Row; 3] = [
 // A load is no call, but what begins in it is: functions are 100 deep, also where loads lie between.
 #[test]
 fn calls_are_100_deep_through_loads(rt: HostRuntime) -> Result<(), Fail> {
-    let deep = loaders(&rt, rt.alloc(), 100)?;
+    let deep = loaders(&rt, rt.alloc(), 100, "/n100.c")?;
     play(&rt, rt.alloc(), deep, &LOADERS, false)?;
-    let deeper = loaders(&rt, rt.alloc(), 101)?;
+    let deeper = loaders(&rt, rt.alloc(), 101, "/n101.c")?;
     play(&rt, rt.alloc(), deeper, &TOO_MANY_LOADERS, false)?;
     Ok(())
 }

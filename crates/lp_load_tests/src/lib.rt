@@ -10,13 +10,16 @@ mod budgets;
 mod cloning;
 #[cfg(test)]
 mod depths;
-pub mod device;
+#[cfg(test)]
+mod device;
 #[cfg(test)]
 mod ending;
-pub mod fault;
+#[cfg(test)]
+mod fault;
 #[cfg(test)]
 mod faulty;
-pub mod game;
+#[cfg(test)]
+mod game;
 #[cfg(test)]
 mod order;
 #[cfg(test)]
@@ -25,4 +28,5 @@ mod reloading;
 mod rows;
 #[cfg(test)]
 mod simuls;
-pub mod telling;
+#[cfg(test)]
+mod telling;
