@@ -174,17 +174,36 @@ pub fn play(
     Ok(game)
 }
 
-/// The rows hold in a game of these files.
-pub fn hold_once(rt: &impl Abort, alloc: Global, files: &[File], rows: &[Row]) -> Result<(), Fail> {
-    let game = game_of(rt, alloc, files)?;
-    play(rt, alloc, game, rows, false)?;
-    Ok(())
+/// They do, and the game is over.
+pub fn plays(
+    rt: &impl Abort,
+    alloc: Global,
+    game: Game,
+    rows: &[Row],
+    puts_out: bool,
+) -> Result<(), Fail> {
+    match play(rt, alloc, game, rows, puts_out) {
+        Ok(_) => Ok(()),
+        Err(e) => Err(e),
+    }
 }
 
-/// They hold also where all is put out after each step.
+/// They do in a game of these files.
+pub fn hold_as(
+    rt: &impl Abort,
+    alloc: Global,
+    files: &[File],
+    rows: &[Row],
+    puts_out: bool,
+) -> Result<(), Fail> {
+    match game_of(rt, alloc, files) {
+        Ok(game) => plays(rt, alloc, game, rows, puts_out),
+        Err(e) => Err(e),
+    }
+}
+
+/// They do, and also where all is put out after each step.
 pub fn hold(rt: &impl Abort, alloc: Global, files: &[File], rows: &[Row]) -> Result<(), Fail> {
-    hold_once(rt, alloc, files, rows)?;
-    let game = game_of(rt, alloc, files)?;
-    play(rt, alloc, game, rows, true)?;
-    Ok(())
+    hold_as(rt, alloc, files, rows, false)?;
+    hold_as(rt, alloc, files, rows, true)
 }
