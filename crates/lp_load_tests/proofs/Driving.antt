@@ -1,5 +1,5 @@
 -- The driver loads files and calls functions.
-use Rattle.std.proofs.Common.{Result, Ok, Err, IfOk, OnOk, ◌≡◌, ◌∙◌, ◌++◌, ◌+◌, ℕ, arith, List, [], Option, Some, None, refl, ap, sym, subst, map, length}
+use Rattle.std.proofs.Common.{Result, Ok, Err, IfOk, OnOk, ◌≡◌, ◌∙◌, ◌++◌, ◌+◌, ℕ, arith, List, [], Option, None, refl, ap, sym, subst, map}
 use Rattle.std.specs.Prelude.{reverse}
 use Rattle.lp_values.specs.declared.id.ObjId.{ObjId}
 use Rattle.lp_values.specs.declared.value.Value.{Value}
@@ -20,7 +20,7 @@ use Rattle.lp_targets.specs.Callees.{IsWorldOf}
 use Rattle.lp_vm.specs.Answering.{IsAsked, IsSameAsker}
 use Rattle.lp_vm.specs.Applying.{CallIsMeant, CanCall}
 use Rattle.lp_vm.specs.ObjectLoading.{CanLoadObject, IsLoadAsked, LoadIsMeant}
-use Rattle.lp_load_tests.specs.Playing.{HasWorld, IsDriver, IsPlayable, IsSet}
+use Rattle.lp_load_tests.specs.Playing.{IsDriver, IsPlayable}
 
 -- what is known of an answer that is one
 pub if_ok : {A E : Type 0} (r : Result A E) (M : A → Type 0) (P Q R : Type 0) → ((x : A) → M x → P → Q → R) → IfOk r M → OnOk r P → OnOk r Q → OnOk r R

@@ -1,5 +1,5 @@
 -- What the driver does between its calls.
-use Rattle.std.proofs.Common.{Result, Ok, Err, OnOk, ◌≡◌, ◌++◌, ℕ, List, [], Option, Some, None, refl, sym, append-nil}
+use Rattle.std.proofs.Common.{Result, Ok, Err, OnOk, ◌≡◌, ◌++◌, ℕ, List, [], Option, None, refl, sym, append-nil}
 use Rattle.lp_code.specs.declared.program.RawProgram.{RawProgram}
 use Rattle.lp_swapfile.specs.Device.{Bytes}
 use Rattle.lp_language.specs.World.{World}
@@ -8,9 +8,8 @@ use Rattle.lp_meaning.specs.EventTurns.{reload_turn}
 use Rattle.lp_world.specs.declared.live.Live.{Live}
 use Rattle.lp_world.specs.Closed.{IsClosed}
 use Rattle.lp_world.specs.Stands.{Stands}
-use Rattle.lp_targets.specs.Callees.{IsWorldOf}
 use Rattle.lp_turn.specs.Going.{IsWhole}
-use Rattle.lp_load_tests.specs.Playing.{HasWorld, IsSet}
+use Rattle.lp_load_tests.specs.Playing.{IsSet}
 
 -- what holds of a value holds still
 pub on_ok : {A E : Type 0} (r : Result A E) (P Q : Type 0) → (P → Q) → OnOk r P → OnOk r Q

@@ -1,6 +1,6 @@
 //! Budgets that end in the midst of a load.
 use crate::rows::Step::{Call, CallWith, Lives, Load, LoadWith};
-use crate::rows::{File, Row, game_of, hold, play};
+use crate::rows::{File, Row, hold, hold_as};
 use std::alloc::Global;
 use std::process::Abort;
 use std::test::Fail;
@@ -127,9 +127,7 @@ fn spends(rt: &impl Abort, alloc: Global, budget: &Budget) -> Result<(), Fail> {
         (Lives("/p"), budget.2),
         (Lives("/c"), budget.3),
     ];
-    let game = game_of(rt, alloc, &FILES)?;
-    play(rt, alloc, game, &rows, false)?;
-    Ok(())
+    hold_as(rt, alloc, &FILES, &rows, false)
 }
 
 #[test]

@@ -1,7 +1,7 @@
 //! Loads that lead to loads.
 use crate::game::Game;
 use crate::rows::Step::{Call, Lives, Load};
-use crate::rows::{File, Row, add, game_of, hold, play};
+use crate::rows::{File, Row, add, game_of, hold, plays};
 use std::alloc::Global;
 use std::process::Abort;
 use std::test::Fail;
@@ -90,9 +90,9 @@ const TOO_NESTED: [Row; 4] = [
 #[test]
 fn inherits_64_deep(rt: HostRuntime) -> Result<(), Fail> {
     let deep = heirs(&rt, rt.alloc(), 64, "/n64.c")?;
-    play(&rt, rt.alloc(), deep, &NESTED, false)?;
+    plays(&rt, rt.alloc(), deep, &NESTED, false)?;
     let deeper = heirs(&rt, rt.alloc(), 65, "/n65.c")?;
-    play(&rt, rt.alloc(), deeper, &TOO_NESTED, false)?;
+    plays(&rt, rt.alloc(), deeper, &TOO_NESTED, false)?;
     Ok(())
 }
 
@@ -132,8 +132,8 @@ const TOO_MANY_LOADERS: [Row; 3] = [
 #[test]
 fn calls_are_100_deep_through_loads(rt: HostRuntime) -> Result<(), Fail> {
     let deep = loaders(&rt, rt.alloc(), 100, "/n100.c")?;
-    play(&rt, rt.alloc(), deep, &LOADERS, false)?;
+    plays(&rt, rt.alloc(), deep, &LOADERS, false)?;
     let deeper = loaders(&rt, rt.alloc(), 101, "/n101.c")?;
-    play(&rt, rt.alloc(), deeper, &TOO_MANY_LOADERS, false)?;
+    plays(&rt, rt.alloc(), deeper, &TOO_MANY_LOADERS, false)?;
     Ok(())
 }

@@ -1,6 +1,6 @@
 //! Files that have new texts.
 use crate::rows::Step::{Call, Lives, Load, Out, Write};
-use crate::rows::{File, Row, hold, hold_once};
+use crate::rows::{File, Row, hold, hold_as};
 use std::test::Fail;
 
 const CLONES: [File; 2] = [
@@ -124,5 +124,5 @@ const OUT_ROWS: [Row; 9] = [
 
 #[test]
 fn out_and_back(rt: HostRuntime) -> Result<(), Fail> {
-    hold_once(&rt, rt.alloc(), &PARENTS, &OUT_ROWS)
+    hold_as(&rt, rt.alloc(), &PARENTS, &OUT_ROWS, false)
 }

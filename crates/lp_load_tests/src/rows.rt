@@ -76,18 +76,45 @@ fn put(alloc: Global, game: Game) -> Result<Told, GameFault> {
     })
 }
 
+/// An object is loaded with a budget.
+fn load_with(alloc: Global, game: Game, name: &str, budget: u64) -> Result<Told, GameFault> {
+    match load(game, name, budget) {
+        Ok(told) => with_left(alloc, told),
+        Err(e) => Err(e),
+    }
+}
+
+/// A function is called with a budget.
+fn call_with(
+    alloc: Global,
+    game: Game,
+    name: &str,
+    function: &str,
+    budget: u64,
+) -> Result<Told, GameFault> {
+    match call_by_name(game, name, function, budget) {
+        Ok(told) => with_left(alloc, told),
+        Err(e) => Err(e),
+    }
+}
+
+/// A game after a step that ends with nothing, if it is carried out.
+fn quietly(alloc: Global, game: Result<Game, GameFault>) -> Result<Told, GameFault> {
+    match game {
+        Ok(game) => quiet(alloc, game),
+        Err(e) => Err(e),
+    }
+}
+
 /// A step is done.
 fn done(alloc: Global, game: Game, step: Step) -> Result<Told, GameFault> {
     match step {
         Step::Load(name) => load(game, name, BUDGET),
-        Step::LoadWith(name, budget) => with_left(alloc, load(game, name, budget)?),
+        Step::LoadWith(name, budget) => load_with(alloc, game, name, budget),
         Step::Call(name, function) => call_by_name(game, name, function, BUDGET),
-        Step::CallWith(name, function, budget) => with_left(
-            alloc,
-            call_by_name(game, name, function, budget)?,
-        ),
-        Step::Write(path, text) => quiet(alloc, write(game, path, text)?),
-        Step::Simul(name) => quiet(alloc, name_simul(game, name)?),
+        Step::CallWith(name, function, budget) => call_with(alloc, game, name, function, budget),
+        Step::Write(path, text) => quietly(alloc, write(game, path, text)),
+        Step::Simul(name) => quietly(alloc, name_simul(game, name)),
         Step::Lives(name) => say_lives(alloc, game, name),
         Step::Out => put(alloc, game),
     }
@@ -147,17 +174,36 @@ pub fn play(
     Ok(game)
 }
 
-/// The rows hold in a game of these files.
-pub fn hold_once(rt: &impl Abort, alloc: Global, files: &[File], rows: &[Row]) -> Result<(), Fail> {
-    let game = game_of(rt, alloc, files)?;
-    play(rt, alloc, game, rows, false)?;
-    Ok(())
+/// They do, and the game is over.
+pub fn plays(
+    rt: &impl Abort,
+    alloc: Global,
+    game: Game,
+    rows: &[Row],
+    puts_out: bool,
+) -> Result<(), Fail> {
+    match play(rt, alloc, game, rows, puts_out) {
+        Ok(_) => Ok(()),
+        Err(e) => Err(e),
+    }
 }
 
-/// They hold also where all is put out after each step.
+/// They do in a game of these files.
+pub fn hold_as(
+    rt: &impl Abort,
+    alloc: Global,
+    files: &[File],
+    rows: &[Row],
+    puts_out: bool,
+) -> Result<(), Fail> {
+    match game_of(rt, alloc, files) {
+        Ok(game) => plays(rt, alloc, game, rows, puts_out),
+        Err(e) => Err(e),
+    }
+}
+
+/// They do, and also where all is put out after each step.
 pub fn hold(rt: &impl Abort, alloc: Global, files: &[File], rows: &[Row]) -> Result<(), Fail> {
-    hold_once(rt, alloc, files, rows)?;
-    let game = game_of(rt, alloc, files)?;
-    play(rt, alloc, game, rows, true)?;
-    Ok(())
+    hold_as(rt, alloc, files, rows, false)?;
+    hold_as(rt, alloc, files, rows, true)
 }
