@@ -1,5 +1,5 @@
 -- The driver loads files and calls functions.
-use Rattle.std.proofs.Common.{Result, Ok, Err, IfOk, OnOk, ◌≡◌, ◌∙◌, ◌++◌, ◌+◌, ℕ, arith, List, [], Option, None, refl, ap, sym, subst, map}
+use Rattle.std.proofs.Common.{Result, Ok, Err, IfOk, OnOk, ◌≡◌, ◌∙◌, ◌++◌, ℕ, arith, List, [], Option, None, refl, ap, sym, subst, map}
 use Rattle.std.specs.Prelude.{reverse}
 use Rattle.lp_values.specs.declared.id.ObjId.{ObjId}
 use Rattle.lp_values.specs.declared.value.Value.{Value}

@@ -1,5 +1,5 @@
 -- What the driver does between its calls.
-use Rattle.std.proofs.Common.{Result, Ok, Err, OnOk, ◌≡◌, ◌++◌, ℕ, List, [], Option, None, refl, sym, append-nil}
+use Rattle.std.proofs.Common.{Result, Ok, Err, OnOk, ℕ, List, [], Option, None, refl, sym, append-nil}
 use Rattle.lp_code.specs.declared.program.RawProgram.{RawProgram}
 use Rattle.lp_swapfile.specs.Device.{Bytes}
 use Rattle.lp_language.specs.World.{World}
