@@ -11,3 +11,4 @@ pub mod Commanded
 pub mod Connected
 pub mod Handed
 pub mod Enabled
+pub mod Behind

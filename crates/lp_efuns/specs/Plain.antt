@@ -34,6 +34,7 @@ is_look efuns.Interactive = true
 is_look efuns.Environment = true
 is_look efuns.AllInventory = true
 is_look efuns.FirstInventory = true
+is_look efuns.NextInventory = true
 is_look efuns.QueryShadowing = true
 is_look efuns.QueryVerb = true
 is_look efuns.Users = true

@@ -19,7 +19,7 @@ use crate::objects::{
     interactive, living, load_name, object_name, previous_object, program_name, this_interactive,
     this_object, this_player,
 };
-use crate::places::{all_inventory, environment, first_inventory, query_shadowing};
+use crate::places::{all_inventory, environment, first_inventory, next_inventory, query_shadowing};
 use crate::timing::find_call_out;
 use lp_instr::efun::Efun;
 use lp_ops::effect::Effect;
@@ -44,8 +44,11 @@ pub(crate) fn is_look(efun: Efun) -> bool
         | Efun::ProgramName
         | Efun::Living
         | Efun::Interactive => true,
-        Efun::Environment | Efun::AllInventory | Efun::FirstInventory | Efun::QueryShadowing =>
-            true,
+        Efun::Environment
+        | Efun::AllInventory
+        | Efun::FirstInventory
+        | Efun::NextInventory
+        | Efun::QueryShadowing => true,
         Efun::QueryVerb | Efun::Users | Efun::FindCallOut | Efun::Time | Efun::RaiseError => true,
         _ => false,
     }
@@ -104,6 +107,7 @@ pub(crate) fn look(
         Efun::Environment => environment(caller, args, live),
         Efun::AllInventory => all_inventory(caller, args, live),
         Efun::FirstInventory => first_inventory(caller, args, live),
+        Efun::NextInventory => next_inventory(caller, args, live),
         Efun::QueryShadowing => Ok(query_shadowing(args, live)),
         Efun::QueryVerb => query_verb(turn, live),
         Efun::Users => users(live),

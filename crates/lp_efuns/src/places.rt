@@ -3,7 +3,10 @@ ghost use Rattle.std.specs.Prelude.{◌≡◌, IfOk, List};
 ghost use Rattle.lp_values.specs.declared.value.Value.{Value as V};
 ghost use Rattle.lp_cells.specs.Cells.{Store};
 ghost use Rattle.lp_ops.specs.Effects.{IsEffectThere};
-ghost use Rattle.lp_meaning.specs.WorldEfuns.{first_of, object_values};
+ghost use Rattle.lp_language.specs.World.{World};
+ghost use Rattle.lp_meaning.specs.WorldEfuns.{first_of, next_beside, object_values};
+ghost use Rattle.lp_places.specs.Places.{next_in};
+ghost use Rattle.lp_places.specs.Stands.{Stands as Place};
 ghost use Rattle.lp_world.specs.Closed.{IsClosed};
 ghost use Rattle.lp_efuns.specs.Deeds.{Does, Looks};
 ghost use Rattle.lp_efuns.specs.Plain.{IsDidThere};
@@ -16,6 +19,7 @@ use crate::subjects::{object_at, object_effect, subject};
 use lp_instr::efun::Efun;
 use lp_ops::effect::{Effect, array};
 use lp_ops::int::int;
+use lp_places::places::Places;
 use lp_value_efuns::argument::bad;
 use lp_values::id::ObjId;
 use lp_values::value::Value;
@@ -81,6 +85,43 @@ pub(crate) fn first_inventory(
     match subject(args, 0, caller.this, &live.objects) {
         Some(o) => Ok(object_effect(first_of(live.places.inventory(o)), &live.objects)),
         None => bad(live.alloc, Efun::FirstInventory, 1),
+    }
+}
+
+/// The object behind another one among some.
+fn next_in(objects: &[ObjId], ob: ObjId) -> Option<ObjId>
+    ensures { result ≡ next_in ob objects.now }
+{
+    for i in 0..objects.len() {
+        if objects[i] == ob {
+            return first_of(&objects[i + 1..]);
+        }
+    }
+    None
+}
+
+/// The object behind another one in the inventory of its environment. Costs how many stand there before it.
+fn next_beside(places: &Places, ob: ObjId) -> Option<ObjId>
+    ensures { (w : World) → Place places.now w.places w.shadows → result ≡ next_beside w ob }
+{
+    match places.environment(ob) {
+        Some(e) => next_in(places.inventory(e), ob),
+        None => None,
+    }
+}
+
+/// `next_inventory`: what stands behind an object in the inventory of its environment.
+pub(crate) fn next_inventory(
+    caller: &Caller<'_>,
+    args: &[Value],
+    live: &Live,
+) -> Result<Effect, AllocError>
+    ensures looks { IfOk result (λ e. (turn : T) → Looks Efun.NextInventory caller.now args.now live.now turn e) }
+    ensures there { IfOk result (λ e. (cells : Store) → IsEffectThere cells e) }
+{
+    match subject(args, 0, caller.this, &live.objects) {
+        Some(o) => Ok(object_effect(next_beside(&live.places, o), &live.objects)),
+        None => bad(live.alloc, Efun::NextInventory, 1),
     }
 }
 

@@ -60,4 +60,8 @@ impl Truthful for TrueSwap {
         let _memory = &self.memory;
         true
     }
+
+    fn tells(&self) -> bool {
+        true
+    }
 }

@@ -1,5 +1,5 @@
 -- What a look-up of a function tells of the program in whose text it stands.
-use Rattle.std.proofs.Common.{◌≡◌, ◌∙◌, ◌<◌, ℕ, zero, suc, pos, Bool, true, false, List, [], Option, Some, None, refl, ap, sym, subst, unwrap_or, if◌then◌else◌}
+use Rattle.std.proofs.Common.{◌≡◌, ◌∙◌, ◌<◌, ℕ, zero, suc, pos, Bool, true, false, List, [], Option, Some, None, refl, ap, sym, subst, unwrap_or, is_some, if◌then◌else◌}
 use Rattle.std.specs.Prelude.{IsAscii}
 use Rattle.lp_values.specs.declared.id.ObjId.{ObjId}
 use Rattle.lp_values.specs.declared.id.ProgId.{ProgId}
@@ -69,3 +69,10 @@ nothing_found told programs live w o name h foreign = by (function_of w o name) 
 -- .. and stands in no program
 pub nothing_named : (told : Option Bytes) (programs : List RawProgram) (live : Live) (w : World) (o : ObjId) (name : List ℕ) → IsWorldOf told programs live w → (IsAscii name → ⊥) → function_program w o (function_of w o name) ≡ GivesValue (values.Int (pos 0))
 nothing_named told programs live w o name h foreign = ap (function_program w o) (nothing_found told programs live w o name h foreign)
+
+-- whether a function was found
+pub function_asked : (programs : List RawProgram) (w : World) (o : ObjId) (callee : Option Callee) (x : Option Found) (b : Bool) → b ≡ is_some callee → IsAnswer programs w o callee x → is_some x ≡ b
+function_asked programs w o None None b e h = sym e
+function_asked programs w o (Some c) (Some f) b e h = sym e
+function_asked programs w o None (Some f) b e h = absurd h
+function_asked programs w o (Some c) None b e h = absurd h

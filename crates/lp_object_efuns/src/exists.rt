@@ -36,7 +36,7 @@ fn no_object(alloc: Global) -> Result<Did, AllocError>
 }
 
 /// What the efun comes to.
-fn did<W: SwapFile>(
+pub(crate) fn did<W: SwapFile>(
     live: &mut Live,
     swap: &mut W,
     caller: &Caller<'_>,

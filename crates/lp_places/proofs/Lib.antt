@@ -1,3 +1,4 @@
 pub mod LinkLemmas
+pub mod NextLemmas
 pub mod PlaceLemmas
 pub mod TableLemmas

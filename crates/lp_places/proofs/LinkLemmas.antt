@@ -124,7 +124,7 @@ inventory-without (l ∷ ls) i o =
     ]
 
 -- an inventory stays where an object that is not in it leaves
-none_there : (os : List ObjId) (i : ObjId) → is_among i.0 os ≡ false → all_but i os ≡ os
+pub none_there : (os : List ObjId) (i : ObjId) → is_among i.0 os ≡ false → all_but i os ≡ os
 none_there [] i e = refl
 none_there (x ∷ xs) i e =
     let parts = or_parts _ _ e in

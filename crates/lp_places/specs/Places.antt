@@ -35,6 +35,10 @@ next_in o [] = None
 next_in o (p ∷ []) = None
 next_in o (p ∷ q ∷ ps) = if is_object p o then Some q else next_in o (q ∷ ps)
 
+-- the object behind another one in the inventory of its environment
+abbrev pub next_at : List Lying → ObjId → Option ObjId
+next_at places o = elim (environment places o) [ Some e ↦ next_in o (inventory places e) | None ↦ None ]
+
 -- the places after an object left its environment
 abbrev pub without_item : List Lying → ObjId → List Lying
 without_item places o = filter (λ p. not (is_object p.item o)) places

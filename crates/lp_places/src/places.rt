@@ -1,6 +1,6 @@
 //! Where objects are, and what shadows what.
 ghost use Rattle.std.specs.Prelude.{◌≡◌, IfErr, List, None, OnErr, OnOk, Some, [], true, ℕ};
-ghost use Rattle.lp_places.specs.Places.{Lying, Shadowing, environment, inventory, may_move, may_shadow, moved, places_without, shadowed, shadowing, shadows_of, shadows_without, unshadowed};
+ghost use Rattle.lp_places.specs.Places.{Lying, Shadowing, environment, inventory, may_move, may_shadow, moved, next_at, places_without, shadowed, shadowing, shadows_of, shadows_without, unshadowed};
 ghost use Rattle.lp_places.specs.Stands.{IsMoved, IsNotMoved, Stands, answered};
 
 use crate::fault::{PlaceFault, ShadowNo};
@@ -38,6 +38,14 @@ impl Places {
         ensures { (places : List Lying) → (shadows : List Shadowing) → Stands self.now places shadows → result.now ≡ inventory places ob }
     {
         self.lyings.sources(ob)
+    }
+
+    /// The object behind another one in the inventory of its environment. Takes no memory, and time as a
+    /// look-up.
+    pub fn next(&self, ob: ObjId) -> Option<ObjId>
+        ensures { (places : List Lying) → (shadows : List Shadowing) → Stands self.now places shadows → result ≡ next_at places ob }
+    {
+        self.lyings.next(ob)
     }
 
     /// The shadows of an object, the newest first. Takes no memory.

@@ -145,6 +145,7 @@ deed_settles efuns.Unshadow c s vs xs p = unshadow_settles s c.this
 deed_settles efuns.Environment c s vs xs p = of_object_settles s efuns.Environment 1 (object_or_this c s xs 0) _ (λ o. still s.world)
 deed_settles efuns.AllInventory c s vs xs p = of_object_settles s efuns.AllInventory 1 (object_or_this c s xs 0) _ (λ o. still s.world)
 deed_settles efuns.FirstInventory c s vs xs p = of_object_settles s efuns.FirstInventory 1 (object_or_this c s xs 0) _ (λ o. still s.world)
+deed_settles efuns.NextInventory c s vs xs p = of_object_settles s efuns.NextInventory 1 (object_or_this c s xs 0) _ (λ o. still s.world)
 deed_settles efuns.QueryVerb c s vs xs p = still s.world
 deed_settles efuns.NotifyFail c s vs xs p = still s.world
 deed_settles efuns.Users c s vs xs p = still s.world

@@ -50,4 +50,8 @@ impl Truthful for NoSwap {
     fn tells_truth(&self) -> bool {
         true
     }
+
+    fn tells(&self) -> bool {
+        false
+    }
 }

@@ -1,5 +1,5 @@
 //! Objects of the state, by their serials.
-ghost use Rattle.std.specs.Prelude.{◌≡◌, ◌∷◌, ◌++◌, [], IfOk, IsSome, List, OnErr, OnOk, Option, Some, length, slice_get, slice_set};
+ghost use Rattle.std.specs.Prelude.{◌≡◌, ◌∷◌, ◌++◌, [], IfOk, IsSome, List, None, OnErr, OnOk, Option, Some, length, slice_get, slice_set};
 ghost use Rattle.std.specs.Option.{option_copied};
 ghost use Rattle.lp_values.specs.declared.value.Value.{Value as V};
 ghost use Rattle.lp_world.specs.declared.objects.Object.{Object as O};
@@ -46,10 +46,27 @@ pub struct Object {
     pub state: ObjectState,
 }
 
+/// The place of an object. The object lies behind it, so that the place of one that ended costs a word.
+#[derive(Drop)]
+struct Row {
+    object: Option<Box<Object>>,
+}
+
+impl Model for Row {
+    ghost use Rattle.std.specs.Prelude.{Option};
+    ghost use Rattle.std.specs.Option.{option_map};
+    ghost use Rattle.lp_world.specs.declared.objects.Object.{Object};
+
+    ghost Value = { Option Object };
+
+    ghost view = { λ r. option_map (λ b. b.value) r.object };
+}
+
 /// The objects by their serials. One that died before this turn, or that died while it was out, is none.
 #[derive(Drop)]
 pub struct ObjectTable {
-    rows: Vec<Option<Object>>,
+    alloc: Global,
+    rows: Vec<Row>,
 }
 
 impl Model for ObjectTable {
@@ -62,10 +79,10 @@ impl Model for ObjectTable {
 }
 
 /// Whether a row is that of a live object.
-fn is_live_row(row: &Option<Object>) -> bool
+fn is_live_row(row: &Row) -> bool
     ensures { result ≡ is_live_row row.now }
 {
-    match row {
+    match &row.object {
         Some(o) => o.is_live,
         None => false,
     }
@@ -97,65 +114,65 @@ fn write_state(state: &mut ObjectState, i: usize, v: Value)
 }
 
 /// The same, in its row.
-fn write_row(row: &mut Option<Object>, i: usize, v: Value)
+fn write_row(row: &mut Row, i: usize, v: Value)
     requires { HasPlace (variables_in row.old) i }
     ensures { (o : O) (vs : List V) → row.old ≡ Some o → o.state ≡ ObjectState.Resident vs → row.new ≡ Some (with_value o vs i v) }
 {
-    match row {
+    match &mut row.object {
         Some(o) => write_state(&mut o.state, i, v),
         None => unreachable!(),
     }
 }
 
 /// Puts another state in a row that is there, and gives the one it had.
-fn replace_state_of(row: &mut Option<Object>, state: ObjectState) -> ObjectState
+fn replace_state_of(row: &mut Row, state: ObjectState) -> ObjectState
     requires { IsSome row.old }
     ensures before { state_in row.old ≡ Some result }
     ensures after { row.new ≡ row_with_state row.old state }
 {
-    match row {
+    match &mut row.object {
         Some(o) => mem::replace(&mut o.state, state),
         None => unreachable!(),
     }
 }
 
 /// Notes the moment of the latest entry, in a row that is there.
-fn age_row(row: &mut Option<Object>, latest: u64)
+fn age_row(row: &mut Row, latest: u64)
     ensures { row.new ≡ object_aged latest row.old }
 {
-    if let Some(o) = row {
+    if let Some(o) = &mut row.object {
         o.latest = latest;
     }
 }
 
 /// Notes whether the object of a row that is there is living.
-fn animate_row(row: &mut Option<Object>, is_living: bool)
+fn animate_row(row: &mut Row, is_living: bool)
     ensures { row.new ≡ object_animated is_living row.old }
 {
-    if let Some(o) = row {
+    if let Some(o) = &mut row.object {
         o.is_living = is_living;
     }
 }
 
 /// Whether an object is out.
-fn is_out(row: &Option<Object>) -> bool
+fn is_out(row: &Row) -> bool
     ensures { result ≡ is_out_row row.now }
 {
-    match row {
+    match &row.object {
         Some(o) => matches!(o.state, ObjectState::Swapped { .. }),
         None => false,
     }
 }
 
 /// The row of an object that dies.
-fn kill_row(row: &mut Option<Object>)
+fn kill_row(row: &mut Row)
     ensures { row.new ≡ row_after_death row.old }
 {
     if is_out(row) {
-        *row = None;
+        row.object = None;
         return;
     }
-    if let Some(o) = row {
+    if let Some(o) = &mut row.object {
         o.is_live = false;
         o.is_living = false;
     }
@@ -167,6 +184,7 @@ impl ObjectTable {
         ensures { result ≡ [] }
     {
         ObjectTable {
+            alloc,
             rows: Vec::new(alloc),
         }
     }
@@ -176,7 +194,7 @@ impl ObjectTable {
         requires { HasPlace (variables_at self.now id) i }
         ensures { (vs : List V) → variables_at self.now id ≡ Some vs → slice_get vs i ≡ Some result.now }
     {
-        match &self.rows[id.0 as usize] {
+        match &self.rows[id.0 as usize].object {
             Some(o) => match &o.state {
                 ObjectState::Resident(items) => &items.as_slice()[i],
                 ObjectState::Swapped { .. } => unreachable!(),
@@ -223,8 +241,8 @@ impl ObjectTable {
         if self.rows.len() <= id.0 as usize {
             return None;
         }
-        match &self.rows[id.0 as usize] {
-            Some(o) => Some(o),
+        match &self.rows[id.0 as usize].object {
+            Some(o) => Some(&**o),
             None => None,
         }
     }
@@ -234,7 +252,7 @@ impl ObjectTable {
         requires { IsSome (variables_at self.now id) }
         ensures { variables_at self.now id ≡ Some result.now }
     {
-        match &self.rows[id.0 as usize] {
+        match &self.rows[id.0 as usize].object {
             Some(o) => match &o.state {
                 ObjectState::Resident(items) => items.as_slice(),
                 ObjectState::Swapped { .. } => unreachable!(),
@@ -261,6 +279,15 @@ impl ObjectTable {
         kill_row(&mut self.rows[id.0 as usize]);
     }
 
+    /// Nothing stays of an object with this serial, where one was made. Its serial is not given out again. Takes no memory.
+    pub fn forget(&mut self, id: ObjId)
+        ensures { self.new ≡ slice_set self.old id.0 None }
+    {
+        if (id.0 as usize) < self.rows.len() {
+            self.rows[id.0 as usize] = Row { object: None };
+        }
+    }
+
     /// A live object in memory comes behind the others and has the next serial. It is not living. `latest` is a
     /// clock, in seconds. After want of memory all is as it was.
     pub fn add(
@@ -274,13 +301,15 @@ impl ObjectTable {
         ensures err { OnErr result (self.new ≡ self.old) }
     {
         let serial = self.rows.len() as u64;
-        self.rows.push(Some(Object {
+        let object = Object {
             program,
             is_live: true,
             is_living: false,
             latest,
             state: ObjectState::Resident(variables),
-        }))?;
+        };
+        let object = Some(Box::new(self.alloc, object)?);
+        self.rows.push(Row { object })?;
         Ok(ObjId(serial))
     }
 

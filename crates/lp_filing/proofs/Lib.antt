@@ -1,0 +1,9 @@
+pub mod Become
+pub mod Coming
+pub mod Elsewhere
+pub mod Keeping
+pub mod PathTests
+pub mod Putting
+pub mod Spelled
+pub mod Variables
+pub mod Worlds

@@ -1,0 +1,12 @@
+pub mod KeptCalls
+pub mod Prices
+pub mod Bodies
+pub mod Stays
+pub mod StayCalls
+pub mod StayEfuns
+pub mod StayLoads
+pub mod StayMoves
+pub mod StayCalling
+pub mod StayFiles
+pub mod Questions
+pub mod Numbers
