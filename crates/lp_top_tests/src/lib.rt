@@ -4,13 +4,21 @@
 #![tactic(auto)]
 
 #[cfg(test)]
+mod accounts;
+#[cfg(test)]
 mod checks;
+#[cfg(test)]
+mod commands;
 #[cfg(test)]
 mod device;
 #[cfg(test)]
 mod families;
 #[cfg(test)]
+mod games;
+#[cfg(test)]
 mod makes;
+#[cfg(test)]
+mod moves;
 #[cfg(test)]
 mod reports;
 #[cfg(test)]
@@ -21,5 +29,11 @@ mod runs;
 mod scripts;
 #[cfg(test)]
 mod simuls;
+#[cfg(test)]
+mod storing;
+#[cfg(test)]
+mod swapping;
+#[cfg(test)]
+mod ticks;
 #[cfg(test)]
 mod words;
