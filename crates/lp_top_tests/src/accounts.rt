@@ -1,56 +1,21 @@
 //! The last lines of a replay that is to report, in whole replays.
 use crate::games::{Game, are_replayed};
+use crate::swapping::SHARED;
 use std::test::Fail;
 
 /// How many objects and programs there are at the end.
 const ACCOUNTS: [Game; 2] = [
     // An array that two objects have.
     (
-        &[
-            (
-                "/a.c",
-                "int *v; void take(int *x) { v = x; } void show() { write(v[0] + \"\\n\"); }
-",
-            ),
-            (
-                "/b.c",
-                "int *v; void make() { v = ({1}); \"/a\"->take(v); } void put() { v[0] = 7; }
-",
-            ),
-            (
-                "/secure/master.c",
-                "object connect() { return this_object(); }
-int logon() { \"/b\"->make(); enable_commands(); add_action(\"go\", \"go\"); return 1; }
-int go(string s) { \"/b\"->put(); \"/a\"->show(); return 1; }
-",
-            ),
-        ],
+        SHARED,
         "connect 1\nswap /a\nline 1 2\ngo\nend\n",
-        "to 1 2\n7\n\nend\nreport 3 0 3 0\nend\n",
+        "to 1 2\n7\n\nend\nreport 3 0 3 0\n",
     ),
     // The same with a swap.
     (
-        &[
-            (
-                "/a.c",
-                "int *v; void take(int *x) { v = x; } void show() { write(v[0] + \"\\n\"); }
-",
-            ),
-            (
-                "/b.c",
-                "int *v; void make() { v = ({1}); \"/a\"->take(v); } void put() { v[0] = 7; }
-",
-            ),
-            (
-                "/secure/master.c",
-                "object connect() { return this_object(); }
-int logon() { \"/b\"->make(); enable_commands(); add_action(\"go\", \"go\"); return 1; }
-int go(string s) { \"/b\"->put(); \"/a\"->show(); return 1; }
-",
-            ),
-        ],
+        SHARED,
         "connect 1\nswap /a\nline 1 2\ngo\nswap /a\nend\n",
-        "to 1 2\n7\n\nend\nreport 3 1 3 1\nend\n",
+        "to 1 2\n7\n\nend\nreport 3 1 3 1\n",
     ),
 ];
 
@@ -70,7 +35,7 @@ int logon() { write(\"Hello\\n\"); return 1; }
 ",
         )],
         "connect 1\nline 1 1\nx\nend\n",
-        "to 1 6\nHello\n\nto 1 6\nWhat?\n\nend\nreport 1 0 1 0\nend\n",
+        "to 1 6\nHello\n\nto 1 6\nWhat?\n\nend\nreport 1 0 1 0\n",
     ),
 ];
 

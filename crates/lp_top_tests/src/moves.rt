@@ -2,6 +2,28 @@
 use crate::games::{Game, are_replayed};
 use std::test::Fail;
 
+/// A living thing that tells of its calls of `init`.
+const THING: &str = "void create() { enable_commands(); }
+void init() { \"/rec\"->add(object_name() + \":\" + object_name(this_player()) + \" \"); }
+";
+
+/// What was told.
+const RECORD: &str = "string all;
+void create() { all = \"\"; }
+void add(string s) { all += s; }
+string told() { return all; }
+";
+
+/// A place that tells of its calls of `init`.
+const ROOM: &str =
+    "void init() { \"/rec\"->add(object_name() + \":\" + object_name(this_player()) + \" \"); }
+";
+
+/// A thing with an action.
+const LAMP: &str = "void init() { add_action(\"rub\", \"rub\"); }
+int rub(string s) { write(\"It glows.\\n\"); return 1; }
+";
+
 /// In which order `init` is called, and for whom.
 const INITS: [Game; 5] = [
     // The room's for the player, and then for a thing that comes; a thing that is not living is nobody's player.
@@ -45,19 +67,8 @@ int logon() { enable_commands(); move_object(this_object(), \"/room\"); move_obj
                 "inherit \"/thing\";
 ",
             ),
-            (
-                "/rec.c",
-                "string all;
-void create() { all = \"\"; }
-void add(string s) { all += s; }
-string told() { return all; }
-",
-            ),
-            (
-                "/room.c",
-                "void init() { \"/rec\"->add(object_name() + \":\" + object_name(this_player()) + \" \"); }
-",
-            ),
+            ("/rec.c", RECORD),
+            ("/room.c", ROOM),
             (
                 "/secure/master.c",
                 "object connect() { return this_object(); }
@@ -67,12 +78,7 @@ int logon() {
 }
 ",
             ),
-            (
-                "/thing.c",
-                "void create() { enable_commands(); }
-void init() { \"/rec\"->add(object_name() + \":\" + object_name(this_player()) + \" \"); }
-",
-            ),
+            ("/thing.c", THING),
         ],
         "connect 1\nend\n",
         "to 1 64\n/room:/a /room:/b /b:/a /a:/b /room:/c /c:/b /b:/c /c:/a /a:/c \n\nend\n",
@@ -90,26 +96,14 @@ void init() { \"/rec\"->add(object_name() + \":\" + object_name(this_player()) +
                 "inherit \"/thing\";
 ",
             ),
-            (
-                "/rec.c",
-                "string all;
-void create() { all = \"\"; }
-void add(string s) { all += s; }
-string told() { return all; }
-",
-            ),
+            ("/rec.c", RECORD),
             (
                 "/secure/master.c",
                 "object connect() { return this_object(); }
 int logon() { move_object(load_object(\"/a\"), load_object(\"/box\")); tell_object(this_object(), \"/rec\"->told() + \"\\n\"); return 1; }
 ",
             ),
-            (
-                "/thing.c",
-                "void create() { enable_commands(); }
-void init() { \"/rec\"->add(object_name() + \":\" + object_name(this_player()) + \" \"); }
-",
-            ),
+            ("/thing.c", THING),
         ],
         "connect 1\nend\n",
         "to 1 17\n/box:/a /a:/box \n\nend\n",
@@ -127,19 +121,8 @@ void init() { \"/rec\"->add(object_name() + \":\" + object_name(this_player()) +
                 "inherit \"/thing\";
 ",
             ),
-            (
-                "/hall.c",
-                "void init() { \"/rec\"->add(object_name() + \":\" + object_name(this_player()) + \" \"); }
-",
-            ),
-            (
-                "/rec.c",
-                "string all;
-void create() { all = \"\"; }
-void add(string s) { all += s; }
-string told() { return all; }
-",
-            ),
+            ("/hall.c", ROOM),
+            ("/rec.c", RECORD),
             (
                 "/room.c",
                 "void init() {
@@ -154,12 +137,7 @@ string told() { return all; }
 int logon() { move_object(load_object(\"/a\"), \"/room\"); move_object(load_object(\"/b\"), \"/room\"); tell_object(this_object(), \"/rec\"->told() + object_name(environment(load_object(\"/b\"))) + \"\\n\"); return 1; }
 ",
             ),
-            (
-                "/thing.c",
-                "void create() { enable_commands(); }
-void init() { \"/rec\"->add(object_name() + \":\" + object_name(this_player()) + \" \"); }
-",
-            ),
+            ("/thing.c", THING),
         ],
         "connect 1\nend\n",
         "to 1 33\n/room:/a /room:/b /hall:/b /hall\n\nend\n",
@@ -355,12 +333,7 @@ int logon() { enable_commands(); move_object(this_object(), \"/room\"); return 1
     (
         &[
             ("/hall.c", ""),
-            (
-                "/lamp.c",
-                "void init() { add_action(\"rub\", \"rub\"); }
-int rub(string s) { write(\"It glows.\\n\"); return 1; }
-",
-            ),
+            ("/lamp.c", LAMP),
             ("/room.c", ""),
             (
                 "/secure/master.c",
@@ -380,12 +353,7 @@ int go(string s) { move_object(this_object(), \"/hall\"); return 1; }
     // An action whose giver ended is passed over.
     (
         &[
-            (
-                "/lamp.c",
-                "void init() { add_action(\"rub\", \"rub\"); }
-int rub(string s) { write(\"It glows.\\n\"); return 1; }
-",
-            ),
+            ("/lamp.c", LAMP),
             (
                 "/secure/master.c",
                 "object connect() { return this_object(); }

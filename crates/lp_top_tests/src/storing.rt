@@ -2,6 +2,13 @@
 use crate::games::{Game, are_replayed};
 use std::test::Fail;
 
+/// A master that restores an array.
+const RESTORES: &str = "mixed *v;
+int valid_read() { return 1; } int valid_write() { return 1; }
+object connect() { return this_object(); }
+int logon() { write(restore_object(\"/data/m\") + \",\" + v[1]); return 1; }
+";
+
 /// The efuns on files, with the master's leave.
 const FILES: [Game; 4] = [
     // A text that the master answers is the path to use.
@@ -151,14 +158,7 @@ int logon() { write(catch(restore_object(\"/data/m\"))); return 1; }
 v ({1,2,})
 ",
             ),
-            (
-                "/secure/master.c",
-                "mixed *v;
-int valid_read() { return 1; } int valid_write() { return 1; }
-object connect() { return this_object(); }
-int logon() { write(restore_object(\"/data/m\") + \",\" + v[1]); return 1; }
-",
-            ),
+            ("/secure/master.c", RESTORES),
         ],
         "connect 1\nend\n",
         "to 1 3\n1,2\nend\n",
@@ -172,14 +172,7 @@ int logon() { write(restore_object(\"/data/m\") + \",\" + v[1]); return 1; }
 v ({1,2,})
 ",
             ),
-            (
-                "/secure/master.c",
-                "mixed *v;
-int valid_read() { return 1; } int valid_write() { return 1; }
-object connect() { return this_object(); }
-int logon() { write(restore_object(\"/data/m\") + \",\" + v[1]); return 1; }
-",
-            ),
+            ("/secure/master.c", RESTORES),
         ],
         "connect 1\nend\n",
         "to 1 3\n1,2\nend\n",
@@ -192,14 +185,7 @@ int logon() { write(restore_object(\"/data/m\") + \",\" + v[1]); return 1; }
                 "v ({1,2,})
 ",
             ),
-            (
-                "/secure/master.c",
-                "mixed *v;
-int valid_read() { return 1; } int valid_write() { return 1; }
-object connect() { return this_object(); }
-int logon() { write(restore_object(\"/data/m\") + \",\" + v[1]); return 1; }
-",
-            ),
+            ("/secure/master.c", RESTORES),
         ],
         "connect 1\nend\n",
         "to 1 3\n1,2\nend\n",
@@ -213,14 +199,7 @@ int logon() { write(restore_object(\"/data/m\") + \",\" + v[1]); return 1; }
 v ({1,2,})
 ",
             ),
-            (
-                "/secure/master.c",
-                "mixed *v;
-int valid_read() { return 1; } int valid_write() { return 1; }
-object connect() { return this_object(); }
-int logon() { write(restore_object(\"/data/m\") + \",\" + v[1]); return 1; }
-",
-            ),
+            ("/secure/master.c", RESTORES),
         ],
         "connect 1\nend\n",
         "to 1 3\n1,2\nend\n",

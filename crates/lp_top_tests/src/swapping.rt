@@ -1,92 +1,69 @@
 //! Objects and programs that go out to the swap file, in whole replays: nobody in the game can tell.
 use crate::games::{Game, are_replayed};
+use crate::reports::Files;
+use crate::ticks::SMALL_GAME;
 use std::test::Fail;
+
+/// An array that two objects have.
+pub(crate) const SHARED: Files = &[
+    (
+        "/a.c",
+        "int *v; void take(int *x) { v = x; } void show() { write(v[0] + \"\\n\"); }
+",
+    ),
+    (
+        "/b.c",
+        "int *v; void make() { v = ({1}); \"/a\"->take(v); } void put() { v[0] = 7; }
+",
+    ),
+    (
+        "/secure/master.c",
+        "object connect() { return this_object(); }
+int logon() { \"/b\"->make(); enable_commands(); add_action(\"go\", \"go\"); return 1; }
+int go(string s) { \"/b\"->put(); \"/a\"->show(); return 1; }
+",
+    ),
+];
+
+/// An array in itself.
+const IN_ITSELF: Files = &[
+    (
+        "/a.c",
+        "mixed *v; void make() { v = ({0}); v[0] = v; } void show() { write(sizeof(v[0][0])); }
+",
+    ),
+    (
+        "/secure/master.c",
+        "object connect() { return this_object(); }
+int logon() { \"/a\"->make(); enable_commands(); add_action(\"go\", \"go\"); return 1; }
+int go(string s) { \"/a\"->show(); return 1; }
+",
+    ),
+];
 
 /// What a `swap` item names goes out.
 const NAMED: [Game; 5] = [
     // An array that two objects have, one of them out.
     (
-        &[
-            (
-                "/a.c",
-                "int *v; void take(int *x) { v = x; } void show() { write(v[0] + \"\\n\"); }
-",
-            ),
-            (
-                "/b.c",
-                "int *v; void make() { v = ({1}); \"/a\"->take(v); } void put() { v[0] = 7; }
-",
-            ),
-            (
-                "/secure/master.c",
-                "object connect() { return this_object(); }
-int logon() { \"/b\"->make(); enable_commands(); add_action(\"go\", \"go\"); return 1; }
-int go(string s) { \"/b\"->put(); \"/a\"->show(); return 1; }
-",
-            ),
-        ],
+        SHARED,
         "connect 1\nswap /a\nline 1 2\ngo\nend\n",
         "to 1 2\n7\n\nend\n",
     ),
     // The same without the swap.
     (
-        &[
-            (
-                "/a.c",
-                "int *v; void take(int *x) { v = x; } void show() { write(v[0] + \"\\n\"); }
-",
-            ),
-            (
-                "/b.c",
-                "int *v; void make() { v = ({1}); \"/a\"->take(v); } void put() { v[0] = 7; }
-",
-            ),
-            (
-                "/secure/master.c",
-                "object connect() { return this_object(); }
-int logon() { \"/b\"->make(); enable_commands(); add_action(\"go\", \"go\"); return 1; }
-int go(string s) { \"/b\"->put(); \"/a\"->show(); return 1; }
-",
-            ),
-        ],
+        SHARED,
         "connect 1\nline 1 2\ngo\nend\n",
         "to 1 2\n7\n\nend\n",
     ),
     // An array in itself.
     (
-        &[
-            (
-                "/a.c",
-                "mixed *v; void make() { v = ({0}); v[0] = v; } void show() { write(sizeof(v[0][0])); }
-",
-            ),
-            (
-                "/secure/master.c",
-                "object connect() { return this_object(); }
-int logon() { \"/a\"->make(); enable_commands(); add_action(\"go\", \"go\"); return 1; }
-int go(string s) { \"/a\"->show(); return 1; }
-",
-            ),
-        ],
+        IN_ITSELF,
         "connect 1\nswap /a\nline 1 2\ngo\nend\n",
         "to 1 1\n1\nend\n",
     ),
     // The same without the swap.
     (
-        &[
-            (
-                "/a.c",
-                "mixed *v; void make() { v = ({0}); v[0] = v; } void show() { write(sizeof(v[0][0])); }
-",
-            ),
-            (
-                "/secure/master.c",
-                "object connect() { return this_object(); }
-int logon() { \"/a\"->make(); enable_commands(); add_action(\"go\", \"go\"); return 1; }
-int go(string s) { \"/a\"->show(); return 1; }
-",
-            ),
-        ],
+        IN_ITSELF,
         "connect 1\nline 1 2\ngo\nend\n",
         "to 1 1\n1\nend\n",
     ),
@@ -121,85 +98,19 @@ fn what_a_swap_names(rt: HostRuntime) -> Result<(), Fail> {
 const IDLE: [Game; 3] = [
     // An array that two objects have.
     (
-        &[
-            (
-                "/a.c",
-                "int *v; void take(int *x) { v = x; } void show() { write(v[0] + \"\\n\"); }
-",
-            ),
-            (
-                "/b.c",
-                "int *v; void make() { v = ({1}); \"/a\"->take(v); } void put() { v[0] = 7; }
-",
-            ),
-            (
-                "/secure/master.c",
-                "object connect() { return this_object(); }
-int logon() { \"/b\"->make(); enable_commands(); add_action(\"go\", \"go\"); return 1; }
-int go(string s) { \"/b\"->put(); \"/a\"->show(); return 1; }
-",
-            ),
-        ],
+        SHARED,
         "connect 1\nswap /a\nline 1 2\ngo\nswap /a\nline 1 2\ngo\nend\n",
         "to 1 2\n7\n\nto 1 2\n7\n\nend\n",
     ),
     // A small game.
     (
-        &[
-            (
-                "/mob.c",
-                "void create() { set_heart_beat(1); }
-void heart_beat() {
-  if (environment()) tell_room(environment(), object_name() + \" growls.\\n\");
-}
-",
-            ),
-            (
-                "/player.c",
-                "string name;
-int logon() { write(\"Name: \"); input_to(\"named\"); return 1; }
-void named(string s) {
-  name = s; enable_commands();
-  move_object(this_object(), \"/room\");
-  write(\"Welcome, \" + name + \".\\n\");
-}
-",
-            ),
-            (
-                "/room.c",
-                "void create() {
-  move_object(clone_object(\"/mob\"), this_object());
-  move_object(clone_object(\"/mob\"), this_object());
-}
-void init() { add_action(\"look\", \"look\"); }
-int look(string s) { write(\"A room.\\n\"); return 1; }
-",
-            ),
-            (
-                "/secure/master.c",
-                "object connect() { return clone_object(\"/player\"); }
-",
-            ),
-        ],
+        SMALL_GAME,
         "connect 1\nline 1 2\nBo\nline 1 4\nlook\ntick 2\nline 1 5\ndance\ngone 1\nend\n",
         "to 1 6\nName: \nto 1 13\nWelcome, Bo.\n\nto 1 8\nA room.\n\nto 1 30\n/mob#2 growls.\n/mob#3 growls.\n\nto 1 6\nWhat?\n\nend\n",
     ),
     // An array in itself.
     (
-        &[
-            (
-                "/a.c",
-                "mixed *v; void make() { v = ({0}); v[0] = v; } void show() { write(sizeof(v[0][0])); }
-",
-            ),
-            (
-                "/secure/master.c",
-                "object connect() { return this_object(); }
-int logon() { \"/a\"->make(); enable_commands(); add_action(\"go\", \"go\"); return 1; }
-int go(string s) { \"/a\"->show(); return 1; }
-",
-            ),
-        ],
+        IN_ITSELF,
         "connect 1\nswap /a\nline 1 2\ngo\nend\n",
         "to 1 1\n1\nend\n",
     ),
