@@ -18,6 +18,8 @@ mod games;
 #[cfg(test)]
 mod makes;
 #[cfg(test)]
+mod moments;
+#[cfg(test)]
 mod moves;
 #[cfg(test)]
 mod reports;
@@ -33,7 +35,5 @@ mod simuls;
 mod storing;
 #[cfg(test)]
 mod swapping;
-#[cfg(test)]
-mod ticks;
 #[cfg(test)]
 mod words;

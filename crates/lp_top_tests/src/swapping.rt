@@ -1,7 +1,7 @@
 //! Objects and programs that go out to the swap file, in whole replays: nobody in the game can tell.
 use crate::games::{Game, are_replayed};
+use crate::moments::SMALL_GAME;
 use crate::reports::Files;
-use crate::ticks::SMALL_GAME;
 use std::test::Fail;
 
 /// An array that two objects have.
