@@ -4,23 +4,13 @@
 #![tactic(auto)]
 
 #[cfg(test)]
-mod accounts;
-#[cfg(test)]
 mod checks;
-#[cfg(test)]
-mod commands;
 #[cfg(test)]
 mod device;
 #[cfg(test)]
 mod families;
 #[cfg(test)]
-mod games;
-#[cfg(test)]
 mod makes;
-#[cfg(test)]
-mod moments;
-#[cfg(test)]
-mod moves;
 #[cfg(test)]
 mod reports;
 #[cfg(test)]
@@ -32,8 +22,20 @@ mod scripts;
 #[cfg(test)]
 mod simuls;
 #[cfg(test)]
+mod words;
+
+// Games: small mudlibs with their events and whole transcripts.
+#[cfg(test)]
+mod accounts;
+#[cfg(test)]
+mod commands;
+#[cfg(test)]
+mod games;
+#[cfg(test)]
+mod moments;
+#[cfg(test)]
+mod moves;
+#[cfg(test)]
 mod storing;
 #[cfg(test)]
 mod swapping;
-#[cfg(test)]
-mod words;
