@@ -34,8 +34,4 @@ mod games;
 #[cfg(test)]
 mod moments;
 #[cfg(test)]
-mod moves;
-#[cfg(test)]
-mod storing;
-#[cfg(test)]
 mod swapping;

@@ -24,8 +24,6 @@ mod modifiers;
 mod names;
 #[cfg(test)]
 mod outside;
-#[cfg(test)]
-mod placing;
 pub mod playing;
 pub mod present;
 #[cfg(test)]
