@@ -1,5 +1,5 @@
 -- Commands: from one question of their jobs to the next, and to their end.
-use Rattle.std.proofs.Common.{◌≡◌, ◌∙◌, ◌+◌, ◌++◌, ◌∷◌, [], ◌≤◌, ℕ, List, Option, Some, None, refl, ap, sym, subst, length, map, append-nil, append_assoc, arith}
+use Rattle.std.proofs.Common.{◌≡◌, ◌∙◌, ◌+◌, ◌++◌, ◌∷◌, [], ◌≤◌, ℕ, List, Option, Some, None, refl, ap, sym, subst, length, map, drop, append-nil, append_assoc, arith}
 use Rattle.std.specs.Prelude.{IfSome, reverse}
 use Rattle.std.specs.Option.{option_to_list}
 use Rattle.std.proofs.Math.Nat.{le_refl, le_trans}
@@ -56,6 +56,10 @@ use Rattle.lp_vm.proofs.Turning.{world_reached}
 
 -- Who asks
 
+-- only the turn changed
+pub turn_only : (a b : Asker) → b ≡ record a { turn = b.turn } → IsSameAsker a b
+turn_only a b e = record { interactive = ap (λ (x : Asker). x.interactive) e; loads = ap (λ (x : Asker). x.loads.items) e; callers = ap (λ (x : Asker). x.callers.items) e; depth = ap (λ (x : Asker). x.depth) e }
+
 -- on the same behalf later, in a state for which the live state stands then
 pub behalf_later : (caller : Option ObjId) (told0 told1 : Option Bytes) (old new : List RawProgram) (before : List Out) (live0 live1 : Live) (asker0 asker1 : Asker) (budget0 budget1 : ℕ) (by : meaning.Asker) (s t : State)
     → IsOnBehalf caller told0 old before live0 asker0 budget0 by s → Fits (setting told1 new before) live1 asker1.turn budget1 t → IsSameAsker asker0 asker1 → IsOnBehalf caller told1 new before live1 asker1 budget1 by t
@@ -101,11 +105,11 @@ turned_as (Some d) (endings.Value v) (Gives u t) told programs before live asker
 turned_as (Some d) (endings.Value v) (Stops x t) told programs before live asker0 asker1 budget job0 job1 by fits is h = absurd is
 turned_as (Some d) (endings.Stopped s) (Gives u t) told programs before live asker0 asker1 budget job0 job1 by fits is h = absurd is
 turned_as (Some d) (endings.Stopped s) (Stops x t) told programs before live asker0 asker1 budget job0 job1 by fits is h =
-    let t1 : State = record t { commands = _ } in (
-      _,
+    let t1 : State = record t { commands = drop 1 t.commands } in (
+      Stops x t1,
       refl,
       record { at = h.1 (setting told programs before) live budget t fits.at; world = fits.world },
-      subst (λ (y : Ending). IsValueEnd programs y (Stops x _)) (sym h.0) is,
+      subst (λ (y : Ending). IsValueEnd programs y (Stops x t1)) (sym h.0) is,
     )
 
 -- A COMMAND ASKS
