@@ -58,7 +58,12 @@ const LIVING: [File; 2] = [
 // command, of which none is left at its end, however that came; and `this_player()` is the object that carries out the line, and
 // afterwards who it was.
 const COMMAND_ROWS: [Row; 10] = [
-    (0, "plays", &[Str("look north")], "'1 \"no;look \\\"north\\\";\" 0'"),
+    (
+        0,
+        "plays",
+        &[Str("look north")],
+        "'1 \"no;look \\\"north\\\";\" 0'",
+    ),
     (0, "plays", &[Str("look")], "'1 \"no;look 0;\" 0'"),
     (0, "plays", &[Str("dance")], "'0 \"What?\\n\" 0'"),
     (0, "plays", &[Str("")], "'0 0 0'"),
@@ -98,7 +103,12 @@ const FUNCTION_ROWS: [Row; 7] = [
     (0, "never", &[], "*No such function\\n in never of /a.c, /a"),
     (0, "asks", &[], "0"),
     (0, "adds", &[], "1"),
-    (0, "adds_none", &[], "*No such function\\n in adds_none of /a.c, /a"),
+    (
+        0,
+        "adds_none",
+        &[],
+        "*No such function\\n in adds_none of /a.c, /a",
+    ),
     (0, "where", &[], "'/a'"),
     (0, "nowhere", &[], "0"),
 ];
