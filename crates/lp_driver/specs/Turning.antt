@@ -1,8 +1,7 @@
 -- Turns go on, call by call, to their ends.
-use Rattle.std.specs.Prelude.{◌≡◌, ⊤, ℕ, List, Option, IfErr, Result, Bool}
+use Rattle.std.specs.Prelude.{⊤, List, Option}
 use Rattle.lp_code.specs.declared.program.RawProgram.{RawProgram}
 use Rattle.lp_events.specs.declared.out.Out.{Out}
-use Rattle.lp_swapfile.specs.Counts.{Counts}
 use Rattle.lp_swapfile.specs.Device.{Bytes}
 use Rattle.lp_language.specs.Course.{Asks, Course, End, Gives, State}
 use Rattle.lp_meaning.specs.Closing.{Ends}
@@ -10,8 +9,6 @@ use Rattle.lp_meaning.specs.FrontEnd.{FrontEnd}
 use Rattle.lp_front_end.specs.FrontEnds.{IsFrontEnd}
 use Rattle.lp_world.specs.declared.live.Live.{Live}
 use Rattle.lp_world.specs.declared.objects.Object.{Object}
-use Rattle.lp_residence.specs.declared.answers.EnterFault.{EnterFault}
-use Rattle.lp_residence.specs.declared.answers.EnterFault.TheVariants.{NoMemory}
 use Rattle.lp_turn.specs.Calls.{IsAskedThere, question_of, state_behind}
 use Rattle.lp_turn.specs.Resting.{Rests}
 use Rattle.lp_turn.specs.Turns.{going_course, waiting_course}
@@ -53,12 +50,3 @@ TurnEnds turn told0 live0 told1 live1 =
 abbrev pub IsStepAskedThere : List (Option Object) → Step → Type 0
 IsStepAskedThere objects (steps.Asks call waiting) = IsAskedThere objects call.asked
 IsStepAskedThere objects steps.Ends = ⊤
-
--- What the device did where something was to be put out: nothing was read, and at most one write failed.
-pub record PutsOut (reads0 reads1 writes0 writes1 : ℕ) (true0 true1 honest0 honest1 : Type 0) (answer : Result (Unit {0}) EnterFault) : Type 0 where
-  pub cause : IfErr answer (λ e. e ≡ NoMemory)
-  pub read_faults : reads1 ≡ reads0
-  pub failed : Bool
-  pub faults : Counts failed writes0 writes1
-  pub truthful : true1 → true0
-  pub honest : honest1 → honest0

@@ -10,6 +10,6 @@ mod commanding;
 pub mod driver;
 mod events;
 mod knowing;
-pub mod putting;
 pub mod starting;
+mod tidying;
 mod turning;
