@@ -46,8 +46,8 @@ fn text_of(path: &Option<FilePath>) -> Option<&str>
 /// gives these items, by each front end that there is.
 ///
 /// `--swap-time N` tells after how many seconds without an entry an object or a program is idle, a number
-/// up to 1000000000, by default 900. What is idle goes out at a tick; none is carried out yet, so it
-/// changes nothing.
+/// up to 1000000000, by default 900; 0 means never. What is idle goes out after a tick, where the swap
+/// file tells what it holds, and comes in again where it is wanted: the transcript is the same.
 ///
 /// A check loads each file that ends in `.c`, by path and its parents first. It writes a line
 /// `FILE line N: TEXT` for each fault, by the paths of the files and each file's faults once, and then
@@ -71,8 +71,8 @@ fn text_of(path: &Option<FilePath>) -> Option<&str>
 /// - `BadWords`: exactly where the words name no command, unless there is no memory to see it; nothing
 ///   was read or written.
 /// - `BadScript`: at this offset stands no item that fits there; or one that a replay does not carry
-///   out yet: a tick, or a `start` or an event in whose turn something is asked that is not carried
-///   out yet. A replay has written the blocks of the turns before, a check nothing.
+///   out yet: a `start` or an event in whose turn something is asked that is not carried out yet. A
+///   replay has written the blocks of the turns before, a check nothing.
 /// - `NoMaster`: no master is made of the files, for these faults; nothing was written. A check never
 ///   answers it.
 /// - `TooLarge`: the input goes on past 67108864 bytes, and where its items end within them nothing
@@ -134,7 +134,7 @@ pub fn run<S: Source, K: Sink, W: Truthful>(
     one_end_of_the_start();
     law_there_is_one();
     match command_of(alloc, words) {
-        Ok(Command::Replay { swap_time: _ }) => replay(alloc, input, out, swap),
+        Ok(Command::Replay { swap_time }) => replay(alloc, swap_time as u64, input, out, swap),
         Ok(Command::Check { simul }) => check(alloc, text_of(&simul), input, out),
         Ok(Command::Make { count, seed }) => make(alloc, count, seed, out),
         Err(WordsFault::BadWords) => Status::BadWords,

@@ -42,6 +42,7 @@ fn carry_out<K: Sink, W: Truthful>(
     at: u64,
     out: &mut K,
     swap: &mut W,
+    swap_time: u64,
 ) -> Result<(), Status>
     requires closed { IsClosed live.old }
     requires rest { (w : World) × IsAtRest (W.content swap.old) live.old w }
@@ -53,7 +54,7 @@ fn carry_out<K: Sink, W: Truthful>(
     ensures swap { SwapTells (end_in result) (W.content swap.new) (W.last swap.new) (W.read_faults swap.old) (W.read_faults swap.new)
         (W.is_truthful swap.old) (W.is_truthful swap.new) (W.is_honest swap.old) (W.is_honest swap.new) }
 {
-    let outs = match turn(live, swap, event) {
+    let outs = match turn(live, swap, swap_time, event) {
         Ok(outs) => outs,
         Err(fault) => return Err(stopped(fault, at)),
     };
@@ -70,6 +71,7 @@ fn carry<K: Sink, W: Truthful>(
     at: u64,
     out: &mut K,
     swap: &mut W,
+    swap_time: u64,
 ) -> Result<(), Status>
     requires closed { IsClosed live.old }
     requires rest { (w : World) × IsAtRest (W.content swap.old) live.old w }
@@ -81,7 +83,7 @@ fn carry<K: Sink, W: Truthful>(
     ensures swap { SwapTells (end_in result) (W.content swap.new) (W.last swap.new) (W.read_faults swap.old) (W.read_faults swap.new)
         (W.is_truthful swap.old) (W.is_truthful swap.new) (W.is_honest swap.old) (W.is_honest swap.new) }
 {
-    carry_out(live, &event, at, out, swap)
+    carry_out(live, &event, at, out, swap, swap_time)
 }
 
 // Carries out the events up to the end.
@@ -90,6 +92,7 @@ fn events<S: Source, K: Sink, W: Truthful>(
     input: &mut S,
     out: &mut K,
     swap: &mut W,
+    swap_time: u64,
     live: Live,
 ) -> Status
     requires { (from : Option (List ℕ)) × IsRunning reader.old (W.content swap.old) live from (K.written out.old) }
@@ -110,7 +113,7 @@ fn events<S: Source, K: Sink, W: Truthful>(
             Err(status) => return status,
         };
         match item {
-            Item::Event(event) => match carry(&mut live, event, reader.at(), out, swap) {
+            Item::Event(event) => match carry(&mut live, event, reader.at(), out, swap, swap_time) {
                 Ok(()) => {}
                 Err(status) => return status,
             },
@@ -128,6 +131,7 @@ fn begun<S: Source, K: Sink, W: Truthful>(
     input: &mut S,
     out: &mut K,
     swap: &mut W,
+    swap_time: u64,
     live: Live,
     outs: &Outs,
 ) -> Status
@@ -143,7 +147,7 @@ fn begun<S: Source, K: Sink, W: Truthful>(
         (W.is_truthful swap.old) (W.is_truthful swap.new) (W.is_honest swap.old) (W.is_honest swap.new) }
 {
     match write_outs(out, outs) {
-        Ok(()) => events(reader, input, out, swap, live),
+        Ok(()) => events(reader, input, out, swap, swap_time, live),
         Err(_) => Status::OutputFault,
     }
 }
@@ -156,6 +160,7 @@ fn begin<S: Source, K: Sink, W: Truthful>(
     input: &mut S,
     out: &mut K,
     swap: &mut W,
+    swap_time: u64,
 ) -> Status
     requires { IsAtStart reader.old opening }
     ensures replays { (b : List ℕ) → Reads b reader.old (S.remaining input.old) → Replays b result (K.written out.old) (K.written out.new) }
@@ -175,7 +180,7 @@ fn begin<S: Source, K: Sink, W: Truthful>(
         moment,
     } = opening;
     match start(alloc, store, seed, moment, swap) {
-        Ok((live, outs)) => begun(reader, input, out, swap, live, &outs),
+        Ok((live, outs)) => begun(reader, input, out, swap, swap_time, live, &outs),
         Err(StartFault::NoMaster { faults }) => Status::NoMaster {
             faults: Faults::from_vec(faults),
         },
@@ -183,9 +188,11 @@ fn begin<S: Source, K: Sink, W: Truthful>(
     }
 }
 
-/// Carries out a script.
+/// Carries out a script. What had no entry for `swap_time` seconds goes out after a tick, where the swap file tells what it holds;
+/// 0 means never.
 pub(crate) fn replay<S: Source, K: Sink, W: Truthful>(
     alloc: Global,
+    swap_time: u64,
     input: &mut S,
     out: &mut K,
     swap: &mut W,
@@ -205,5 +212,5 @@ pub(crate) fn replay<S: Source, K: Sink, W: Truthful>(
         Ok(opening) => opening,
         Err(status) => return status,
     };
-    begin(alloc, opening, &mut reader, input, out, swap)
+    begin(alloc, opening, &mut reader, input, out, swap, swap_time)
 }

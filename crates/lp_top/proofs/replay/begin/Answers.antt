@@ -1,7 +1,7 @@
 use Rattle.std.proofs.Common.{◌∙◌, sym, subst}
 use Rattle.lp_driver.specs.Driving.{HasNoMasterIf}
 use Rattle.lp_top.proofs.Beginning.{may-start, going-start, replays-none, replays-unstarted, stop-not-done}
-use Rattle.lp_top.proofs.Swapping.{stop-tells}
+use Rattle.lp_top.proofs.Swapping.{begun-tells, stop-tells}
 use Rattle.lp_top.specs.Items.{world_files}
 use Rattle.lp_top.proofs.replay.begin.Goals as goal
 
@@ -29,4 +29,4 @@ returns-in-Err-Stopped-clause-whole g c = λ e. absurd (stop-not-done c.at-at.re
 pub returns-in-Err-Stopped-clause-swap : goal.returns-in-Err-Stopped-clause-swap
 returns-in-Err-Stopped-clause-swap g c =
     let t = rw c.in-Err-Stopped.field-0-is at c.in-Err-Stopped.ensures.tells in
-    rw c.stopped.ensures (stop-tells c.at-at.result c.in-Err-Stopped.fault _ _ _ _ _ _ _ _ _ _ t.0 t.1)
+    rw c.stopped.ensures (stop-tells c.at-at.result c.in-Err-Stopped.fault _ _ _ _ _ _ _ _ t.0 (begun-tells t.1))
