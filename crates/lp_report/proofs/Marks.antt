@@ -1,0 +1,64 @@
+-- Marks, and the versions that are needed by them.
+use Rattle.std.proofs.Common.{◌≡◌, ◌∙◌, ◌<◌, ◌≤◌, ℕ, zero, suc, Bool, true, false, List, [], ◌∷◌, ◌++◌, Option, Some, None, refl, sym, ap, subst, arith, length, get_or, set, replicate, drop, nat_eq, if◌then◌else◌, append-nil, append_assoc}
+use Rattle.std.specs.Prelude.{◌||◌, ◌≢◌, nat_lt}
+use Rattle.std.specs.List.{list_any}
+use Rattle.std.proofs.lemmas.Bool.{cases_eq, eq-eqb, eqb-true}
+use Rattle.std.proofs.lemmas.List.{get_or-set_other, get_or-set_same, length-set}
+use Rattle.lp_values.specs.declared.id.ProgId.{ProgId}
+use Rattle.lp_world.specs.declared.objects.Object.{Object}
+use Rattle.lp_report.specs.Needed.{is_marked, live_versions, version_if_live, with_mark, with_marks}
+
+-- the versions of more rows are needed
+pub marks_append : (marks : List Bool) (ps qs : List ProgId) → with_marks marks (ps ++ qs) ≡ with_marks (with_marks marks ps) qs
+marks_append marks [] qs = refl
+marks_append marks (p ∷ ps) qs = marks_append (with_mark marks p) ps qs
+
+-- there are as many marks as before
+pub mark_len : (marks : List Bool) (p : ProgId) → length (with_mark marks p) ≡ length marks
+mark_len marks p = by (nat_lt p.0 (length marks))
+  where
+    by : (b : Bool) → length (if b then set marks p.0 true else marks) ≡ length marks
+    by true = length-set marks p.0 true
+    by false = refl
+
+pub marks_len : (marks : List Bool) (ps : List ProgId) → length (with_marks marks ps) ≡ length marks
+marks_len marks [] = refl
+marks_len marks (p ∷ ps) = marks_len (with_mark marks p) ps ∙ mark_len marks p
+
+-- a list of versions is marked where the marks are set at their numbers
+abbrev pub AreMarked : List Bool → List ProgId → Type 0
+AreMarked marks needed = (k : ℕ) → k < length marks → is_marked marks k ≡ list_any (λ v. nat_eq v.0 k) needed
+
+or_false : (b : Bool) → b || false ≡ b
+or_false true = refl
+or_false false = refl
+
+or_assoc : (a b c : Bool) → (a || b) || c ≡ a || (b || c)
+or_assoc true b c = refl
+or_assoc false b c = refl
+
+pub any_append : (k : ℕ) (ps qs : List ProgId) → list_any (λ v. nat_eq v.0 k) (ps ++ qs) ≡ list_any (λ v. nat_eq v.0 k) ps || list_any (λ v. nat_eq v.0 k) qs
+any_append k [] qs = refl
+any_append k (p ∷ ps) qs = ap (λ b. nat_eq p.0 k || b) (any_append k ps qs) ∙ sym (or_assoc (nat_eq p.0 k) (list_any (λ v. nat_eq v.0 k) ps) (list_any (λ v. nat_eq v.0 k) qs))
+
+-- one more mark
+mark_one : (marks : List Bool) (p : ProgId) (k : ℕ) → k < length marks → is_marked (with_mark marks p) k ≡ is_marked marks k || nat_eq p.0 k
+mark_one marks p k l = ?
+
+pub marked_one : (marks : List Bool) (needed : List ProgId) (p : ProgId) → AreMarked marks needed → AreMarked (with_mark marks p) (needed ++ p ∷ [])
+marked_one marks needed p h k l =
+    let m : k < length marks = subst (λ n. k < n) (mark_len marks p) l in
+    mark_one marks p k m ∙ ap (λ b. b || nat_eq p.0 k) (h k m) ∙ sym (any_append k needed (p ∷ []) ∙ ap (λ b. list_any (λ v. nat_eq v.0 k) needed || b) (or_false (nat_eq p.0 k)))
+
+pub marked_more : (marks : List Bool) (needed ps : List ProgId) → AreMarked marks needed → AreMarked (with_marks marks ps) (needed ++ ps)
+marked_more marks needed [] h = subst (AreMarked marks) (sym (append-nil needed)) h
+marked_more marks needed (p ∷ ps) h = subst (AreMarked (with_marks (with_mark marks p) ps)) (append_assoc needed (p ∷ []) ps) (marked_more (with_mark marks p) (needed ++ p ∷ []) ps (marked_one marks needed p h))
+
+-- no mark is set yet
+none_at : (n k : ℕ) → get_or (replicate n false) k false ≡ false
+none_at zero k = refl
+none_at (suc n) zero = refl
+none_at (suc n) (suc k) = none_at n k
+
+pub none_marked : (n : ℕ) → AreMarked (replicate n false) []
+none_marked n k l = none_at n k
