@@ -2,7 +2,8 @@
 use Rattle.std.proofs.Common.{◌≡◌, ◌∙◌, ◌<◌, ◌≤◌, ℕ, zero, suc, Bool, true, false, List, [], ◌∷◌, ◌++◌, Option, Some, None, refl, sym, ap, subst, arith, length, get_or, set, replicate, drop, nat_eq, if◌then◌else◌, append-nil, append_assoc}
 use Rattle.std.specs.Prelude.{◌||◌, ◌≢◌, nat_lt}
 use Rattle.std.specs.List.{list_any}
-use Rattle.std.proofs.lemmas.Bool.{cases_eq, eq-eqb, eqb-true}
+use Rattle.std.proofs.Math.Bool.{or-true}
+use Rattle.std.proofs.lemmas.Bool.{eq-eqb, eqb-true, ltb-false}
 use Rattle.std.proofs.lemmas.List.{get_or-set_other, get_or-set_same, length-set}
 use Rattle.lp_values.specs.declared.id.ProgId.{ProgId}
 use Rattle.lp_world.specs.declared.objects.Object.{Object}
@@ -43,7 +44,15 @@ any_append k (p ∷ ps) qs = ap (λ b. nat_eq p.0 k || b) (any_append k ps qs) �
 
 -- one more mark
 mark_one : (marks : List Bool) (p : ProgId) (k : ℕ) → k < length marks → is_marked (with_mark marks p) k ≡ is_marked marks k || nat_eq p.0 k
-mark_one marks p k l = ?
+mark_one marks p k l = by (nat_lt p.0 (length marks)) refl (nat_eq p.0 k) refl
+  where
+    by : (b : Bool) → nat_lt p.0 (length marks) ≡ b → (c : Bool) → nat_eq p.0 k ≡ c → get_or (if b then set marks p.0 true else marks) k false ≡ get_or marks k false || c
+    by true e true f = subst (λ n. get_or (set marks n true) k false ≡ get_or marks k false || true) (sym (eqb-true p.0 k f)) (get_or-set_same marks k true false l ∙ sym (or-true (get_or marks k false)))
+    by true e false f = get_or-set_other marks p.0 k true false (λ s. not_same s f) ∙ sym (or_false (get_or marks k false))
+    by false e true f = let i = eqb-true p.0 k f in let h = ltb-false p.0 (length marks) e in absurd (omega (arith, i, h, l))
+    by false e false f = sym (or_false (get_or marks k false))
+    not_same : k ≡ p.0 → nat_eq p.0 k ≡ false → ⊥
+    not_same s f = let t = eq-eqb p.0 k (sym s) in cc
 
 pub marked_one : (marks : List Bool) (needed : List ProgId) (p : ProgId) → AreMarked marks needed → AreMarked (with_mark marks p) (needed ++ p ∷ [])
 marked_one marks needed p h k l =
