@@ -69,6 +69,7 @@ pub(crate) fn apply(alloc: Global, m: ObjId, f: StartFunction) -> Result<StartSt
         Call {
             asked: Asked::Apply(m, name),
             player: None,
+            interactive: None,
             arguments,
         },
         StartWaiting::Master(f),
@@ -86,6 +87,7 @@ fn load(alloc: Global, f: StartFunction) -> Result<StartStep, AllocError>
         Call {
             asked: Asked::Load(name),
             player: None,
+            interactive: None,
             arguments: Vec::new(alloc),
         },
         StartWaiting::Load(f),
