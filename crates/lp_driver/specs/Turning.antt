@@ -29,6 +29,13 @@ pub record TurnLeft (front : FrontEnd) (told : Option Bytes) (before : List Out)
   pub rests : Rests told programs before live state
   pub back : (e : End (Unit {0})) → Ends front (going_course going state) e → Ends front course e
 
+-- It asks, likewise.
+pub record TurnAsksOn (front : FrontEnd) (told : Option Bytes) (before : List Out) (live : Live) (call : Call) (waiting : Waiting) (course : Course (Unit {0})) : Type 0 where
+  pub programs : List RawProgram
+  pub state : State
+  pub rests : Rests told programs before live state
+  pub back : (e : End (Unit {0})) → Ends front (asking_course call waiting state) e → Ends front course e
+
 -- It has ended, in a state for which the live state stands.
 pub record TurnEnded (front : FrontEnd) (told : Option Bytes) (before : List Out) (live : Live) (course : Course (Unit {0})) : Type 0 where
   pub programs : List RawProgram
@@ -36,10 +43,23 @@ pub record TurnEnded (front : FrontEnd) (told : Option Bytes) (before : List Out
   pub rests : Rests told programs before live state
   pub ends : Ends front course (Gives tt state)
 
+abbrev pub StepStands : FrontEnd → Option Bytes → List Out → Live → Step → Course (Unit {0}) → Type 0
+StepStands front told before live (steps.Asks call waiting) course = TurnAsksOn front told before live call waiting course
+StepStands front told before live steps.Ends course = TurnEnded front told before live course
+
 -- so from each state for which the live state stood
 abbrev pub TurnGoes : (State → Course (Unit {0})) → Option Bytes → Live → Option Bytes → Live → Going → Type 0
 TurnGoes turn told0 live0 told1 live1 going =
     (front : FrontEnd) (real : IsFrontEnd front) (programs : List RawProgram) (before : List Out) (s : State) → Rests told0 programs before live0 s → TurnLeft front told1 before live1 going (turn s)
+
+abbrev pub TurnSteps : (State → Course (Unit {0})) → Option Bytes → Live → Option Bytes → Live → Step → Type 0
+TurnSteps turn told0 live0 told1 live1 r =
+    (front : FrontEnd) (real : IsFrontEnd front) (programs : List RawProgram) (before : List Out) (s : State) → Rests told0 programs before live0 s → StepStands front told1 before live1 r (turn s)
+
+-- Whatever a step stood for, a later one stands for.
+abbrev pub TurnContinues : Step → Option Bytes → Live → Option Bytes → Live → Step → Type 0
+TurnContinues step told0 live0 told1 live1 r =
+    (front : FrontEnd) (real : IsFrontEnd front) (before : List Out) (c : Course (Unit {0})) → StepStands front told0 before live0 step c → StepStands front told1 before live1 r c
 
 -- THE TURN IS CARRIED OUT as it means.
 abbrev pub TurnEnds : (State → Course (Unit {0})) → Option Bytes → Live → Option Bytes → Live → Type 0
