@@ -1,11 +1,15 @@
 -- Turns go on, call by call, to their ends.
-use Rattle.std.specs.Prelude.{⊤, List, Option}
+use Rattle.std.specs.Prelude.{⊤, ℕ, ◌≤◌, ◌^◌, List, Option}
 use Rattle.lp_code.specs.declared.program.RawProgram.{RawProgram}
+use Rattle.lp_events.specs.declared.event.Event.{Event}
+use Rattle.lp_events.specs.declared.event.Event.TheVariants as events
 use Rattle.lp_events.specs.declared.out.Out.{Out}
 use Rattle.lp_swapfile.specs.Device.{Bytes}
 use Rattle.lp_language.specs.Course.{Asks, Course, End, Gives, State}
 use Rattle.lp_meaning.specs.Closing.{Ends}
 use Rattle.lp_meaning.specs.FrontEnd.{FrontEnd}
+use Rattle.lp_meaning.specs.Ticks.{at_moment, calls_out}
+use Rattle.lp_timers.specs.Timers.{due_at}
 use Rattle.lp_front_end.specs.FrontEnds.{IsFrontEnd}
 use Rattle.lp_world.specs.declared.live.Live.{Live}
 use Rattle.lp_world.specs.declared.objects.Object.{Object}
@@ -65,6 +69,19 @@ TurnContinues step told0 live0 told1 live1 r =
 abbrev pub TurnEnds : (State → Course (Unit {0})) → Option Bytes → Live → Option Bytes → Live → Type 0
 TurnEnds turn told0 live0 told1 live1 =
     (front : FrontEnd) (real : IsFrontEnd front) (programs : List RawProgram) (before : List Out) (s : State) → Rests told0 programs before live0 s → TurnEnded front told1 before live1 (turn s)
+
+-- The first step of a tick: the clock is set, and the call-outs that are due are called, as the written meaning lists them.
+abbrev pub call_outs_due : ℕ → State → Course (Unit {0})
+call_outs_due t s = calls_out (due_at t s.world.call_outs) (record s { world = at_moment s.world t })
+
+-- an event may come: the moment of a tick is one that a script may have
+abbrev pub MayCome : Event → Type 0
+MayCome (events.Connect k) = ⊤
+MayCome (events.Line k bytes) = ⊤
+MayCome (events.Gone k) = ⊤
+MayCome (events.Tick t) = t ≤ 10 ^ 12
+MayCome (events.Reload path bytes) = ⊤
+MayCome (events.Swap name) = ⊤
 
 -- what a step asks for is there
 abbrev pub IsStepAskedThere : List (Option Object) → Step → Type 0

@@ -7,6 +7,7 @@ ghost use Rattle.lp_world.specs.Closed.{IsClosed};
 ghost use Rattle.lp_vm.specs.Causes.{Tells, read_of};
 ghost use Rattle.lp_driver.specs.Driving.{HasNoMasterIf, IsAtRest, IsNoMasterOf, StartTells, StartsAs, TurnsAs, start_answer};
 ghost use Rattle.lp_driver.specs.Tidying.{HasBegun, HasTidied, TurnTells};
+ghost use Rattle.lp_driver.specs.Turning.{MayCome};
 
 use crate::events::carry_out;
 use crate::starting::{Started, run_start};
@@ -39,6 +40,7 @@ pub enum StartFault {
 /// # Errors
 /// As `turn`.
 fn carry_turn<W: Truthful>(live: &mut Live, swap: &mut W, event: &Event) -> Result<Outs, VmFault>
+    requires may { MayCome event.now }
     requires closed { IsClosed live.old }
     requires rest { (w : World) × IsAtRest (W.content swap.old) live.old w }
     ensures turns { IfOk result (λ outs. TurnsAs event.now (W.content swap.old) live.old (W.content swap.new) live.new outs) }
@@ -54,7 +56,7 @@ fn carry_turn<W: Truthful>(live: &mut Live, swap: &mut W, event: &Event) -> Resu
     Ok(end_turn(live))
 }
 
-/// One turn carries out one event, and gives its outputs. Behind it what ended is forgotten; and where the swap file tells what it
+/// One turn carries out one event, and gives its outputs. The moment of a tick is at most 10^12 seconds. Behind it what ended is forgotten; and where the swap file tells what it
 /// holds, what is to go out goes out: behind a tick what is live and in memory and had no entry for `swap_time` seconds (0 means
 /// never), objects by serial and then versions by number; for a swap item the live object of its name, and then its version. Each goes out
 /// or stays for a cause, and the live state stands for the same world.
@@ -68,6 +70,7 @@ pub fn turn<W: Truthful>(
     swap_time: u64,
     event: &Event,
 ) -> Result<Outs, VmFault>
+    requires may { MayCome event.now }
     requires closed { IsClosed live.old }
     requires rest { (w : World) × IsAtRest (W.content swap.old) live.old w }
     ensures turns { IfOk result (λ outs. TurnsAs event.now (W.content swap.old) live.old (W.content swap.new) live.new outs) }

@@ -11,5 +11,6 @@ pub mod driver;
 mod events;
 mod knowing;
 pub mod starting;
+mod ticking;
 mod tidying;
 mod turning;
