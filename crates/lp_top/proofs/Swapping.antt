@@ -1,5 +1,5 @@
 -- What the swap file did, step by step.
-use Rattle.std.proofs.Common.{subst, ◌≡◌, ℕ, List, Bool, true, false, Option, refl}
+use Rattle.std.proofs.Common.{subst, ap, inl, inr, ◌≡◌, ℕ, List, Bool, true, false, Option, refl}
 use Rattle.std.specs.Prelude.{Ok, Err, Result}
 use Rattle.lp_swapfile.specs.Counts.{Counts, Rose}
 use Rattle.lp_swapfile.specs.Device.{Bytes, Last}
@@ -15,7 +15,7 @@ use Rattle.lp_top.specs.declared.status.Status.{Status}
 use Rattle.lp_top.specs.declared.status.Status.TheVariants as ends
 use Rattle.lp_top.specs.Check.{IsCheckEnd}
 use Rattle.lp_top.specs.Make.{IsMakeEnd}
-use Rattle.lp_top.specs.Replay.{Finishes, IsReadingEnd}
+use Rattle.lp_top.specs.Replay.{Concludes, Finishes, IsReadingEnd}
 use Rattle.lp_top.specs.Causes.{SwapTells, IsHonestEnd, is_read_end, stop_status}
 
 abbrev pub is_swap : Status → Bool
@@ -97,6 +97,10 @@ finish-calm last before after ends.TooLarge i = absurd i
 finish-calm last before after ends.InputFault i = absurd i
 finish-calm last before after (ends.SwapFault cause) i = absurd i
 finish-calm last before after ends.NoMemory i = absurd i
+
+pub conclude-calm : (report : Bool) (live : Live) (before after : Option (List ℕ)) (s : Status) → Concludes report live before after s → is_swap s ≡ false
+conclude-calm report live before after s (inl k) = finish-calm _ before after s k.2
+conclude-calm report live before after s (inr k) = ap is_swap k.0
 
 pub check-calm : (s : Status) → IsCheckEnd s → is_swap s ≡ false
 check-calm ends.Done i = refl
