@@ -127,3 +127,7 @@ finished_answer (Ok x) end h = refl
 finished_answer (Err (faults.NoMaster fs)) end h = refl
 finished_answer (Err (faults.Stopped f)) ends.Begins h = absurd h
 finished_answer (Err (faults.Stopped f)) (ends.NoMaster fs) h = absurd h
+
+-- what goes out leaves the state at rest
+pub rest_on : (told0 told1 : Option Bytes) (live0 live1 : Live) → ((programs : List RawProgram) (w : World) → IsWorldOf told0 programs live0 w → IsWorldOf told1 programs live1 w) → live1.outputs ≡ live0.outputs → (w : World) → IsAtRest told0 live0 w → IsAtRest told1 live1 w
+rest_on told0 told1 live0 live1 world outputs w h = record { programs = h.programs; world = world h.programs w h.world; outputs = outputs ∙ h.outputs }
