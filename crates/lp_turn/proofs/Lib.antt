@@ -9,3 +9,8 @@ pub mod Initial
 pub mod Opened
 pub mod Remembered
 pub mod Preloaded
+pub mod Timed
+pub mod CalledOut
+pub mod Beaten
+pub mod Watched
+pub mod TickEnded

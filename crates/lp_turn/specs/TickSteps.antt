@@ -10,7 +10,7 @@ use Rattle.lp_timers.specs.declared.call_out.CallOut as taken
 use Rattle.lp_language.specs.Course.{Course, State, and_then}
 use Rattle.lp_language.specs.World.{World, object_at}
 use Rattle.lp_meaning.specs.EventTurns.{driver_apply}
-use Rattle.lp_meaning.specs.Ticks.{after_beat, after_clean_up, clean_up_argument, clean_ups, heart_beats, player_if_living, resets, with_next_beat, with_next_watch}
+use Rattle.lp_meaning.specs.Ticks.{after_beat, after_clean_up, clean_up_argument, clean_ups, heart_beats, player_if_living, resets, with_next_beat, with_next_watch, without_clean_up}
 use Rattle.lp_meaning.specs.WorldSteps.{is_clone_name}
 use Rattle.lp_lasting_laws.specs.Numbers.{HaveNumbers, calls_numbered}
 use Rattle.lp_world.specs.Rows.{live_in}
@@ -118,3 +118,7 @@ abbrev pub cleaning_up : ObjId → Due → State → Course (Unit {0})
 cleaning_up o due s =
     and_then (driver_apply None None o (codes "clean_up") (clean_up_argument s.world o ∷ []) (record s { world = with_next_watch s.world CleanUp o due.moment })) (λ d s.
     clean_ups due.moment due.objects (after_clean_up o d s))
+
+-- an object is not asked again, and then these are asked
+abbrev pub cleaning_up_without : ObjId → Due → State → Course (Unit {0})
+cleaning_up_without o due s = clean_ups due.moment due.objects (record s { world = without_clean_up s.world o })
