@@ -1,5 +1,5 @@
 -- The call-outs of a tick, one after another.
-use Rattle.std.proofs.Common.{◌≡◌, ◌∙◌, ◌∷◌, [], ℕ, List, Option, Some, None, IsSome, All, refl, ap, sym, subst, map, option_map}
+use Rattle.std.proofs.Common.{◌≡◌, ◌∙◌, ◌∷◌, [], ℕ, List, Option, Some, None, IsSome, All, refl, ap, sym, subst, map, option_map, unwrap_or}
 use Rattle.lp_values.specs.declared.id.ObjId.{ObjId}
 use Rattle.lp_code.specs.declared.program.RawProgram.{RawProgram}
 use Rattle.lp_cells.specs.Cells.{IsThere}
@@ -19,7 +19,7 @@ use Rattle.lp_world.specs.declared.live.Live.{Live}
 use Rattle.lp_turn.specs.Calls.{IsAskedThere}
 use Rattle.lp_turn.specs.Going.{BeginsAs, BeginsWith, Goes}
 use Rattle.lp_turn.specs.Resting.{Rests}
-use Rattle.lp_turn.specs.TickSteps.{HasTakenOut, calling_out, first_waiting, with_left, without_number}
+use Rattle.lp_turn.specs.TickSteps.{calling_out, first_waiting, with_left, without_number}
 use Rattle.lp_turn.specs.declared.job.Asked.TheVariants as asks
 use Rattle.lp_turn.specs.declared.job.Call.{Call}
 use Rattle.lp_turn.specs.declared.job.Going.TheVariants as goings
@@ -69,22 +69,40 @@ call_begins live c ns call r a b i d g programs before s h = record {
   course = asks_as (asks.Apply c.ob c.fun) None None c.args.items s (waitings.Tick (tick_waitings.CallOut ns)) call a b i d;
 }
 
-pub call_goes : (live0 live1 : Live) (ns ms : List ℕ) (c : taken.CallOut) (r : Step) → with_left (Some c) ms ≡ first_waiting live0.timers.call_outs ns → HasTakenOut c.number live0 live1 → BeginsWith (calling_out (call_out_of c) ms) live1 live1 r
-    → Goes r (goings.Tick (tick_goings.CallOuts ns)) live0 live1
+pub call_goes : (live : Live) (t : Timing) (ns ms : List ℕ) (c : taken.CallOut) (r : Step) → with_left (Some c) ms ≡ first_waiting live.timers.call_outs ns → t ≡ without_number live.timers c.number
+    → BeginsWith (calling_out (call_out_of c) ms) (record live { timers = t }) (record live { timers = t }) r → Goes r (goings.Tick (tick_goings.CallOuts ns)) live (record live { timers = t })
 unfolding by_first
-call_goes live0 live1 ns ms c r e t b g programs before s h =
-    leads_as r g programs before live1 (calling_out (call_out_of c) ms (record s { world = without_due s.world c.number })) (calls_numbered ns s) (calls_in g programs before live0 s ns h ∙ ap (by_first s) (sym e))
+call_goes live t ns ms c r e q b g programs before s h =
+    leads_as r g programs before (record live { timers = t }) (calling_out (call_out_of c) ms (record s { world = without_due s.world c.number })) (calls_numbered ns s) (calls_in g programs before live s ns h ∙ ap (by_first s) (sym e))
     (b g programs before (record s { world = without_due s.world c.number })
-    (subst (λ l. Rests g programs before l (record s { world = without_due s.world c.number })) (sym t) (rests_retimed g programs before live0 s (λ x. without_number x c.number) h)))
+    (subst (λ u. Rests g programs before (record live { timers = u }) (record s { world = without_due s.world c.number })) (sym q) (rests_retimed g programs before live s (λ x. without_number x c.number) h)))
 
-pub no_call_goes : (live0 live1 : Live) (ns ms : List ℕ) → with_left None ms ≡ first_waiting live0.timers.call_outs ns → live1 ≡ live0 → Goes steps.Ends (goings.Tick (tick_goings.CallOuts ns)) live0 live1
+pub no_call_goes : (live : Live) (t : Timing) (ns ms : List ℕ) → with_left None ms ≡ first_waiting live.timers.call_outs ns → t ≡ live.timers → Goes steps.Ends (goings.Tick (tick_goings.CallOuts ns)) live (record live { timers = t })
 unfolding by_first
-no_call_goes live0 live1 ns ms e t g programs before s h =
-    record { state = s; rests = subst (λ l. Rests g programs before l s) (sym t) h; course = calls_in g programs before live0 s ns h ∙ ap (by_first s) (sym e) }
+no_call_goes live t ns ms e q g programs before s h =
+    record { state = s; rests = subst (λ u. Rests g programs before (record live { timers = u }) s) (sym q) h; course = calls_in g programs before live s ns h ∙ ap (by_first s) (sym e) }
 
--- its arguments are there
-pub taken_there : (live : Live) (n : ℕ) (c : taken.CallOut) → IsClosed live → option_map call_out_of (Some c) ≡ numbered live.timers.call_outs n → All (IsThere live.cells) c.args.items
-taken_there live n c h e = numbered_has (λ (x : CallOut). All (IsThere live.cells) x.arguments) live.timers.call_outs n (call_out_of c) h.call_outs (sym e)
+-- Numbers one after another: one with which none waits is passed over.
+pub taken_first : (old : Timing) (ns ms : List ℕ) (n : ℕ) (c : taken.CallOut) → ns ≡ n ∷ ms → option_map call_out_of (Some c) ≡ numbered old.call_outs n → with_left (Some c) ms ≡ first_waiting old.call_outs ns
+taken_first old ns ms n c e f = sym (ap (first_waiting old.call_outs) e ∙ ap (λ q. elim q [ Some d ↦ Some (d, ms) | None ↦ first_waiting old.call_outs ms ]) (sym f))
 
-pub taken_number : (live : Live) (n : ℕ) (c : taken.CallOut) → option_map call_out_of (Some c) ≡ numbered live.timers.call_outs n → c.number ≡ n
-taken_number live n c e = found_number live.timers.call_outs n (call_out_of c) (sym e)
+pub passed_over : (old : Timing) (ns ms : List ℕ) (n : ℕ) → ns ≡ n ∷ ms → None ≡ numbered old.call_outs n → first_waiting old.call_outs ms ≡ first_waiting old.call_outs ns
+passed_over old ns ms n e f = sym (ap (first_waiting old.call_outs) e ∙ ap (λ q. elim q [ Some d ↦ Some (d, ms) | None ↦ first_waiting old.call_outs ms ]) (sym f))
+
+pub none_first : (old : Timing) (ns ms : List ℕ) → ns ≡ [] → with_left None ms ≡ first_waiting old.call_outs ns
+none_first old ns ms e = sym (ap (first_waiting old.call_outs) e)
+
+pub taken_number : (old : Timing) (n : ℕ) (c : taken.CallOut) → option_map call_out_of (Some c) ≡ numbered old.call_outs n → c.number ≡ n
+taken_number old n c e = found_number old.call_outs n (call_out_of c) (sym e)
+
+-- what it is called with is there
+first_has : (P : CallOut → Type 0) (cs : List CallOut) (ns : List ℕ) (x : CallOut × List ℕ) → All P cs → Some x ≡ first_waiting cs ns → P x.0
+first_has P cs [] x a e = cc
+first_has P cs (n ∷ ns) x a e = by (numbered cs n) refl (λ f. first_has P cs ns x a f) e
+  where
+    by : (q : Option CallOut) → numbered cs n ≡ q → (Some x ≡ first_waiting cs ns → P x.0) → Some x ≡ (elim q [ Some c ↦ Some (c, ns) | None ↦ first_waiting cs ns ]) → P x.0
+    by None q k e = k e
+    by (Some c) q k e = subst P (sym (ap (λ (o : Option (CallOut × List ℕ)). (unwrap_or o x).0) e)) (numbered_has P cs n c a q)
+
+pub taken_there : (live : Live) (ns ms : List ℕ) (c : taken.CallOut) → IsClosed live → with_left (Some c) ms ≡ first_waiting live.timers.call_outs ns → All (IsThere live.cells) c.args.items
+taken_there live ns ms c h e = first_has (λ (x : CallOut). All (IsThere live.cells) x.arguments) live.timers.call_outs ns (call_out_of c, ms) h.call_outs e

@@ -11,6 +11,7 @@ pub mod Remembered
 pub mod Preloaded
 pub mod Timed
 pub mod CalledOut
+pub mod Searched
 pub mod Beaten
 pub mod Watched
 pub mod TickEnded

@@ -22,7 +22,7 @@ use Rattle.lp_world.proofs.Closing.{closed_with_timers}
 use Rattle.lp_world.proofs.Numbering.{numbered_filter, numbered_same}
 use Rattle.lp_targets.specs.Callees.{IsWorldOf}
 use Rattle.lp_turn.specs.Resting.{Rests}
-use Rattle.lp_turn.specs.TickSteps.{AreCallOutsNumbered, HasTakenOut, without_number}
+use Rattle.lp_turn.specs.TickSteps.{AreCallOutsNumbered, without_number}
 
 -- a world with another clock, and other things to come
 world_set : World → ℕ → Timing → World
@@ -119,9 +119,8 @@ none_without (x ∷ xs) n e = by (nat_eq x.number n) (none_without xs n) e
     by false k e = ap (λ l. x ∷ l) (k e)
 
 -- where none was taken out nothing changed
-pub nothing_taken : (old new : Live) (n : ℕ) → HasTakenOut n old new → None ≡ numbered old.timers.call_outs n → new ≡ old
-nothing_taken old new n h e =
-    h ∙ ap (λ cs. record old { timers = record { next = old.timers.next; call_outs = cs; beats = old.timers.beats; watches = old.timers.watches } }) (none_without old.timers.call_outs n (sym e))
+pub nothing_taken : (old new : Timing) (n : ℕ) → new ≡ without_number old n → None ≡ numbered old.call_outs n → new ≡ old
+nothing_taken old new n h e = h ∙ ap (λ cs. record { next = old.next; call_outs = cs; beats = old.beats; watches = old.watches }) (none_without old.call_outs n (sym e))
 
 -- Each call-out has a number of its own.
 all_among : (P : CallOut → Type 0) (xs : List CallOut) → All P xs → (c : CallOut) → IsAmong c xs → P c

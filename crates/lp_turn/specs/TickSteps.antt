@@ -34,9 +34,6 @@ with_left (Some c) ns = Some (call_out_of c, ns)
 abbrev pub without_number : Timing → ℕ → Timing
 without_number t n = record { next = t.next; call_outs = without_call_out t.call_outs n; beats = t.beats; watches = t.watches }
 
-abbrev pub HasTakenOut : ℕ → Live → Live → Type 0
-HasTakenOut n old new = new ≡ record old { timers = without_number old.timers n }
-
 -- one that was taken out is called, and then those with these numbers
 abbrev pub calling_out : CallOut → List ℕ → State → Course (Unit {0})
 calling_out c ns s = and_then (driver_apply None None c.object c.function c.arguments s) (λ d s. calls_numbered ns s)
