@@ -1,5 +1,5 @@
 -- What stands where the clock is set, and where what is to come changes.
-use Rattle.std.proofs.Common.{◌≡◌, ◌≢◌, ◌∙◌, ◌<◌, ◌⊎◌, ◌∷◌, [], inl, inr, ℕ, Bool, true, false, not, List, Option, Some, None, All, refl, ap, sym, subst, filter, nat_eq, unwrap_or, if◌then◌else◌}
+use Rattle.std.proofs.Common.{◌≡◌, ◌≢◌, ◌∙◌, ◌<◌, ◌≤◌, ◌^◌, ◌⊎◌, ◌∷◌, [], inl, inr, ℕ, Bool, true, false, not, List, Option, Some, None, All, refl, ap, sym, subst, filter, nat_eq, unwrap_or, if◌then◌else◌}
 use Rattle.std.proofs.lemmas.Bool.{eqb-true}
 use Rattle.std.proofs.lemmas.List.Elements.{All-filter, All-head, All-tail}
 use Rattle.lp_values.specs.declared.id.ObjId.{ObjId}
@@ -82,7 +82,21 @@ rests_retimed g programs before live s f h =
     let r = h.world.stands.rest in
     record { world = world_timed g programs live s.world live.clock s.world.clock (f live.timers) (f (timing_of s.world)) h.world r.clock (ap f r.timing); outputs = h.outputs }
 
--- Closed states: where the call-outs stay, and where one goes.
+-- Closed states: where the clock is set, where the call-outs stay, and where one goes.
+pub closed_clocked : (live : Live) (c : ℕ) → c ≤ 10 ^ 12 → IsClosed live → IsClosed (record live { clock = c })
+closed_clocked live c e h = record {
+  clock = e;
+  cells = h.cells;
+  objects = h.objects;
+  apart = h.apart;
+  versions = h.versions;
+  call_outs = h.call_outs;
+  waiting = h.waiting;
+  placed = h.placed;
+  numbered = h.numbered;
+  room = h.room;
+}
+
 pub closed_same : (live : Live) (t : Timing) → IsClosed live → t.next ≡ live.timers.next → t.call_outs ≡ live.timers.call_outs → IsClosed (record live { timers = t })
 closed_same live t h n e =
     closed_with_timers live t h (subst (λ cs. All (λ (c : CallOut). All (IsThere live.cells) c.arguments) cs) (sym e) h.call_outs) (numbered_same live.timers t n e h.numbered)
