@@ -27,7 +27,7 @@ use Rattle.lp_turn.specs.Due.{Due}
 use Rattle.lp_turn.specs.Going.{BeginsAs, BeginsWith, Goes}
 use Rattle.lp_turn.specs.Resting.{Rests}
 use Rattle.lp_turn.specs.Ticks.{answered_so, clean_ups_due, resets_due}
-use Rattle.lp_turn.specs.TickSteps.{HasNoWatch, HasWatchAt, IsCloneIn, cleaning_up, cleaning_up_without, first_such, resetting, watched_still, with_others, with_watch_at, without_watch_of}
+use Rattle.lp_turn.specs.TickSteps.{HasNoWatch, HasWatchAt, IsArgumentIn, IsCloneIn, cleaning_up, cleaning_up_without, first_such, resetting, watched_still, with_others, with_watch_at, without_watch_of}
 use Rattle.lp_turn.specs.declared.job.Asked.TheVariants as asks
 use Rattle.lp_turn.specs.declared.job.Call.{Call}
 use Rattle.lp_turn.specs.declared.job.Going.TheVariants as goings
@@ -153,16 +153,19 @@ asks_for : ObjId → Due → State → Value → Course (Unit {0})
 asks_for o due s v =
     and_then (driver_apply None None o (codes "clean_up") (v ∷ []) (record s { world = with_next_watch s.world CleanUp o due.moment })) (λ d s. clean_ups due.moment due.objects (after_clean_up o d s))
 
-pub clean_up_begins : (live0 live1 : Live) (o : ObjId) (due : Due) (clone : Bool) (call : Call) → IsCloneIn live0 o clone → live_in live0.objects o ≡ true → HasWatchAt CleanUp o (due.moment + 3600) live0 live1 → call.asked ≡ asks.Apply o (codes "clean_up")
-    → call.player ≡ None → call.interactive ≡ None → call.arguments.items ≡ (if clone then Int (pos 0) else Int (pos 1)) ∷ [] → BeginsWith (cleaning_up o due) live0 live1 (steps.Asks call (waitings.Tick (tick_waitings.CleanUp o due)))
+pub argument_is : (live : Live) (o : ObjId) (b : Bool) (v : Value) → IsCloneIn live o b → v ≡ (if b then Int (pos 0) else Int (pos 1)) → IsArgumentIn live o v
+argument_is live o b v k e told programs w h = e ∙ ap (λ x. if x then Int (pos 0) else Int (pos 1)) (k told programs w h)
+
+pub clean_up_begins : (live0 live1 : Live) (o : ObjId) (due : Due) (v : Value) (call : Call) → IsArgumentIn live0 o v → live_in live0.objects o ≡ true → HasWatchAt CleanUp o (due.moment + 3600) live0 live1 → call.asked ≡ asks.Apply o (codes "clean_up")
+    → call.player ≡ None → call.interactive ≡ None → call.arguments.items ≡ v ∷ [] → BeginsWith (cleaning_up o due) live0 live1 (steps.Asks call (waitings.Tick (tick_waitings.CleanUp o due)))
 unfolding asks_for
-clean_up_begins live0 live1 o due clone call k l e a b i c =
+clean_up_begins live0 live1 o due v call k l e a b i c =
     subst (λ x. BeginsWith (cleaning_up o due) live0 x (steps.Asks call (waitings.Tick (tick_waitings.CleanUp o due)))) (sym e) (λ g programs before s h. record {
       state = record s { world = with_next_watch s.world CleanUp o due.moment };
       rests = rests_retimed g programs before live0 s (λ t. with_watch_at t CleanUp o (due.moment + 3600)) h;
       there = subst (λ x. IsAskedThere live0.objects x) (sym a) (live_row live0 o l);
-      course = ap (λ x. asks_for o due s (if x then Int (pos 0) else Int (pos 1))) (sym (k g programs s.world h.world.stands))
-          ∙ asks_as (asks.Apply o (codes "clean_up")) None None ((if clone then Int (pos 0) else Int (pos 1)) ∷ []) (record s { world = with_next_watch s.world CleanUp o due.moment }) (waitings.Tick (tick_waitings.CleanUp o due)) call a b i c;
+      course = ap (asks_for o due s) (sym (k g programs s.world h.world.stands))
+          ∙ asks_as (asks.Apply o (codes "clean_up")) None None (v ∷ []) (record s { world = with_next_watch s.world CleanUp o due.moment }) (waitings.Tick (tick_waitings.CleanUp o due)) call a b i c;
     })
 
 -- after the answer 0 an object is not asked again

@@ -1,6 +1,7 @@
 -- What the steps of a tick do one after another.
 use Rattle.std.specs.Prelude.{◌≡◌, ◌+◌, ◌∷◌, ◌&&◌, [], ℕ, List, Bool, Option, Some, None, codes, if◌then◌else◌}
 use Rattle.lp_values.specs.declared.id.ObjId.{ObjId}
+use Rattle.lp_values.specs.declared.value.Value.{Value}
 use Rattle.lp_code.specs.declared.program.RawProgram.{RawProgram}
 use Rattle.lp_swapfile.specs.Device.{Bytes}
 use Rattle.lp_timers.specs.Timers.{CallOut, CleanUp, Reset, WatchKind, beat_next, beat_off, beats_by, is_watched, unwatched, watch_next, without_call_out}
@@ -105,6 +106,10 @@ HasNoWatch kind o old new = new ≡ record old { timers = without_watch_of old.t
 -- whether an object is a clone, by its name
 abbrev pub IsCloneIn : Live → ObjId → Bool → Type 0
 IsCloneIn live o r = (told : Option Bytes) (programs : List RawProgram) (w : World) → Stands told programs live w → r ≡ is_clone_name (object_at w o).name
+
+-- what its `clean_up` is called with
+abbrev pub IsArgumentIn : Live → ObjId → Value → Type 0
+IsArgumentIn live o v = (told : Option Bytes) (programs : List RawProgram) (w : World) → Stands told programs live w → v ≡ clean_up_argument w o
 
 -- an object is reset, and then these
 abbrev pub resetting : ObjId → Due → State → Course (Unit {0})

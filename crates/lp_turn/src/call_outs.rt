@@ -1,16 +1,19 @@
 //! The call-outs of a tick, one after another.
-ghost use Rattle.std.specs.Prelude.{◌≡◌, ◌+◌, ◌<◌, All, IfOk, IfSome, MatchOption, length};
+ghost use Rattle.std.specs.Prelude.{◌≡◌, ◌+◌, ◌<◌, All, IfOk, IfSome, IsSome, MatchOption, length};
+ghost use Rattle.std.specs.Bool.{OnTrue};
 ghost use Rattle.lp_cells.specs.Cells.{IsThere};
 ghost use Rattle.lp_timers.specs.Waiting.{call_out_of};
 ghost use Rattle.lp_turn.specs.Going.{AreStepValuesThere, BeginsWith, Goes};
 ghost use Rattle.lp_turn.specs.Left.{AsksFewer};
 ghost use Rattle.lp_turn.specs.TickSteps.{calling_out, first_waiting, with_left, without_number};
 ghost use Rattle.lp_world.specs.Closed.{IsClosed};
+ghost use Rattle.lp_world.specs.Rows.{row_at};
 
 use crate::job::{Asked, Call, Going, Step, Waiting};
 use crate::tick_job::{Numbers, TickGoing, TickWaiting};
 use lp_timers::call_out::CallOut;
 use lp_timers::timers::Timers;
+use lp_values::id::ObjId;
 use lp_world::live::Live;
 use std::alloc::AllocError;
 
@@ -28,6 +31,13 @@ fn take_next(timers: &mut Timers, numbers: &mut Numbers) -> Option<CallOut>
     None
 }
 
+/// Whether the state has an object.
+fn is_there(live: &Live, o: ObjId) -> bool
+    ensures { OnTrue result (IsSome (row_at live.now.objects o.0)) }
+{
+    live.objects.get(o).is_some()
+}
+
 /// A call-out that was taken out is called, for nobody. The answer is want of memory too where the state does not have its object:
 /// the call-outs of an object end with it.
 fn call(live: &Live, call_out: CallOut, rest: Numbers) -> Result<Step, AllocError>
@@ -36,7 +46,7 @@ fn call(live: &Live, call_out: CallOut, rest: Numbers) -> Result<Step, AllocErro
     ensures fewer { IfOk result (λ r. AsksFewer r (1 + length rest)) }
     ensures there { IfOk result (λ r. AreStepValuesThere live.now.cells r) }
 {
-    if live.objects.get(call_out.ob).is_none() {
+    if !is_there(live, call_out.ob) {
         return Err(AllocError);
     }
     Ok(Step::Asks(

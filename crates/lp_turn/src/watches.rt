@@ -5,13 +5,14 @@ ghost use Rattle.lp_timers.specs.Timers.{is_watched};
 ghost use Rattle.lp_timers.specs.Timing.{watch_kind};
 ghost use Rattle.lp_turn.specs.Going.{AreStepValuesThere, BeginsWith, Goes};
 ghost use Rattle.lp_turn.specs.Left.{AsksFewer};
-ghost use Rattle.lp_turn.specs.TickSteps.{HasNoWatch, HasWatchAt, IsCloneIn, cleaning_up, cleaning_up_without, first_such, resetting, watched_still, with_others};
+ghost use Rattle.lp_turn.specs.TickSteps.{HasNoWatch, HasWatchAt, IsArgumentIn, IsCloneIn, cleaning_up, cleaning_up_without, first_such, resetting, watched_still, with_others};
 ghost use Rattle.lp_values.specs.declared.value.Value.{Value as V};
 ghost use Rattle.lp_world.specs.Closed.{IsClosed};
 ghost use Rattle.lp_world.specs.Rows.{live_in};
 
 use crate::job::{Asked, Call, Going, Step, Waiting};
 use crate::simul::is_clone_name;
+use crate::start_master::one;
 use crate::tick_job::{DueObjects, TickGoing, TickWaiting};
 use lp_timers::kind::Watch;
 use lp_values::id::ObjId;
@@ -121,6 +122,15 @@ fn argument_of(is_clone: bool) -> Value
     Value::Int(1)
 }
 
+/// What `clean_up` of a live object is called with.
+fn argument_for(live: &Live, o: ObjId) -> Result<Value, AllocError>
+    requires live { live_in live.now.objects o ≡ true }
+    ensures { IfOk result (λ v. IsArgumentIn live.now o v) }
+{
+    let is_clone = is_clone(live, o)?;
+    Ok(argument_of(is_clone))
+}
+
 /// A live object is asked whether it cleans up, the next time 3600 seconds later.
 fn clean_up(live: &mut Live, o: ObjId, due: DueObjects) -> Result<Step, AllocError>
     requires closed { IsClosed live.old }
@@ -132,8 +142,8 @@ fn clean_up(live: &mut Live, o: ObjId, due: DueObjects) -> Result<Step, AllocErr
     ensures closed { IsClosed live.new }
 {
     let name = Text::from_str(live.alloc, "clean_up")?;
-    let mut arguments = Vec::new(live.alloc);
-    arguments.push(argument_of(is_clone(live, o)?))?;
+    let argument = argument_for(live, o)?;
+    let arguments = one(live.alloc, argument)?;
     set_watch(live, Watch::CleanUp, o, due.moment() + 3600)?;
     Ok(Step::Asks(
         Call {
