@@ -6,8 +6,6 @@
 #[cfg(test)]
 mod checks;
 #[cfg(test)]
-mod device;
-#[cfg(test)]
 mod families;
 #[cfg(test)]
 mod makes;
@@ -21,5 +19,9 @@ mod runs;
 mod scripts;
 #[cfg(test)]
 mod simuls;
+#[cfg(test)]
+mod swaps;
+#[cfg(test)]
+mod ticks;
 #[cfg(test)]
 mod words;
