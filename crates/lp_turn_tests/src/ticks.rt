@@ -73,12 +73,7 @@ fn say_call(log: &mut String, names: &Objects, call: &Call) -> Result<(), AllocE
 }
 
 /// A step of a tick goes on, and what it asks for is told; that ends so.
-fn play(
-    live: &mut Live,
-    log: &mut String,
-    going: Going,
-    end: CallEnd,
-) -> Result<Going, AllocError>
+fn play(live: &mut Live, log: &mut String, going: Going, end: CallEnd) -> Result<Going, AllocError>
     requires { IsClosed live.old }
     ensures { OnOk result (IsClosed live.new) }
 {
@@ -199,19 +194,18 @@ fn hearts_beat_in_order_of_switching_on(rt: HostRuntime) -> Result<(), Fail> {
     play_beats(&mut live, &mut log)?;
     assert_eq!(rt; log.as_str(), "/a#1->heart_beat() /a->heart_beat() end");
     assert!(rt;
-        logs(
-            &live,
-            0,
-            "error: Too long evaluation. Execution aborted."
-        )?,
+        logs(&live, 0, "error: Too long evaluation. Execution aborted.")?,
         "the first one is told"
     );
-    assert!(rt; !live.timers.beats_by(ObjId(1), 9999), "and beats no longer");
-    assert!(rt; !live.timers.beats_by(ObjId(0), 1003), "the second one beats");
     assert!(rt;
-        live.timers.beats_by(ObjId(0), 1004),
-        "two seconds later"
+        !live.timers.beats_by(ObjId(1), 9999),
+        "and beats no longer"
     );
+    assert!(rt;
+        !live.timers.beats_by(ObjId(0), 1003),
+        "the second one beats"
+    );
+    assert!(rt; live.timers.beats_by(ObjId(0), 1004), "two seconds later");
     Ok(())
 }
 
@@ -236,7 +230,11 @@ fn objects_are_reset_by_age(rt: HostRuntime) -> Result<(), Fail> {
     let mut live = two_objects(rt.alloc())?;
     let mut log = String::new(rt.alloc());
     play_resets(&mut live, &mut log)?;
-    assert_eq!(rt; log.as_str(), "/a#1->reset() /a->reset() endend", "and not before 3800");
+    assert_eq!(rt;
+        log.as_str(),
+        "/a#1->reset() /a->reset() endend",
+        "and not before 3800"
+    );
     assert!(rt;
         live.timers.is_watched(ObjId(0), Watch::Reset),
         "after an error too"
