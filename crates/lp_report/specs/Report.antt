@@ -12,6 +12,7 @@ use Rattle.lp_world.specs.declared.objects.Object.{Object}
 use Rattle.lp_world.specs.declared.versions.ProgramState.{ProgramState}
 use Rattle.lp_world.specs.declared.versions.ProgramState.TheVariants as programs_of
 use Rattle.lp_world.specs.declared.versions.Version.{Version}
+use Rattle.lp_report.specs.declared.keeping.Kept.{Kept}
 use Rattle.lp_report.specs.declared.report.Report.{Report}
 
 -- whether a row is that of a live object that is out
@@ -39,6 +40,11 @@ pub record IsReportOf (w : World) (state : Live) (r : Report) : Type 0 where
   pub live_out : r.live_out ≡ length (filter is_out_object state.objects)
   pub kept : r.kept ≡ kept_number w
   pub kept_out : r.kept_out ≡ length (filter (is_out_at state.versions) (kept_versions w))
+
+-- the kept versions, and how many of them are out, in each world for which the state stands
+abbrev pub IsKept : Live → Kept → Type 0
+IsKept state k =
+    (told : Option Bytes) (programs : List RawProgram) (w : World) → Stands told programs state w → (k.all ≡ kept_number w) × (k.out ≡ length (filter (is_out_at state.versions) (kept_versions w)))
 
 -- so in each world for which the state stands
 abbrev pub Reports : Live → Report → Type 0

@@ -1,5 +1,5 @@
 //! Objects are counted.
-ghost use Rattle.std.specs.Prelude.{◌≡◌, length, filter};
+ghost use Rattle.std.specs.Prelude.{◌≡◌, ◌+◌, ◌-◌, ◌<◌, ◌^◌, cond, length, filter};
 ghost use Rattle.std.specs.Option.{option_copied};
 ghost use Rattle.lp_world.specs.Rows.{is_live_row, is_out_state};
 ghost use Rattle.lp_report.specs.Report.{is_out_object as is_out_row};
@@ -9,7 +9,7 @@ use lp_world::objects::{Object, ObjectState, ObjectTable};
 
 /// Whether there is an object, and it is live.
 fn is_live(object: Option<&Object>) -> bool
-    ensures { result ≡ is_live_row (option_copied object) }
+    ensures { result ≡ is_live_row (option_copied object.entry) }
 {
     match object {
         Some(o) => o.is_live,
@@ -29,12 +29,20 @@ fn is_out_state(state: &ObjectState) -> bool
 
 /// Whether there is an object, and it is live and out.
 fn is_out(object: Option<&Object>) -> bool
-    ensures { result ≡ is_out_row (option_copied object) }
+    ensures { result ≡ is_out_row (option_copied object.entry) }
 {
     match object {
         Some(o) => o.is_live && is_out_state(&o.state),
         None => false,
     }
+}
+
+/// One more, if something is so.
+pub(crate) fn counted(count: u64, is_so: bool) -> u64
+    requires { count < 2 ^ 64 - 1 }
+    ensures { result ≡ count + cond is_so 1 0 }
+{
+    if is_so { count + 1 } else { count }
 }
 
 /// How many objects are live.
@@ -43,9 +51,7 @@ pub(crate) fn count_live(objects: &ObjectTable) -> u64
 {
     let mut count = 0;
     for n in 0..objects.len() {
-        if is_live(objects.get(ObjId(n as u64))) {
-            count += 1;
-        }
+        count = counted(count, is_live(objects.get(ObjId(n as u64))));
     }
     count
 }
@@ -56,9 +62,7 @@ pub(crate) fn count_out(objects: &ObjectTable) -> u64
 {
     let mut count = 0;
     for n in 0..objects.len() {
-        if is_out(objects.get(ObjId(n as u64))) {
-            count += 1;
-        }
+        count = counted(count, is_out(objects.get(ObjId(n as u64))));
     }
     count
 }

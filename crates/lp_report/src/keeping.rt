@@ -1,9 +1,10 @@
 //! Kept versions are counted.
-ghost use Rattle.std.specs.Prelude.{◌≡◌, ◌+◌, ◌<◌, ◌≤◌, ◌^◌, ◌-◌, length, filter, suc, cond};
+ghost use Rattle.std.specs.Prelude.{◌≡◌, ◌+◌, ◌<◌, ◌≤◌, ◌^◌, ◌-◌, length, filter, suc};
 ghost use Rattle.std.specs.Option.{option_copied};
 ghost use Rattle.lp_report.specs.Needed.{kept_rows};
 ghost use Rattle.lp_report.specs.Report.{is_out_at, is_out_version, is_ticket};
 
+use crate::counting::counted;
 use crate::marking::{is_marked, mark_parents};
 use lp_values::id::ProgId;
 use lp_world::versions::{ProgramState, Version, VersionTable};
@@ -27,24 +28,11 @@ fn is_ticket(state: &ProgramState) -> bool
 
 /// Whether there is a version, and its program is out.
 fn is_out(version: Option<&Version>) -> bool
-    ensures { result ≡ is_out_version (option_copied version) }
+    ensures { result ≡ is_out_version (option_copied version.entry) }
 {
     match version {
         Some(v) => is_ticket(&v.state),
         None => false,
-    }
-}
-
-/// Counts one more.
-fn count(kept: &mut Kept, is_out: bool)
-    requires few { kept.old.all < 2 ^ 64 - 1 }
-    requires fewer { kept.old.out ≤ kept.old.all }
-    ensures all { kept.new.all ≡ kept.old.all + 1 }
-    ensures out { kept.new.out ≡ kept.old.out + cond is_out 1 0 }
-{
-    kept.all += 1;
-    if is_out {
-        kept.out += 1;
     }
 }
 
@@ -59,22 +47,23 @@ fn take_version(versions: &VersionTable, n: usize, needed: &mut [bool], kept: &m
 {
     if is_marked(needed, n) {
         let version = versions.get(ProgId(n as u64));
-        count(kept, is_out(version));
+        kept.all += 1;
+        kept.out = counted(kept.out, is_out(version));
         mark_parents(needed, version);
     }
 }
 
 /// How many versions are kept, where the marked ones are needed, and how many of them are out. A parent has a lower number than its
 /// child, so the highest number comes first.
-pub(crate) fn count_kept(versions: &VersionTable, mut needed: Vec<bool>) -> Kept
-    ensures all { result.all ≡ length (kept_rows versions.now (length versions.now) needed.items) }
-    ensures out { result.out ≡ length (filter (is_out_at versions.now) (kept_rows versions.now (length versions.now) needed.items)) }
+pub(crate) fn count_kept(versions: &VersionTable, needed: &mut [bool]) -> Kept
+    ensures all { result.all ≡ length (kept_rows versions.now (length versions.now) needed.old) }
+    ensures out { result.out ≡ length (filter (is_out_at versions.now) (kept_rows versions.now (length versions.now) needed.old)) }
 {
     let mut kept = Kept { all: 0, out: 0 };
     let mut n = versions.len();
     'versions: while n > 0 {
         n -= 1;
-        take_version(versions, n, &mut needed, &mut kept);
+        take_version(versions, n, needed, &mut kept);
     }
     kept
 }

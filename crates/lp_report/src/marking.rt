@@ -43,7 +43,7 @@ fn mark_all(marks: &mut [bool], versions: &[ProgId])
 
 /// The parents of a version are needed.
 pub(crate) fn mark_parents(marks: &mut [bool], version: Option<&Version>)
-    ensures { marks.new ≡ with_marks marks.old (parents_in (option_copied version)) }
+    ensures { marks.new ≡ with_marks marks.old (parents_in (option_copied version.entry)) }
 {
     match version {
         Some(v) => mark_all(marks, v.outline.parents.as_slice()),
@@ -53,7 +53,7 @@ pub(crate) fn mark_parents(marks: &mut [bool], version: Option<&Version>)
 
 /// The version of an object is needed, if it is live.
 fn mark_if_live(marks: &mut [bool], object: Option<&Object>)
-    ensures { marks.new ≡ with_marks marks.old (version_if_live (option_copied object)) }
+    ensures { marks.new ≡ with_marks marks.old (version_if_live (option_copied object.entry)) }
 {
     if let Some(o) = object {
         if o.is_live {

@@ -1,9 +1,9 @@
 //! The numbers of a report.
-ghost use Rattle.std.specs.Prelude.{IfOk};
-ghost use Rattle.lp_report.specs.Report.{Reports};
+ghost use Rattle.std.specs.Prelude.{◌≡◌, IfOk, false, length, replicate};
+ghost use Rattle.lp_report.specs.Report.{IsKept, Reports};
 
 use crate::counting::{count_live, count_out};
-use crate::keeping::count_kept;
+use crate::keeping::{Kept, count_kept};
 use crate::marking::{mark_live, unmarked};
 use lp_world::live::Live;
 use std::alloc::{AllocError, Global};
@@ -21,14 +21,23 @@ pub struct Report {
     pub kept_out: u64,
 }
 
+/// How many versions are kept, and how many of them are out. No version is marked yet.
+fn kept_of(live: &Live, needed: &mut [bool]) -> Kept
+    requires { needed.old ≡ replicate (length live.now.versions) false }
+    ensures { IsKept live.now result }
+{
+    mark_live(&live.objects, needed);
+    count_kept(&live.versions, needed)
+}
+
 /// Counts what is live, and what is kept, of a state between turns; and what of that is out. Takes time by how many objects and versions
 /// were ever made, and a byte of memory for each version.
-pub fn report(alloc: Global, live: &Live) -> Result<Report, AllocError>
+pub fn report_of(alloc: Global, live: &Live) -> Result<Report, AllocError>
     ensures { IfOk result (Reports live.now) }
 {
     let mut needed = unmarked(alloc, live.versions.len())?;
-    mark_live(&live.objects, &mut needed);
-    let kept = count_kept(&live.versions, needed);
+    let kept = kept_of(live, needed.as_mut_slice());
+    drop(needed);
     Ok(Report {
         live: count_live(&live.objects),
         live_out: count_out(&live.objects),

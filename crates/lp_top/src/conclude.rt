@@ -11,7 +11,7 @@ ghost use Rattle.lp_top.specs.Reports.{report_line};
 use crate::finish::finish;
 use crate::status::Status;
 use lp_io::Sink;
-use lp_report::report::{Report, report};
+use lp_report::report::{Report, report_of};
 use lp_world::live::Live;
 use std::alloc::{AllocError, Global};
 
@@ -52,7 +52,7 @@ fn put_lines(alloc: Global, out: &mut Vec<u8>, report: Report) -> Result<(), All
 fn lines_of(live: &Live) -> Result<Vec<u8>, AllocError>
     ensures { IfOk result (λ lines. (r : R) × Reports live.now r × (lines.items ≡ codes "end\n" ++ report_line r)) }
 {
-    let report = report(live.alloc, live)?;
+    let report = report_of(live.alloc, live)?;
     let mut lines = Vec::new(live.alloc);
     match put_lines(live.alloc, &mut lines, report) {
         Ok(()) => Ok(lines),

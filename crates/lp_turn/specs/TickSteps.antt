@@ -1,6 +1,7 @@
 -- What the steps of a tick do one after another.
 use Rattle.std.specs.Prelude.{◌≡◌, ◌+◌, ◌∷◌, ◌&&◌, [], ℕ, List, Bool, Option, Some, None, codes, if◌then◌else◌}
 use Rattle.lp_values.specs.declared.id.ObjId.{ObjId}
+use Rattle.lp_values.specs.declared.value.Value.{Value}
 use Rattle.lp_code.specs.declared.program.RawProgram.{RawProgram}
 use Rattle.lp_swapfile.specs.Device.{Bytes}
 use Rattle.lp_timers.specs.Timers.{CallOut, CleanUp, Reset, WatchKind, beat_next, beat_off, beats_by, is_watched, unwatched, watch_next, without_call_out}
@@ -10,7 +11,7 @@ use Rattle.lp_timers.specs.declared.call_out.CallOut as taken
 use Rattle.lp_language.specs.Course.{Course, State, and_then}
 use Rattle.lp_language.specs.World.{World, object_at}
 use Rattle.lp_meaning.specs.EventTurns.{driver_apply}
-use Rattle.lp_meaning.specs.Ticks.{after_beat, after_clean_up, clean_up_argument, clean_ups, heart_beats, player_if_living, resets, with_next_beat, with_next_watch}
+use Rattle.lp_meaning.specs.Ticks.{after_beat, after_clean_up, clean_up_argument, clean_ups, heart_beats, player_if_living, resets, with_next_beat, with_next_watch, without_clean_up}
 use Rattle.lp_meaning.specs.WorldSteps.{is_clone_name}
 use Rattle.lp_lasting_laws.specs.Numbers.{HaveNumbers, calls_numbered}
 use Rattle.lp_world.specs.Rows.{live_in}
@@ -33,9 +34,6 @@ with_left (Some c) ns = Some (call_out_of c, ns)
 -- a call-out waits no longer
 abbrev pub without_number : Timing → ℕ → Timing
 without_number t n = record { next = t.next; call_outs = without_call_out t.call_outs n; beats = t.beats; watches = t.watches }
-
-abbrev pub HasTakenOut : ℕ → Live → Live → Type 0
-HasTakenOut n old new = new ≡ record old { timers = without_number old.timers n }
 
 -- one that was taken out is called, and then those with these numbers
 abbrev pub calling_out : CallOut → List ℕ → State → Course (Unit {0})
@@ -109,6 +107,10 @@ HasNoWatch kind o old new = new ≡ record old { timers = without_watch_of old.t
 abbrev pub IsCloneIn : Live → ObjId → Bool → Type 0
 IsCloneIn live o r = (told : Option Bytes) (programs : List RawProgram) (w : World) → Stands told programs live w → r ≡ is_clone_name (object_at w o).name
 
+-- what its `clean_up` is called with
+abbrev pub IsArgumentIn : Live → ObjId → Value → Type 0
+IsArgumentIn live o v = (told : Option Bytes) (programs : List RawProgram) (w : World) → Stands told programs live w → v ≡ clean_up_argument w o
+
 -- an object is reset, and then these
 abbrev pub resetting : ObjId → Due → State → Course (Unit {0})
 resetting o due s = and_then (driver_apply None None o (codes "reset") [] (record s { world = with_next_watch s.world Reset o due.moment })) (λ d s. resets due.moment due.objects s)
@@ -118,3 +120,7 @@ abbrev pub cleaning_up : ObjId → Due → State → Course (Unit {0})
 cleaning_up o due s =
     and_then (driver_apply None None o (codes "clean_up") (clean_up_argument s.world o ∷ []) (record s { world = with_next_watch s.world CleanUp o due.moment })) (λ d s.
     clean_ups due.moment due.objects (after_clean_up o d s))
+
+-- an object is not asked again, and then these are asked
+abbrev pub cleaning_up_without : ObjId → Due → State → Course (Unit {0})
+cleaning_up_without o due s = clean_ups due.moment due.objects (record s { world = without_clean_up s.world o })

@@ -1,45 +1,41 @@
 //! The call-outs of a tick, one after another.
-ghost use Rattle.std.specs.Prelude.{◌≡◌, ◌+◌, ◌<◌, All, IfOk, IfSome, MatchOption, length};
-ghost use Rattle.std.specs.Option.{option_map};
+ghost use Rattle.std.specs.Prelude.{◌≡◌, ◌+◌, ◌<◌, All, IfOk, IfSome, IsSome, MatchOption, length};
+ghost use Rattle.std.specs.Bool.{OnTrue};
 ghost use Rattle.lp_cells.specs.Cells.{IsThere};
-ghost use Rattle.lp_timers.specs.Waiting.{call_out_of, numbered};
+ghost use Rattle.lp_timers.specs.Waiting.{call_out_of};
 ghost use Rattle.lp_turn.specs.Going.{AreStepValuesThere, BeginsWith, Goes};
 ghost use Rattle.lp_turn.specs.Left.{AsksFewer};
-ghost use Rattle.lp_turn.specs.TickSteps.{HasTakenOut, calling_out, first_waiting, with_left};
+ghost use Rattle.lp_turn.specs.TickSteps.{calling_out, first_waiting, with_left, without_number};
 ghost use Rattle.lp_world.specs.Closed.{IsClosed};
+ghost use Rattle.lp_world.specs.Rows.{row_at};
 
 use crate::job::{Asked, Call, Going, Step, Waiting};
 use crate::tick_job::{Numbers, TickGoing, TickWaiting};
 use lp_timers::call_out::CallOut;
+use lp_timers::timers::Timers;
+use lp_values::id::ObjId;
 use lp_world::live::Live;
 use std::alloc::AllocError;
 
-/// The call-out with a number is taken out, if it waits.
-fn take(live: &mut Live, number: u64) -> Option<CallOut>
-    requires closed { IsClosed live.old }
-    ensures taken { option_map call_out_of result ≡ numbered live.old.timers.call_outs number }
-    ensures left { HasTakenOut number live.old live.new }
-    ensures there { IfSome result (λ c. All (IsThere live.new.cells) c.args.items) }
-    ensures closed { IsClosed live.new }
-{
-    live.timers.take(number)
-}
-
 /// The first of some numbers with which a call-out waits still: it is taken out, and the numbers behind it are left.
-fn take_next(live: &mut Live, numbers: &mut Numbers) -> Option<CallOut>
-    requires closed { IsClosed live.old }
-    ensures first { with_left result numbers.new ≡ first_waiting live.old.timers.call_outs numbers.old }
-    ensures left { MatchOption result (live.new ≡ live.old) (λ c. HasTakenOut c.number live.old live.new) }
+fn take_next(timers: &mut Timers, numbers: &mut Numbers) -> Option<CallOut>
+    ensures first { with_left result numbers.new ≡ first_waiting timers.old.call_outs numbers.old }
+    ensures left { MatchOption result (timers.new ≡ timers.old) (λ c. timers.new ≡ without_number timers.old c.number) }
     ensures fewer { IfSome result (λ c. length numbers.new < length numbers.old) }
-    ensures there { IfSome result (λ c. All (IsThere live.new.cells) c.args.items) }
-    ensures closed { IsClosed live.new }
 {
     while let Some(number) = numbers.next() {
-        if let Some(call_out) = take(live, number) {
+        if let Some(call_out) = timers.take(number) {
             return Some(call_out);
         }
     }
     None
+}
+
+/// Whether the state has an object.
+fn is_there(live: &Live, o: ObjId) -> bool
+    ensures { OnTrue result (IsSome (row_at live.now.objects o.0)) }
+{
+    live.objects.get(o).is_some()
 }
 
 /// A call-out that was taken out is called, for nobody. The answer is want of memory too where the state does not have its object:
@@ -50,7 +46,7 @@ fn call(live: &Live, call_out: CallOut, rest: Numbers) -> Result<Step, AllocErro
     ensures fewer { IfOk result (λ r. AsksFewer r (1 + length rest)) }
     ensures there { IfOk result (λ r. AreStepValuesThere live.now.cells r) }
 {
-    if live.objects.get(call_out.ob).is_none() {
+    if !is_there(live, call_out.ob) {
         return Err(AllocError);
     }
     Ok(Step::Asks(
@@ -72,7 +68,7 @@ pub(crate) fn call_next(live: &mut Live, mut numbers: Numbers) -> Result<Step, A
     ensures there { IfOk result (λ r. AreStepValuesThere live.new.cells r) }
     ensures closed { IsClosed live.new }
 {
-    match take_next(live, &mut numbers) {
+    match take_next(&mut live.timers, &mut numbers) {
         Some(call_out) => call(live, call_out, numbers),
         None => Ok(Step::Ends),
     }

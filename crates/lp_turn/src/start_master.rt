@@ -29,7 +29,7 @@ fn name_of(alloc: Global, f: &StartFunction) -> Result<Text, AllocError>
 }
 
 /// One argument.
-fn one(alloc: Global, v: Value) -> Result<Vec<Value>, AllocError>
+pub(crate) fn one(alloc: Global, v: Value) -> Result<Vec<Value>, AllocError>
     ensures { IfOk result (λ vs. vs.items ≡ v ∷ []) }
 {
     let mut arguments = Vec::new(alloc);

@@ -5,13 +5,14 @@ ghost use Rattle.lp_timers.specs.Timers.{is_watched};
 ghost use Rattle.lp_timers.specs.Timing.{watch_kind};
 ghost use Rattle.lp_turn.specs.Going.{AreStepValuesThere, BeginsWith, Goes};
 ghost use Rattle.lp_turn.specs.Left.{AsksFewer};
-ghost use Rattle.lp_turn.specs.TickSteps.{HasNoWatch, HasWatchAt, IsCloneIn, cleaning_up, first_such, resetting, watched_still, with_others};
+ghost use Rattle.lp_turn.specs.TickSteps.{HasNoWatch, HasWatchAt, IsArgumentIn, IsCloneIn, cleaning_up, cleaning_up_without, first_such, resetting, watched_still, with_others};
 ghost use Rattle.lp_values.specs.declared.value.Value.{Value as V};
 ghost use Rattle.lp_world.specs.Closed.{IsClosed};
 ghost use Rattle.lp_world.specs.Rows.{live_in};
 
 use crate::job::{Asked, Call, Going, Step, Waiting};
 use crate::simul::is_clone_name;
+use crate::start_master::one;
 use crate::tick_job::{DueObjects, TickGoing, TickWaiting};
 use lp_timers::kind::Watch;
 use lp_values::id::ObjId;
@@ -52,7 +53,8 @@ fn set_watch(live: &mut Live, kind: Watch, o: ObjId, at: u64) -> Result<(), Allo
     ensures set { OnOk result (HasWatchAt (watch_kind kind) o at live.old live.new) }
     ensures closed { IsClosed live.new }
 {
-    live.timers.watch(o, kind, at)
+    live.timers.watch(o, kind, at)?;
+    Ok(())
 }
 
 // Resets
@@ -120,6 +122,15 @@ fn argument_of(is_clone: bool) -> Value
     Value::Int(1)
 }
 
+/// What `clean_up` of a live object is called with.
+fn argument_for(live: &Live, o: ObjId) -> Result<Value, AllocError>
+    requires live { live_in live.now.objects o ≡ true }
+    ensures { IfOk result (λ v. IsArgumentIn live.now o v) }
+{
+    let is_clone = is_clone(live, o)?;
+    Ok(argument_of(is_clone))
+}
+
 /// A live object is asked whether it cleans up, the next time 3600 seconds later.
 fn clean_up(live: &mut Live, o: ObjId, due: DueObjects) -> Result<Step, AllocError>
     requires closed { IsClosed live.old }
@@ -131,8 +142,8 @@ fn clean_up(live: &mut Live, o: ObjId, due: DueObjects) -> Result<Step, AllocErr
     ensures closed { IsClosed live.new }
 {
     let name = Text::from_str(live.alloc, "clean_up")?;
-    let mut arguments = Vec::new(live.alloc);
-    arguments.push(argument_of(is_clone(live, o)?))?;
+    let argument = argument_for(live, o)?;
+    let arguments = one(live.alloc, argument)?;
     set_watch(live, Watch::CleanUp, o, due.moment() + 3600)?;
     Ok(Step::Asks(
         Call {
@@ -168,6 +179,18 @@ fn end_watch(live: &mut Live, o: ObjId)
     live.timers.unwatch(o, Watch::CleanUp);
 }
 
+/// They go on behind an answer 0: that object is not asked again.
+fn clean_up_without(live: &mut Live, o: ObjId, due: DueObjects) -> Result<Step, AllocError>
+    requires closed { IsClosed live.old }
+    ensures begins { IfOk result (λ r. BeginsWith (cleaning_up_without o due) live.old live.new r) }
+    ensures fewer { IfOk result (λ r. AsksFewer r (length due.objects)) }
+    ensures there { IfOk result (λ r. (cells : Store) → AreStepValuesThere cells r) }
+    ensures closed { IsClosed live.new }
+{
+    end_watch(live, o);
+    clean_up_next(live, due)
+}
+
 /// They go on behind an answer: after 0 that object is not asked again.
 pub(crate) fn clean_up_after(
     live: &mut Live,
@@ -182,7 +205,7 @@ pub(crate) fn clean_up_after(
     ensures closed { IsClosed live.new }
 {
     if is_zero(v, &live.objects) {
-        end_watch(live, o);
+        return clean_up_without(live, o, due);
     }
     clean_up_next(live, due)
 }
