@@ -4,5 +4,6 @@ pub mod Turns
 pub mod Ticks
 pub mod Starts
 pub mod Rested
+pub mod Tidied
 pub mod Known
 pub mod Commands

@@ -1,10 +1,12 @@
 -- The resets and the clean-ups of a tick, one after another.
-use Rattle.std.proofs.Common.{◌≡◌, ◌∙◌, ◌+◌, ◌++◌, ◌∷◌, ◌&&◌, [], ℕ, Bool, true, false, List, Option, Some, None, refl, ap, sym, subst, codes, map, option_map, unwrap_or, pos, if◌then◌else◌}
+use Rattle.std.proofs.Common.{◌≡◌, ◌∙◌, ◌+◌, ◌++◌, ◌∷◌, ◌&&◌, [], ℕ, Bool, true, false, List, Option, Some, None, All, refl, ap, sym, subst, codes, map, option_map, unwrap_or, pos, if◌then◌else◌}
+use Rattle.std.proofs.lemmas.List.Elements.{All-cons, All-nil}
 use Rattle.lp_values.specs.declared.id.ObjId.{ObjId}
 use Rattle.lp_values.specs.declared.value.Value.{Value}
 use Rattle.lp_values.specs.declared.value.Value.TheVariants.{Int}
 use Rattle.lp_values.specs.Read.{is_zero}
 use Rattle.lp_code.specs.declared.program.RawProgram.{RawProgram}
+use Rattle.lp_cells.specs.Cells.{IsThere, Store}
 use Rattle.lp_events.specs.declared.out.Out.{Out}
 use Rattle.lp_swapfile.specs.Device.{Bytes}
 use Rattle.lp_objects.specs.Objects as names
@@ -167,6 +169,10 @@ clean_up_begins live0 live1 o due v call k l e a b i c =
       course = ap (asks_for o due s) (sym (k g programs s.world h.world.stands))
           ∙ asks_as (asks.Apply o (codes "clean_up")) None None (v ∷ []) (record s { world = with_next_watch s.world CleanUp o due.moment }) (waitings.Tick (tick_waitings.CleanUp o due)) call a b i c;
     })
+
+-- one value that is there
+pub one_there : (cells : Store) (v : Value) (vs : List Value) → vs ≡ v ∷ [] → IsThere cells v → All (IsThere cells) vs
+one_there cells v vs e h = subst (All (IsThere cells)) (sym e) (All-cons (IsThere cells) v [] h (All-nil (IsThere cells)))
 
 -- after the answer 0 an object is not asked again
 pub clean_up_ends : (live0 live1 live2 : Live) (o : ObjId) (due : Due) (r : Step) → HasNoWatch CleanUp o live0 live1 → Goes r (goings.Tick (tick_goings.CleanUps due)) live1 live2 → BeginsWith (cleaning_up_without o due) live0 live2 r

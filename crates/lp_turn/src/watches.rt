@@ -1,6 +1,6 @@
 //! The resets and the clean-ups of a tick, one after another.
-ghost use Rattle.std.specs.Prelude.{◌≡◌, ◌+◌, ◌∷◌, ◌<◌, [], IfOk, IfSome, OnOk, length, true};
-ghost use Rattle.lp_cells.specs.Cells.{Store};
+ghost use Rattle.std.specs.Prelude.{◌≡◌, ◌+◌, ◌∷◌, ◌<◌, [], IfOk, IfSome, OnOk, length, pos, true, if◌then◌else◌};
+ghost use Rattle.lp_cells.specs.Cells.{IsThere, Store};
 ghost use Rattle.lp_timers.specs.Timers.{is_watched};
 ghost use Rattle.lp_timers.specs.Timing.{watch_kind};
 ghost use Rattle.lp_turn.specs.Going.{AreStepValuesThere, BeginsWith, Goes};
@@ -114,7 +114,8 @@ fn is_clone(live: &Live, o: ObjId) -> Result<bool, AllocError>
 
 /// What `clean_up` is called with: 0 in a clone, 1 in a blueprint.
 fn argument_of(is_clone: bool) -> Value
-    ensures { result ≡ (if is_clone then V.Int (pos 0) else V.Int (pos 1)) }
+    ensures value { result ≡ (if is_clone then V.Int (pos 0) else V.Int (pos 1)) }
+    ensures there { (cells : Store) → IsThere cells result }
 {
     if is_clone {
         return Value::Int(0);
@@ -125,7 +126,8 @@ fn argument_of(is_clone: bool) -> Value
 /// What `clean_up` of a live object is called with.
 fn argument_for(live: &Live, o: ObjId) -> Result<Value, AllocError>
     requires live { live_in live.now.objects o ≡ true }
-    ensures { IfOk result (λ v. IsArgumentIn live.now o v) }
+    ensures value { IfOk result (λ v. IsArgumentIn live.now o v) }
+    ensures there { IfOk result (λ v. (cells : Store) → IsThere cells v) }
 {
     let is_clone = is_clone(live, o)?;
     Ok(argument_of(is_clone))

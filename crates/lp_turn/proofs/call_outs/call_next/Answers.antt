@@ -1,10 +1,10 @@
 use Rattle.std.proofs.lemmas.Result.{IfOk-weaker}
 use Rattle.lp_turn.proofs.CalledOut.{call_goes, no_call_goes, taken_there}
-use Rattle.lp_turn.proofs.Timed.{closed_same, closed_taken}
+use Rattle.lp_turn.proofs.Timed.{closed_taken}
 use Rattle.lp_turn.proofs.call_outs.call_next.Goals as goal
 
 pub call-requires : goal.call-requires
-call-requires c = taken_there c.args.live.now c.args.numbers c.take_next.new.numbers c.in-Some.call_out c.requires.closed c.in-Some.ensures.first
+call-requires c = record { there = taken_there c.args.live.now c.args.numbers c.take_next.new.numbers c.in-Some.call_out c.requires.closed c.in-Some.ensures.first }
 
 pub returns-in-Some-clause-goes : goal.returns-in-Some-clause-goes
 returns-in-Some-clause-goes c =

@@ -1,4 +1,4 @@
-use Rattle.std.proofs.Common.{◌∙◌, ap, refl, subst}
+use Rattle.std.proofs.Common.{◌∙◌, ◌+◌, ap, refl, subst}
 use Rattle.lp_turn.specs.TickSteps.{HasBeatAt}
 use Rattle.lp_turn.specs.declared.job.Asked.TheVariants as asks
 use Rattle.lp_turn.proofs.Beaten.{beat_begins}
