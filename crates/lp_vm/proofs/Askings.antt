@@ -66,6 +66,15 @@ object_asks told live0 live1 stack0 stack1 frame0 frame1 budget0 budget1 call h 
     row_home live1.objects frame1.this (g.around.scene.base + g.around.variables)
     (subst (λ o. HasVariables (variables_at live1.objects o) (g.around.scene.base + g.around.variables)) (sym c.matches.sits.belongs.this) c.home)
 
+-- and that of one that calls an efun
+pub object_back : (told : Option Bytes) (live0 live1 : Live) (stack0 stack1 : List Value) (frame0 frame1 : Frame) (budget0 budget1 : ℕ) (call : EfunCall) → CanHalt told live0 stack0 frame0 budget0
+    → Advances (halts.Back call) live0 stack0 frame0 budget0 live1 stack1 frame1 budget1 → IsSome (row_at live1.objects frame1.this.0)
+object_back told live0 live1 stack0 stack1 frame0 frame1 budget0 budget1 call h advances =
+    let g = h.1 in
+    let c = advances g.p g.k g.row g.function g.around g.moment g.going.of g.going.runs in
+    row_home live1.objects frame1.this (g.around.scene.base + g.around.variables)
+    (subst (λ o. HasVariables (variables_at live1.objects o) (g.around.scene.base + g.around.variables)) (sym c.matches.sits.belongs.this) c.home)
+
 -- in some world it asks
 pub can_ask : (told : Option Bytes) (live0 live1 : Live) (stack0 stack1 : List Value) (frame0 frame1 : Frame) (budget0 budget1 : ℕ) (call : CallOf) (q : Question) → CanHalt told live0 stack0 frame0 budget0
     → Advances (halts.Call call) live0 stack0 frame0 budget0 live1 stack1 frame1 budget1 → question_of call.target ≡ Some q → CanAsk told live1 frame1.this frame1.part frame1.code q

@@ -124,7 +124,7 @@ stop_loaded name stop told live g by turn budget (Stops x s) q f h = record { en
 -- THE EFUN BEGINS
 
 -- who calls it, as a caller of what is asked on its behalf
-callers_so : (s : Option Scene) (c : Scene) (this : ObjId) (callers : List ObjId) → s ≡ Some c → c.this ≡ this → c.callers ≡ reverse callers → callers_behind s ≡ reverse (callers ++ this ∷ [])
+pub callers_so : (s : Option Scene) (c : Scene) (this : ObjId) (callers : List ObjId) → s ≡ Some c → c.this ≡ this → c.callers ≡ reverse callers → callers_behind s ≡ reverse (callers ++ this ∷ [])
 callers_so s c this callers e t k = ap callers_behind e ∙ ap (λ o. o ∷ c.callers) t ∙ ap (λ l. this ∷ l) k ∙ sym (reverse-append callers (this ∷ []))
 
 module _ (at : Place) (args : ℕ) (told : Option Bytes) (live0 live1 : Live) (stack0 stack1 : List Value) (asker : Asker) (budget0 budget1 : ℕ) where

@@ -24,3 +24,5 @@ pub mod Loads
 pub mod LoadCauses
 pub mod ObjectLoads
 pub mod Clones
+pub mod Commandings
+pub mod CommandEfuns

@@ -137,7 +137,7 @@ one_less k0 k1 o p (n ∷ ns) ms by (Stops x s) e = absurd (over_asks (begun_end
 -- Ends
 
 -- what was answered is an end of what asked
-value_end : (programs : List RawProgram) (e : Ending) (x : Answer) (t : State) → IsAnswer programs t.world e x → IsValueEnd programs e (end_of_answer x t)
+pub value_end : (programs : List RawProgram) (e : Ending) (x : Answer) (t : State) → IsAnswer programs t.world e x → IsValueEnd programs e (end_of_answer x t)
 value_end programs (endings.Value v) (Returned (Plain u)) t h = h
 value_end programs (endings.Value v) (Returned (course.WasRead items pragmas)) t h = absurd h
 value_end programs (endings.Value v) (Returned course.IsSound) t h = absurd h
@@ -146,7 +146,7 @@ value_end programs (endings.Value v) (course.Stopped x) t h = absurd h
 value_end programs (endings.Stopped stop) (Returned r) t h = absurd h
 value_end programs (endings.Stopped stop) (course.Stopped x) t h = h
 
-end_state : (x : Answer) (t : State) → state_at (end_of_answer x t) ≡ t
+pub end_state : (x : Answer) (t : State) → state_at (end_of_answer x t) ≡ t
 end_state (Returned r) t = refl
 end_state (course.Stopped x) t = refl
 

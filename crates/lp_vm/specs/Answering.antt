@@ -104,7 +104,7 @@ Served request args told0 live0 stack0 asker0 budget0 told1 live1 stack1 asker1 
     (front : FrontEnd) (real : IsFrontEnd front) (programs : List RawProgram) (a : Ask) (below : List Value) → IsAsked told0 programs live0 stack0 below asker0 args budget0 a → IsRequest request told0 programs live0 asker0 a
     → Serves front told1 programs live0.outputs live1 stack1 below asker1 budget1 e a
 
--- in some world, with a front end, and with the object and the program of a function in memory
+-- in some world, with a front end, and with what is asked of there
 pub record CanServe (told : Option Bytes) (live : Live) (stack : List Value) (asker : Asker) (budget : ℕ) (request : Request) (args : ℕ) : Type 0 where
   pub front : FrontEnd
   pub real : IsFrontEnd front

@@ -19,4 +19,6 @@ pub mod Applying
 pub mod Initialising
 pub mod LoadFaults
 pub mod Cloning
+pub mod Commanding
+pub mod CommandEfun
 pub mod ObjectLoading

@@ -1,5 +1,5 @@
 -- What a running function asks, as a question of the meaning.
-use Rattle.std.specs.Prelude.{◌≡◌, ⊤, List, Option, Some, IfSome, reverse, slice_get}
+use Rattle.std.specs.Prelude.{◌≡◌, List, Option, Some, IfSome, IsSome, reverse, slice_get}
 use Rattle.std.specs.Option.{option_map}
 use Rattle.lp_code.specs.declared.program.RawProgram.{RawProgram}
 use Rattle.lp_instr.specs.declared.efun.Efun.{Efun}
@@ -7,6 +7,7 @@ use Rattle.lp_swapfile.specs.Device.{Bytes}
 use Rattle.lp_language.specs.Course.{Ask, OfEfun, Scene}
 use Rattle.lp_world.specs.declared.frame.Frame.{Frame}
 use Rattle.lp_world.specs.declared.live.Live.{Live}
+use Rattle.lp_world.specs.Rows.{row_at}
 use Rattle.lp_targets.specs.Callees.{IsWorldOf}
 use Rattle.lp_asking.specs.declared.asker.Asker.{Asker}
 use Rattle.lp_asking.specs.declared.ending.Place.{Place}
@@ -40,7 +41,7 @@ abbrev pub IsRequest : Request → Option Bytes → List RawProgram → Live →
 IsRequest (requests.Function found) told programs live asker a = ReachesIf told programs live asker a found
 IsRequest (requests.Efun at e) told programs live asker a = AsksEfun programs asker at e a × IsWorldOf told programs live a.world
 
--- the object and the program of a function that was found are in memory
+-- the object and the program of a function that was found are in memory; the object in which an efun is called has its row
 abbrev pub IsRequestThere : Live → Request → Type 0
 IsRequestThere live (requests.Function found) = IfSome found (λ x. IsInMemory live x.callee x.code)
-IsRequestThere live (requests.Efun at e) = ⊤
+IsRequestThere live (requests.Efun at e) = IsSome (row_at live.objects at.this.0)

@@ -1,4 +1,4 @@
-//! What is asked is answered: functions run, efuns work, and files are loaded.
+//! What is asked is answered: functions run, efuns work, commands are carried out, and files are loaded.
 ghost use Rattle.std.specs.Prelude.{IfOk, IsAscii, IsSome};
 ghost use Rattle.lp_calling.specs.Jobs.{IsJobOn, IsReady};
 ghost use Rattle.lp_cloning.specs.declared.job.Cloning.TheVariants as stages;
@@ -10,6 +10,7 @@ ghost use Rattle.lp_vm.specs.declared.request.Request.TheVariants as requests;
 ghost use Rattle.lp_vm.specs.Answering.{CanServe};
 ghost use Rattle.lp_vm.specs.Causes.{Tells, read_of};
 ghost use Rattle.lp_vm.specs.Cloning.{CanClone, Clones};
+ghost use Rattle.lp_vm.specs.Commanding.{CanCarryOut, CanObey, CarriesOut, Obeys};
 ghost use Rattle.lp_vm.specs.Cycle.{Answers, Finishes, Works};
 ghost use Rattle.lp_vm.specs.Going.{CanGo};
 ghost use Rattle.lp_vm.specs.Loading.{CanLoad, CanLoadOn, Loads, LoadsOn};
@@ -17,7 +18,9 @@ ghost use Rattle.lp_vm.specs.Making.{CanMake, Makes};
 ghost use Rattle.lp_vm.specs.Working.{CanWork};
 
 use crate::cloning::{begin_clone, clone_loaded, is_clone};
-use crate::efuns::EfunBegun;
+use crate::command_efun::{begin_command_efun, end_command_efun, is_command, put_player};
+use crate::commanding::{Commanded, begin_command, feed_command, step_command};
+use crate::efuns::{EfunBegun, ending_of};
 use crate::entering::{Started, close, start};
 use crate::fault::VmFault;
 use crate::halting::{Halted, go_back, run_to_halt};
@@ -35,6 +38,7 @@ use lp_calling::job::Job;
 use lp_cloning::feed::cloned;
 use lp_cloning::job::{Begun as CloneBegun, Cloning};
 use lp_cloning::laws::law_loads_through;
+use lp_commanding::job::{Begun as Commandment, CommandBegun, Commanding};
 use lp_instr::efun::Efun;
 use lp_loading::job::{Answer, Begun, Fed, Going, LoadJob, Purpose, Step};
 use lp_reaching::reached::Reached;
@@ -148,6 +152,9 @@ fn call_efun<W: Truthful>(
 {
     if is_clone(efun) {
         return call_clone(alloc, live, swap, stack, asker, at, args, budget);
+    }
+    if is_command(efun) {
+        return call_command(alloc, live, swap, stack, asker, at, args, budget);
     }
     match start_efun(live, swap, stack, asker, at, efun, args, budget)? {
         EfunBegun::Answered(ending) => Ok(ending),
@@ -423,5 +430,103 @@ fn call_clone<W: Truthful>(
                 Ok(cloned(ending))
             }
         },
+    }
+}
+
+/// The job of a command goes on to its end. The caller is the object for which an efun asks that a line is carried out, if one does.
+#[cycle(calls)]
+fn carry_out<W: Truthful>(
+    alloc: Global,
+    live: &mut Live,
+    swap: &mut W,
+    stack: &mut Vec<Value>,
+    asker: &mut Asker,
+    caller: Option<ObjId>,
+    mut job: Commanding,
+    budget: &mut u64,
+) -> Result<Ending, VmFault>
+    requires fit { IsFit live.old stack.old.items }
+    requires can { CanCarryOut caller (W.content swap.old) live.old asker.old budget.old }
+    ensures carries { IfOk result (λ e. CarriesOut caller job (W.content swap.old) live.old stack.old.items asker.old budget.old (W.content swap.new) live.new stack.new.items asker.new budget.new e) }
+    ensures tells { Tells (W.content swap.new) (W.last swap.new) (W.read_faults swap.old) (W.read_faults swap.new) (W.write_faults swap.old) (W.write_faults swap.new)
+        (W.is_truthful swap.old) (W.is_truthful swap.new) (W.is_honest swap.old) (W.is_honest swap.new) live.new (read_of result) }
+{
+    'actions: loop {
+        match step_command(live, swap, stack, asker, caller, &mut job)? {
+            Commanded::Ended(ending) => return Ok(ending),
+            Commanded::Asks(reached) => {
+                let ending = answer(alloc, live, swap, stack, asker, reached, 1, budget)?;
+                if let Some(ending) = feed_command(&mut job, live, asker, ending) {
+                    return Ok(ending);
+                }
+            }
+        }
+    }
+}
+
+/// A living object carries out a line on behalf of who asks. The caller is the object for which an efun asks so, if one does.
+///
+/// # Errors
+/// `NoMemory`, also where the swap file gave other bytes of the same digest; `Swap` where it failed or gave bytes of another
+/// digest; `NotYet` where a function asks what is not carried out yet. Nothing is said of the state then.
+#[cycle(calls)]
+pub fn obey<W: Truthful>(
+    alloc: Global,
+    live: &mut Live,
+    swap: &mut W,
+    stack: &mut Vec<Value>,
+    asker: &mut Asker,
+    caller: Option<ObjId>,
+    holder: ObjId,
+    line: &[char],
+    budget: &mut u64,
+) -> Result<Ending, VmFault>
+    requires fit { IsFit live.old stack.old.items }
+    requires can { CanObey caller holder line.now (W.content swap.old) live.old stack.old.items asker.old budget.old }
+    ensures obeys { IfOk result (λ e. Obeys caller holder line.now (W.content swap.old) live.old stack.old.items asker.old budget.old (W.content swap.new) live.new stack.new.items asker.new budget.new e) }
+    ensures tells { Tells (W.content swap.new) (W.last swap.new) (W.read_faults swap.old) (W.read_faults swap.new) (W.write_faults swap.old) (W.write_faults swap.new)
+        (W.is_truthful swap.old) (W.is_truthful swap.new) (W.is_honest swap.old) (W.is_honest swap.new) live.new (read_of result) }
+{
+    match begin_command(live, asker, holder, line)? {
+        Commandment::Ends(v) => Ok(Ending::Value(v)),
+        Commandment::Runs(job) => carry_out(alloc, live, swap, stack, asker, caller, job, budget),
+    }
+}
+
+/// `command`, which the function at a place calls, is carried out, with so many arguments on top of the stack, which are taken.
+#[cycle(calls)]
+fn call_command<W: Truthful>(
+    alloc: Global,
+    live: &mut Live,
+    swap: &mut W,
+    stack: &mut Vec<Value>,
+    asker: &mut Asker,
+    at: Place,
+    args: u32,
+    budget: &mut u64,
+) -> Result<Ending, VmFault>
+    requires fit { IsFit live.old stack.old.items }
+    requires can { CanServe (W.content swap.old) live.old stack.old.items asker.old budget.old (requests.Efun at efuns.Command) args }
+    ensures answers { IfOk result (λ e. Answers (requests.Efun at efuns.Command) args (W.content swap.old) live.old stack.old.items asker.old budget.old (W.content swap.new) live.new stack.new.items asker.new budget.new e) }
+    ensures tells { Tells (W.content swap.new) (W.last swap.new) (W.read_faults swap.old) (W.read_faults swap.new) (W.write_faults swap.old) (W.write_faults swap.new)
+        (W.is_truthful swap.old) (W.is_truthful swap.new) (W.is_honest swap.old) (W.is_honest swap.new) live.new (read_of result) }
+{
+    match begin_command_efun(live, stack, asker, at, args, budget)? {
+        CommandBegun::Ends(answer) => Ok(ending_of(answer)),
+        CommandBegun::Runs(holder, line) => {
+            let player = put_player(asker, Some(holder));
+            let ending = obey(
+                alloc,
+                live,
+                swap,
+                stack,
+                asker,
+                Some(at.this),
+                holder,
+                line.as_slice(),
+                budget,
+            )?;
+            Ok(end_command_efun(live, asker, player, ending, budget))
+        }
     }
 }

@@ -7,6 +7,9 @@
 mod asking;
 pub mod calling;
 mod cloning;
+pub mod command;
+mod command_efun;
+mod commanding;
 pub mod cycle;
 mod efuns;
 mod entering;

@@ -18,7 +18,7 @@ use Rattle.lp_targets.proofs.Lookups.{if_ok}
 use Rattle.lp_vm.proofs.Causing.{tells_more, tells_nothing, read_exit}
 use Rattle.lp_vm.proofs.Cycling.{call_can, call_continues, call_finishes, finishes_later}
 use Rattle.lp_vm.proofs.Enterings.{goes_on_more, goes_on_same}
-use Rattle.lp_vm.proofs.Startings.{same_asker, same_later}
+use Rattle.lp_vm.proofs.Startings.{enough, same_asker, same_later}
 use Rattle.std.specs.Str.{IsAscii}
 use Rattle.lp_cells.specs.Cells.{IsThere}
 use Rattle.lp_efuns.specs.declared.caller.Turn.{Turn}
@@ -36,6 +36,15 @@ use Rattle.lp_vm.specs.Loading.{BeginsLoad, CannotPay, LeadsOn, LoadBegins, Load
 use Rattle.lp_vm.proofs.Loads.{can_load_on, load_ascii, load_can_ask, load_can_go, load_can_make, load_ended, load_ends, load_goes, load_lies, load_made, load_paid, load_unpaid, load_went, loads_later, loads_more, loads_same}
 use Rattle.lp_values.specs.declared.id.ObjId.{ObjId}
 use Rattle.lp_vm.specs.Causes.{Tells}
+use Rattle.lp_commanding.specs.declared.job.Begun.TheVariants as commands
+use Rattle.lp_commanding.specs.declared.job.CommandBegun.TheVariants as command_begun
+use Rattle.lp_commanding.specs.Beginning.{Begins as CommandBegins, IsBegunThere as CommandBegunThere}
+use Rattle.lp_commanding.specs.Efuns.{IsBegunThere as EfunBegunThere}
+use Rattle.lp_vm.specs.Answering.{IsSameAsker}
+use Rattle.lp_vm.specs.CommandEfun.{BeginsAt, with_player}
+use Rattle.lp_vm.specs.Commanding.{AsksLess, CanObey, CommandAsks, CommandContinues, CommandSteps, FeedsCommand, Obeys}
+use Rattle.lp_vm.proofs.CommandEfuns.{command_answered, command_answers, command_obeys}
+use Rattle.lp_vm.proofs.Commandings.{can_carry_on, carries_later, command_ended, commands_more, commands_same, obey_can, obey_carried, obeyed, turn_only}
 use Rattle.lp_vm.specs.Making.{MakeContinues}
 use Rattle.lp_vm.proofs.Makings.{can_make_on, make_can, make_ends, make_goes, make_lies, make_stands, makes_later, makes_more, still_there}
 use Rattle.lp_beginning.specs.Feeding as feeding
@@ -600,3 +609,149 @@ load_clone-returns-in-Make-clause-clones g t c =
     (clone_made c.args.at c.in-Make.making (g.W.SwapFile.content c.clone_loaded.new.swap) c.clone_loaded.new.live c.load.new.stack.items c.load.new.asker c.load.new.budget home (g.W.SwapFile.content c.make.new.swap) c.make.new.live c.make.new.stack.items c.make.new.asker c.make.new.budget c.in_ok-ending-in-Make.ending c.cloned.result
     c.in_ok-ending-in-Make.ensures.makes c.cloned.ensures.cloned c.cloned.ensures.same))
     c.in_ok-ending-2.ensures.home
+
+-- Commands
+
+pub carry_out-actions-init : goal.carry_out-actions-init
+carry_out-actions-init g t c = record {
+  can = c.requires.can;
+  fit = c.requires.fit;
+  lies = refl;
+  same = same_asker c.args.asker.now;
+  spends = le_refl c.args.budget.now;
+  home = home_same c.args.live.now.objects;
+  tells = tells_nothing (g.W.SwapFile.content c.args.swap.now) (g.W.SwapFile.last c.args.swap.now) (g.W.SwapFile.read_faults c.args.swap.now) (g.W.SwapFile.write_faults c.args.swap.now) (g.W.SwapFile.is_truthful c.args.swap.now) (g.W.SwapFile.is_honest c.args.swap.now) c.args.live.now;
+  goes = commands_same c.args.caller c.args.job (g.W.SwapFile.content c.args.swap.now) c.args.live.now c.args.asker.now c.args.budget.now;
+}
+
+pub carry_out-step_command-requires-clause-can : goal.carry_out-step_command-requires-clause-can
+carry_out-step_command-requires-clause-can g t c = (c.actions.budget, c.actions.invariant.can)
+
+pub carry_out-returns-in-Ended-clause-carries : goal.carry_out-returns-in-Ended-clause-carries
+carry_out-returns-in-Ended-clause-carries g t c =
+    carries_later c.args.caller c.args.job c.actions.job (g.W.SwapFile.content c.args.swap.now) (g.W.SwapFile.content c.actions.swap) (g.W.SwapFile.content c.step_command.new.swap) c.args.live.now c.actions.live c.step_command.new.live c.args.stack.now.items c.actions.stack.items c.step_command.new.stack.items
+    c.args.asker.now c.actions.asker c.step_command.new.asker c.args.budget.now c.actions.budget c.actions.budget c.in-Ended.ending c.actions.invariant.goes c.actions.invariant.lies c.actions.invariant.same c.actions.invariant.spends c.actions.invariant.home
+    (subst (λ x. CommandSteps x c.args.caller c.actions.job (g.W.SwapFile.content c.actions.swap) c.actions.live c.actions.stack.items c.actions.asker c.step_command.new.job (g.W.SwapFile.content c.step_command.new.swap) c.step_command.new.live c.step_command.new.stack.items c.step_command.new.asker) c.in-Ended.is c.in_ok-ending.ensures.steps c.actions.budget)
+
+pub carry_out-answer-requires : goal.carry_out-answer-requires
+carry_out-answer-requires g t c =
+    let k : CommandAsks c.in-Asks.reached c.args.caller c.actions.job (g.W.SwapFile.content c.actions.swap) c.actions.live c.actions.stack.items c.actions.asker c.step_command.new.job (g.W.SwapFile.content c.step_command.new.swap) c.step_command.new.live c.step_command.new.stack.items c.step_command.new.asker =
+    subst (λ x. CommandSteps x c.args.caller c.actions.job (g.W.SwapFile.content c.actions.swap) c.actions.live c.actions.stack.items c.actions.asker c.step_command.new.job (g.W.SwapFile.content c.step_command.new.swap) c.step_command.new.live c.step_command.new.stack.items c.step_command.new.asker) c.in-Asks.is c.in_ok-ending.ensures.steps in
+    let more = c.actions.invariant.spends in
+    λ κs within. (omega (arith, more), (within, (k.fit, k.can c.actions.budget c.actions.invariant.can)))
+
+pub carry_out-feed_command-requires-clause-asking : goal.carry_out-feed_command-requires-clause-asking
+carry_out-feed_command-requires-clause-asking g t c =
+    let k : CommandAsks c.in-Asks.reached c.args.caller c.actions.job (g.W.SwapFile.content c.actions.swap) c.actions.live c.actions.stack.items c.actions.asker c.step_command.new.job (g.W.SwapFile.content c.step_command.new.swap) c.step_command.new.live c.step_command.new.stack.items c.step_command.new.asker =
+    subst (λ x. CommandSteps x c.args.caller c.actions.job (g.W.SwapFile.content c.actions.swap) c.actions.live c.actions.stack.items c.actions.asker c.step_command.new.job (g.W.SwapFile.content c.step_command.new.swap) c.step_command.new.live c.step_command.new.stack.items c.step_command.new.asker) c.in-Asks.is c.in_ok-ending.ensures.steps in
+    k.asking
+
+pub carry_out-returns-in-Some-clause-carries : goal.carry_out-returns-in-Some-clause-carries
+carry_out-returns-in-Some-clause-carries g t c =
+    let k : CommandAsks c.in-Asks.reached c.args.caller c.actions.job (g.W.SwapFile.content c.actions.swap) c.actions.live c.actions.stack.items c.actions.asker c.step_command.new.job (g.W.SwapFile.content c.step_command.new.swap) c.step_command.new.live c.step_command.new.stack.items c.step_command.new.asker =
+    subst (λ x. CommandSteps x c.args.caller c.actions.job (g.W.SwapFile.content c.actions.swap) c.actions.live c.actions.stack.items c.actions.asker c.step_command.new.job (g.W.SwapFile.content c.step_command.new.swap) c.step_command.new.live c.step_command.new.stack.items c.step_command.new.asker) c.in-Asks.is c.in_ok-ending.ensures.steps in
+    let still : IsSameAsker c.answer.new.asker c.feed_command.new.asker = turn_only c.answer.new.asker c.feed_command.new.asker c.feed_command.ensures.same in
+    carries_later c.args.caller c.args.job c.actions.job (g.W.SwapFile.content c.args.swap.now) (g.W.SwapFile.content c.actions.swap) (g.W.SwapFile.content c.answer.new.swap) c.args.live.now c.actions.live c.answer.new.live c.args.stack.now.items c.actions.stack.items c.answer.new.stack.items
+    c.args.asker.now c.actions.asker c.feed_command.new.asker c.args.budget.now c.actions.budget c.answer.new.budget c.in-Some.ending c.actions.invariant.goes c.actions.invariant.lies c.actions.invariant.same c.actions.invariant.spends c.actions.invariant.home
+    (command_ended c.args.caller c.actions.job c.step_command.new.job c.feed_command.new.job c.in-Asks.reached (g.W.SwapFile.content c.actions.swap) (g.W.SwapFile.content c.step_command.new.swap) (g.W.SwapFile.content c.answer.new.swap) c.actions.live c.step_command.new.live c.answer.new.live
+    c.actions.stack.items c.step_command.new.stack.items c.answer.new.stack.items c.actions.asker c.step_command.new.asker c.answer.new.asker c.feed_command.new.asker c.actions.budget c.answer.new.budget c.in_ok-ending-in-Asks.ending c.in-Some.ending k c.in_ok-ending-in-Asks.ensures.answers
+    (subst (λ r. FeedsCommand r c.in_ok-ending-in-Asks.ending c.step_command.new.job c.answer.new.live c.answer.new.asker c.feed_command.new.job c.feed_command.new.asker) c.in-Some.is c.feed_command.ensures.feeds) still
+    (subst (λ r. IfSome r (IsEndingThere c.answer.new.live.cells)) c.in-Some.is c.feed_command.ensures.there))
+
+pub carry_out-actions-smaller : goal.carry_out-actions-smaller
+carry_out-actions-smaller g t c =
+    let k : CommandAsks c.in-Asks.reached c.args.caller c.actions.job (g.W.SwapFile.content c.actions.swap) c.actions.live c.actions.stack.items c.actions.asker c.step_command.new.job (g.W.SwapFile.content c.step_command.new.swap) c.step_command.new.live c.step_command.new.stack.items c.step_command.new.asker =
+    subst (λ x. CommandSteps x c.args.caller c.actions.job (g.W.SwapFile.content c.actions.swap) c.actions.live c.actions.stack.items c.actions.asker c.step_command.new.job (g.W.SwapFile.content c.step_command.new.swap) c.step_command.new.live c.step_command.new.stack.items c.step_command.new.asker) c.in-Asks.is c.in_ok-ending.ensures.steps in
+    let less : AsksLess None c.step_command.new.job c.feed_command.new.job = subst (λ r. AsksLess r c.step_command.new.job c.feed_command.new.job) c.in_default.is c.feed_command.ensures.less in
+    let left = k.left in
+    omega (arith, less, left)
+
+pub carry_out-actions-preserved : goal.carry_out-actions-preserved
+carry_out-actions-preserved g t c =
+    let k : CommandAsks c.in-Asks.reached c.args.caller c.actions.job (g.W.SwapFile.content c.actions.swap) c.actions.live c.actions.stack.items c.actions.asker c.step_command.new.job (g.W.SwapFile.content c.step_command.new.swap) c.step_command.new.live c.step_command.new.stack.items c.step_command.new.asker =
+    subst (λ x. CommandSteps x c.args.caller c.actions.job (g.W.SwapFile.content c.actions.swap) c.actions.live c.actions.stack.items c.actions.asker c.step_command.new.job (g.W.SwapFile.content c.step_command.new.swap) c.step_command.new.live c.step_command.new.stack.items c.step_command.new.asker) c.in-Asks.is c.in_ok-ending.ensures.steps in
+    let still : IsSameAsker c.answer.new.asker c.feed_command.new.asker = turn_only c.answer.new.asker c.feed_command.new.asker c.feed_command.ensures.same in
+    let more : CommandContinues c.args.caller c.actions.job (g.W.SwapFile.content c.actions.swap) c.actions.live c.actions.asker c.actions.budget c.feed_command.new.job (g.W.SwapFile.content c.answer.new.swap) c.answer.new.live c.feed_command.new.asker c.answer.new.budget =
+    k.turns c.feed_command.new.job (g.W.SwapFile.content c.answer.new.swap) c.answer.new.live c.answer.new.stack.items c.answer.new.asker c.feed_command.new.asker c.actions.budget c.answer.new.budget c.in_ok-ending-in-Asks.ending None c.in_ok-ending-in-Asks.ensures.answers
+    (subst (λ r. FeedsCommand r c.in_ok-ending-in-Asks.ending c.step_command.new.job c.answer.new.live c.answer.new.asker c.feed_command.new.job c.feed_command.new.asker) c.in_default.is c.feed_command.ensures.feeds) still in
+    record {
+      can = can_carry_on c.args.caller c.actions.job c.feed_command.new.job (g.W.SwapFile.content c.actions.swap) (g.W.SwapFile.content c.answer.new.swap) c.actions.live c.answer.new.live c.actions.asker c.feed_command.new.asker c.actions.budget c.answer.new.budget c.actions.invariant.can more;
+      fit = c.in_ok-ending-in-Asks.ensures.answers.fit;
+      lies = k.lies (g.W.SwapFile.content c.answer.new.swap) c.answer.new.live c.answer.new.stack.items c.answer.new.asker c.actions.budget c.answer.new.budget c.in_ok-ending-in-Asks.ending c.actions.invariant.can c.in_ok-ending-in-Asks.ensures.answers ∙ c.actions.invariant.lies;
+      same = same_later c.args.asker.now c.actions.asker c.feed_command.new.asker c.actions.invariant.same (same_later c.actions.asker c.answer.new.asker c.feed_command.new.asker (same_later c.actions.asker c.step_command.new.asker c.answer.new.asker k.same c.in_ok-ending-in-Asks.ensures.answers.same) still);
+      spends = le_trans c.in_ok-ending-in-Asks.ensures.answers.spends c.actions.invariant.spends;
+      home = home_later c.args.live.now.objects c.actions.live.objects c.answer.new.live.objects c.actions.invariant.home (home_later c.actions.live.objects c.step_command.new.live.objects c.answer.new.live.objects k.home c.in_ok-ending-in-Asks.ensures.answers.home);
+      tells = tells_more c.actions.invariant.tells (tells_more c.in_ok-ending.ensures.tells c.in_ok-ending-in-Asks.ensures.tells);
+      goes = commands_more c.args.caller c.args.job c.actions.job c.feed_command.new.job (g.W.SwapFile.content c.args.swap.now) (g.W.SwapFile.content c.actions.swap) (g.W.SwapFile.content c.answer.new.swap) c.args.live.now c.actions.live c.answer.new.live c.args.asker.now c.actions.asker c.feed_command.new.asker
+          c.args.budget.now c.actions.budget c.answer.new.budget c.actions.invariant.goes more;
+    }
+
+-- The whole command
+
+pub obey-returns-in-Ends-clause-obeys : goal.obey-returns-in-Ends-clause-obeys
+obey-returns-in-Ends-clause-obeys g t c =
+    obeyed c.args.caller c.args.holder c.args.line.now (g.W.SwapFile.content c.args.swap.now) c.args.live.now c.args.stack.now.items c.args.asker.now c.begin_command.new.asker c.args.budget.now (turn_only c.args.asker.now c.begin_command.new.asker c.in_ok-v.ensures.same) c.in-Ends.v
+    (subst (λ r. CommandBegins r c.args.holder c.args.line.now c.args.live.now c.args.asker.now.turn c.begin_command.new.asker.turn) c.in-Ends.is c.in_ok-v.ensures.begins) c.requires.fit
+    (subst (CommandBegunThere c.args.live.now.cells) c.in-Ends.is (c.in_ok-v.ensures.there c.args.live.now.cells))
+
+pub obey-carry_out-requires : goal.obey-carry_out-requires
+obey-carry_out-requires g t c =
+    let begins : CommandBegins (commands.Runs c.in-Runs.job) c.args.holder c.args.line.now c.args.live.now c.args.asker.now.turn c.begin_command.new.asker.turn = subst (λ r. CommandBegins r c.args.holder c.args.line.now c.args.live.now c.args.asker.now.turn c.begin_command.new.asker.turn) c.in-Runs.is c.in_ok-v.ensures.begins in
+    λ κs within. (
+      omega arith,
+      (
+        within,
+        (
+          c.requires.fit,
+          obey_can c.args.caller c.args.holder c.args.line.now (g.W.SwapFile.content c.args.swap.now) c.args.live.now c.args.stack.now.items c.args.asker.now c.begin_command.new.asker c.args.budget.now (turn_only c.args.asker.now c.begin_command.new.asker c.in_ok-v.ensures.same) c.in-Runs.job begins c.requires.can,
+        ),
+      ),
+    )
+
+pub obey-returns-in-Runs-clause-obeys : goal.obey-returns-in-Runs-clause-obeys
+obey-returns-in-Runs-clause-obeys g t c =
+    let begins : CommandBegins (commands.Runs c.in-Runs.job) c.args.holder c.args.line.now c.args.live.now c.args.asker.now.turn c.begin_command.new.asker.turn = subst (λ r. CommandBegins r c.args.holder c.args.line.now c.args.live.now c.args.asker.now.turn c.begin_command.new.asker.turn) c.in-Runs.is c.in_ok-v.ensures.begins in
+    if_ok c.carry_out.result
+    (λ e h. obey_carried c.args.caller c.args.holder c.args.line.now (g.W.SwapFile.content c.args.swap.now) c.args.live.now c.args.stack.now.items c.args.asker.now c.begin_command.new.asker c.args.budget.now (turn_only c.args.asker.now c.begin_command.new.asker c.in_ok-v.ensures.same) c.in-Runs.job begins
+    (g.W.SwapFile.content c.carry_out.new.swap) c.carry_out.new.live c.carry_out.new.stack.items c.carry_out.new.asker c.carry_out.new.budget e h)
+    c.carry_out.ensures.carries
+
+-- The efun
+
+pub call_command-begin_command_efun-requires-clause-args : goal.call_command-begin_command_efun-requires-clause-args
+call_command-begin_command_efun-requires-clause-args g t c = enough c.args.live.now c.args.stack.now.items c.args.asker.now c.args.budget.now c.args.args (requests.Efun c.args.at efuns.Command) (g.W.SwapFile.content c.args.swap.now, c.requires.can)
+
+pub call_command-returns-in-Ends-clause-answers : goal.call_command-returns-in-Ends-clause-answers
+call_command-returns-in-Ends-clause-answers g t c =
+    let begins : BeginsAt (command_begun.Ends c.in-Ends.answer) c.args.at c.args.asker.now c.args.live.now c.args.stack.now.items c.args.args c.args.budget.now c.begin_command_efun.new.stack.items c.begin_command_efun.new.budget = subst (λ r. BeginsAt r c.args.at c.args.asker.now c.args.live.now c.args.stack.now.items c.args.args c.args.budget.now c.begin_command_efun.new.stack.items c.begin_command_efun.new.budget) c.in-Ends.is c.in_ok-answer.ensures.begins in
+    let there : IsEndingThere c.args.live.now.cells c.ending_of.result = c.ending_of.ensures.there c.args.live.now.cells (subst (EfunBegunThere c.args.live.now.cells) c.in-Ends.is c.in_ok-answer.ensures.there) in
+    subst (λ e. Answers (requests.Efun c.args.at efuns.Command) c.args.args (g.W.SwapFile.content c.args.swap.now) c.args.live.now c.args.stack.now.items c.args.asker.now c.args.budget.now (g.W.SwapFile.content c.args.swap.now) c.args.live.now c.begin_command_efun.new.stack.items c.args.asker.now c.begin_command_efun.new.budget e) (sym c.ending_of.ensures.ending)
+    (command_answered c.args.at c.args.args c.args.live.now c.args.stack.now.items c.begin_command_efun.new.stack.items c.args.asker.now c.args.budget.now c.begin_command_efun.new.budget (g.W.SwapFile.content c.args.swap.now) c.in-Ends.answer begins c.in_ok-answer.ensures.fit
+    (subst (IsEndingThere c.args.live.now.cells) c.ending_of.ensures.ending there) c.requires.can)
+
+pub call_command-obey-requires : goal.call_command-obey-requires
+call_command-obey-requires g t c =
+    let begins : BeginsAt (command_begun.Runs c.in-Runs.holder c.in-Runs.line) c.args.at c.args.asker.now c.args.live.now c.args.stack.now.items c.args.args c.args.budget.now c.begin_command_efun.new.stack.items c.begin_command_efun.new.budget = subst (λ r. BeginsAt r c.args.at c.args.asker.now c.args.live.now c.args.stack.now.items c.args.args c.args.budget.now c.begin_command_efun.new.stack.items c.begin_command_efun.new.budget) c.in-Runs.is c.in_ok-answer.ensures.begins in
+    let less = c.in_ok-answer.ensures.spends in
+    λ κs within. (
+      omega (arith, less),
+      (
+        within,
+        (
+          c.in_ok-answer.ensures.fit,
+          subst (λ n. CanObey (Some c.args.at.this) c.in-Runs.holder n (g.W.SwapFile.content c.args.swap.now) c.args.live.now c.begin_command_efun.new.stack.items c.put_player.new.asker c.begin_command_efun.new.budget) (sym c.as_slice.ensures)
+              (subst (λ a. CanObey (Some c.args.at.this) c.in-Runs.holder c.in-Runs.line (g.W.SwapFile.content c.args.swap.now) c.args.live.now c.begin_command_efun.new.stack.items a c.begin_command_efun.new.budget) (sym c.put_player.ensures.put)
+              (command_obeys c.args.at c.args.args c.args.live.now c.args.stack.now.items c.begin_command_efun.new.stack.items c.args.asker.now c.args.budget.now c.begin_command_efun.new.budget c.in-Runs.holder c.in-Runs.line begins (g.W.SwapFile.content c.args.swap.now) c.requires.can)),
+        ),
+      ),
+    )
+
+pub call_command-returns-in_ok-ending-in-Runs-clause-answers : goal.call_command-returns-in_ok-ending-in-Runs-clause-answers
+call_command-returns-in_ok-ending-in-Runs-clause-answers g t c =
+    let begins : BeginsAt (command_begun.Runs c.in-Runs.holder c.in-Runs.line) c.args.at c.args.asker.now c.args.live.now c.args.stack.now.items c.args.args c.args.budget.now c.begin_command_efun.new.stack.items c.begin_command_efun.new.budget = subst (λ r. BeginsAt r c.args.at c.args.asker.now c.args.live.now c.args.stack.now.items c.args.args c.args.budget.now c.begin_command_efun.new.stack.items c.begin_command_efun.new.budget) c.in-Runs.is c.in_ok-answer.ensures.begins in
+    let obeys : Obeys (Some c.args.at.this) c.in-Runs.holder c.in-Runs.line (g.W.SwapFile.content c.args.swap.now) c.args.live.now c.begin_command_efun.new.stack.items (with_player (Some c.in-Runs.holder) c.args.asker.now) c.begin_command_efun.new.budget (g.W.SwapFile.content c.obey.new.swap) c.obey.new.live c.obey.new.stack.items c.obey.new.asker c.obey.new.budget c.in_ok-ending-in-Runs.ending =
+    subst (λ a. Obeys (Some c.args.at.this) c.in-Runs.holder c.in-Runs.line (g.W.SwapFile.content c.args.swap.now) c.args.live.now c.begin_command_efun.new.stack.items a c.begin_command_efun.new.budget (g.W.SwapFile.content c.obey.new.swap) c.obey.new.live c.obey.new.stack.items c.obey.new.asker c.obey.new.budget c.in_ok-ending-in-Runs.ending) c.put_player.ensures.put
+    (subst (λ n. Obeys (Some c.args.at.this) c.in-Runs.holder n (g.W.SwapFile.content c.args.swap.now) c.args.live.now c.begin_command_efun.new.stack.items c.put_player.new.asker c.begin_command_efun.new.budget (g.W.SwapFile.content c.obey.new.swap) c.obey.new.live c.obey.new.stack.items c.obey.new.asker c.obey.new.budget c.in_ok-ending-in-Runs.ending) c.as_slice.ensures c.in_ok-ending-in-Runs.ensures.obeys) in
+    subst (λ a. Answers (requests.Efun c.args.at efuns.Command) c.args.args (g.W.SwapFile.content c.args.swap.now) c.args.live.now c.args.stack.now.items c.args.asker.now c.args.budget.now (g.W.SwapFile.content c.obey.new.swap) c.obey.new.live c.obey.new.stack.items a c.end_command_efun.new.budget c.end_command_efun.result) (sym (c.end_command_efun.ensures.back ∙ ap (λ p. with_player p c.obey.new.asker) c.put_player.ensures.was))
+    (command_answers c.args.at c.args.args c.args.live.now c.args.stack.now.items c.begin_command_efun.new.stack.items c.args.asker.now c.args.budget.now c.begin_command_efun.new.budget c.in-Runs.holder c.in-Runs.line begins (g.W.SwapFile.content c.args.swap.now) (g.W.SwapFile.content c.obey.new.swap) c.obey.new.live c.obey.new.stack.items c.obey.new.asker c.obey.new.budget c.end_command_efun.new.budget c.in_ok-ending-in-Runs.ending c.end_command_efun.result
+    obeys c.end_command_efun.ensures.ends c.in_ok-answer.ensures.spends c.end_command_efun.ensures.spends c.end_command_efun.ensures.there)

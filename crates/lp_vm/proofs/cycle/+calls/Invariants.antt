@@ -5,11 +5,13 @@ use Rattle.lp_step.specs.Steps.{IsFit, KeepsVariables}
 use Rattle.lp_run.specs.Runs.{left_of}
 use Rattle.lp_beginning.specs.Jobs as making
 use Rattle.lp_calling.specs.Jobs.{IsJobOn, IsReady, questions_left}
+use Rattle.lp_commanding.specs.Jobs as commands
 use Rattle.lp_loading.specs.declared.job.Going.TheVariants as goings
 use Rattle.lp_loading.specs.Loads.{turns_left}
 use Rattle.lp_world.specs.Rows.{variables_at}
 use Rattle.lp_vm.specs.Answering.{IsSameAsker}
 use Rattle.lp_vm.specs.Causes.{Tells}
+use Rattle.lp_vm.specs.Commanding.{CanCarryOut, CommandContinues}
 use Rattle.lp_vm.specs.Going.{CanGo, Continues}
 use Rattle.lp_vm.specs.Loading.{CanLoadOn, LoadContinues}
 use Rattle.lp_vm.specs.Making.{CanMake, MakeContinues}
@@ -26,6 +28,9 @@ decreases-load g l = 7 * l.budget.now
 abbrev pub decreases-make : goal.decreases-make
 decreases-make g l = 7 * l.budget.now + 1
 
+abbrev pub decreases-carry_out : goal.decreases-carry_out
+decreases-carry_out g l = 7 * l.budget.now + 1
+
 abbrev pub decreases-work : goal.decreases-work
 decreases-work g l = 7 * l.budget.now + 1
 
@@ -34,6 +39,12 @@ decreases-load_on g l = 7 * l.budget.now + 2
 
 abbrev pub decreases-load_clone : goal.decreases-load_clone
 decreases-load_clone g l = 7 * l.budget.now + 2
+
+abbrev pub decreases-obey : goal.decreases-obey
+decreases-obey g l = 7 * l.budget.now + 2
+
+abbrev pub decreases-call_command : goal.decreases-call_command
+decreases-call_command g l = 7 * l.budget.now + 3
 
 abbrev pub decreases-call_clone : goal.decreases-call_clone
 decreases-call_clone g l = 7 * l.budget.now + 3
@@ -94,6 +105,22 @@ invariant-make-parts g l = record {
 
 abbrev pub decreases-make-parts : goal.decreases-make-parts
 decreases-make-parts g l = making.questions_left l.making
+
+-- of the rest of a command
+abbrev pub invariant-carry_out-actions : goal.invariant-carry_out-actions
+invariant-carry_out-actions g l = record {
+  can : CanCarryOut l.fn.caller (g.W.SwapFile.content l.swap) l.live l.asker l.budget;
+  fit : IsFit l.live l.stack.items;
+  lies : l.stack.items ≡ l.fn.stack.items;
+  same : IsSameAsker l.fn.asker l.asker;
+  spends : l.budget ≤ l.fn.budget;
+  home : KeepsVariables l.fn.live.objects l.live.objects;
+  tells : Tells (g.W.SwapFile.content l.swap) (g.W.SwapFile.last l.swap) (g.W.SwapFile.read_faults l.fn.swap) (g.W.SwapFile.read_faults l.swap) (g.W.SwapFile.write_faults l.fn.swap) (g.W.SwapFile.write_faults l.swap) (g.W.SwapFile.is_truthful l.fn.swap) (g.W.SwapFile.is_truthful l.swap) (g.W.SwapFile.is_honest l.fn.swap) (g.W.SwapFile.is_honest l.swap) l.live (Ok tt);
+  goes : CommandContinues l.fn.caller l.fn.job (g.W.SwapFile.content l.fn.swap) l.fn.live l.fn.asker l.fn.budget l.job (g.W.SwapFile.content l.swap) l.live l.asker l.budget;
+}
+
+abbrev pub decreases-carry_out-actions : goal.decreases-carry_out-actions
+decreases-carry_out-actions g l = commands.questions_left l.job
 
 -- and of the rest of a load
 abbrev pub invariant-load_on-loads : goal.invariant-load_on-loads

@@ -7,7 +7,7 @@ use Rattle.lp_asking.specs.Stopping.{Advances, IsHaltThere}
 use Rattle.lp_vm.specs.declared.request.Request.TheVariants as requests
 use Rattle.lp_vm.specs.Requests.{place_in}
 use Rattle.lp_vm.specs.Turns.{Calls}
-use Rattle.lp_vm.proofs.Askings.{asks_back, asks_function, asks_other, call_there, calls, can_ask, ended_finishes, halt_runs, object_asks}
+use Rattle.lp_vm.proofs.Askings.{asks_back, asks_function, asks_other, call_there, calls, can_ask, ended_finishes, halt_runs, object_asks, object_back}
 use Rattle.lp_vm.proofs.halting.run_to_halt.Goals as goal
 
 pub advance-requires : goal.advance-requires
@@ -40,7 +40,10 @@ returns-in-Back-clause-halts g c =
     c.in-Back.call.args (requests.Efun (place_in c.advance.new.frame) c.in-Back.call.efun)
     (asks_back (g.W.SwapFile.content c.args.swap.now) c.args.live.now c.advance.new.live c.args.stack.now.items c.advance.new.stack.items c.args.frame.now c.advance.new.frame c.args.budget.now c.advance.new.budget c.in-Back.call
     (subst (λ h. Advances h c.args.live.now c.args.stack.now.items c.args.frame.now c.args.budget.now c.advance.new.live c.advance.new.stack.items c.advance.new.frame c.advance.new.budget) c.in-Back.is c.in_ok-ending.ensures.advances))
-    refl tt c.in_ok-ending.ensures.home (home_same c.advance.new.live.objects) c.in_ok-ending.ensures.spends c.in_ok-ending.ensures.fit)
+    refl
+    (object_back (g.W.SwapFile.content c.args.swap.now) c.args.live.now c.advance.new.live c.args.stack.now.items c.advance.new.stack.items c.args.frame.now c.advance.new.frame c.args.budget.now c.advance.new.budget c.in-Back.call c.requires
+    (subst (λ h. Advances h c.args.live.now c.args.stack.now.items c.args.frame.now c.args.budget.now c.advance.new.live c.advance.new.stack.items c.advance.new.frame c.advance.new.budget) c.in-Back.is c.in_ok-ending.ensures.advances))
+    c.in_ok-ending.ensures.home (home_same c.advance.new.live.objects) c.in_ok-ending.ensures.spends c.in_ok-ending.ensures.fit)
 
 pub lay_below-requires-clause-arguments : goal.lay_below-requires-clause-arguments
 lay_below-requires-clause-arguments g c =
@@ -60,7 +63,10 @@ returns-in_ok-args-in-None-clause-halts g c =
     (asks_other (g.W.SwapFile.content c.args.swap.now) c.args.live.now c.advance.new.live c.args.stack.now.items c.advance.new.stack.items c.lay_below.new.stack.items c.args.frame.now c.advance.new.frame c.args.budget.now c.advance.new.budget c.in_ok-args-in-None.args c.in-Call.call
     (subst (λ h. Advances h c.args.live.now c.args.stack.now.items c.args.frame.now c.args.budget.now c.advance.new.live c.advance.new.stack.items c.advance.new.frame c.advance.new.budget) c.in-Call.is c.in_ok-ending.ensures.advances)
     (sym c.question_of.ensures ∙ c.in-None.is) c.in_ok-args-in-None.ensures.lays)
-    refl tt c.in_ok-ending.ensures.home (home_same c.advance.new.live.objects) c.in_ok-ending.ensures.spends (c.in_ok-args-in-None.ensures.keeps c.advance.new.live c.in_ok-ending.ensures.fit))
+    refl
+    (object_asks (g.W.SwapFile.content c.args.swap.now) c.args.live.now c.advance.new.live c.args.stack.now.items c.advance.new.stack.items c.args.frame.now c.advance.new.frame c.args.budget.now c.advance.new.budget c.in-Call.call c.requires
+    (subst (λ h. Advances h c.args.live.now c.args.stack.now.items c.args.frame.now c.args.budget.now c.advance.new.live c.advance.new.stack.items c.advance.new.frame c.advance.new.budget) c.in-Call.is c.in_ok-ending.ensures.advances))
+    c.in_ok-ending.ensures.home (home_same c.advance.new.live.objects) c.in_ok-ending.ensures.spends (c.in_ok-args-in-None.ensures.keeps c.advance.new.live c.in_ok-ending.ensures.fit))
 
 pub returns-in_ok-reached-in-Some-clause-halts : goal.returns-in_ok-reached-in-Some-clause-halts
 returns-in_ok-reached-in-Some-clause-halts g c =

@@ -1,5 +1,5 @@
 use Rattle.lp_targets.proofs.Memory.{brings_err, brings_no_memory}
-use Rattle.lp_vm.proofs.looking.exists.Goals as goal
+use Rattle.lp_vm.proofs.looking.called.Goals as goal
 
 pub returns-else-tells_truth-clause-brings : goal.returns-else-tells_truth-clause-brings
 returns-else-tells_truth-clause-brings g c = brings_no_memory c.in-Ok.ensures.brings
