@@ -1,6 +1,6 @@
 pub mod Carrying
-pub mod Commands
 pub mod Turning
 pub mod Starting
 pub mod Knowing
 pub mod Driving
+pub mod Tidying

@@ -6,7 +6,7 @@
 #[cfg(test)]
 mod checks;
 #[cfg(test)]
-mod device;
+mod commands;
 #[cfg(test)]
 mod families;
 #[cfg(test)]
@@ -21,5 +21,9 @@ mod runs;
 mod scripts;
 #[cfg(test)]
 mod simuls;
+#[cfg(test)]
+mod swaps;
+#[cfg(test)]
+mod ticks;
 #[cfg(test)]
 mod words;

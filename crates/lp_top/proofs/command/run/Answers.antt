@@ -11,7 +11,7 @@ either_not (inl a) f g = f a
 either_not (inr b) f g = g b
 
 pub returns-in-Ok-Replay-clause-complete : goal.returns-in-Ok-Replay-clause-complete
-returns-in-Ok-Replay-clause-complete g c = λ swap_time b xs words told short script master honest true reads source sink zeros.
+returns-in-Ok-Replay-clause-complete g c = λ swap_time report b xs words told short script master honest true reads source sink zeros.
     let r = c.replay.ensures.replays b told in
     completes c.one_spelling.ensures c.one_end_of_the_start.ensures c.law_there_is_one.ensures b r.read xs c.replay.result short script master
     (λ e. source (c.replay.ensures.input_cause e)) (λ e. either_not (c.replay.ensures.output_cause e) sink zeros) (never-blamed c.replay.result _ _ _ _ _ _ _ _ c.replay.ensures.swap honest true reads) r.ends
@@ -28,7 +28,7 @@ returns-in-Ok-Check-clause-complete_check g c = λ simul b xs words told short s
     completes_check c.one_spelling.ensures b r.read xs c.check.result short script (λ e. source (c.check.ensures.input_cause e)) (λ e. either_not (c.check.ensures.output_cause e) sink zeros) r.ends
 
 pub returns-in-Err-NoMemory-clause-replays : goal.returns-in-Err-NoMemory-clause-replays
-returns-in-Err-NoMemory-clause-replays g c = λ swap_time named b told. replays_unread b _
+returns-in-Err-NoMemory-clause-replays g c = λ swap_time report named b told. replays_unread report b _
 
 pub returns-in-Err-NoMemory-clause-checks : goal.returns-in-Err-NoMemory-clause-checks
 returns-in-Err-NoMemory-clause-checks g c = λ simul named b told. checks_unread simul b _
