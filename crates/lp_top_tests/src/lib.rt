@@ -6,8 +6,6 @@
 #[cfg(test)]
 mod checks;
 #[cfg(test)]
-mod commands;
-#[cfg(test)]
 mod families;
 #[cfg(test)]
 mod makes;
@@ -27,3 +25,15 @@ mod swaps;
 mod ticks;
 #[cfg(test)]
 mod words;
+
+// Games: small mudlibs with their events and whole transcripts.
+#[cfg(test)]
+mod accounts;
+#[cfg(test)]
+mod commands;
+#[cfg(test)]
+mod games;
+#[cfg(test)]
+mod moments;
+#[cfg(test)]
+mod swapping;
