@@ -10,3 +10,5 @@ pub mod Writing
 pub mod Beginnings
 pub mod Taking
 pub mod Waiting
+pub mod Leaving
+pub mod Deeds

@@ -1,6 +1,10 @@
 pub mod Targets
+pub mod Questions
 pub mod Leave
 pub mod Jobs
 pub mod Beginning
+pub mod Entering
+pub mod Audiences
+pub mod Searches
 pub mod Going
 pub mod Leaving
