@@ -21,7 +21,7 @@ use Rattle.lp_language.specs.Operations.{cells_of, is_false, living}
 use Rattle.lp_meaning.specs.Askers.{Asker, ask_value}
 use Rattle.lp_meaning.specs.CallingEfuns.{may_begin, one_value, with_shadow}
 use Rattle.lp_meaning.specs.EfunArguments.{opened_args, text_arg}
-use Rattle.lp_meaning.specs.FileEfuns.{files, is_path, path_answered, with_leave, written_to}
+use Rattle.lp_meaning.specs.FileEfuns.{files, is_path, path_answered, path_if, with_leave, written_to}
 use Rattle.lp_meaning.specs.FileLoads.{live_object, load_value, master_call, object_of_value}
 use Rattle.lp_meaning.specs.Questions.{acting}
 use Rattle.lp_meaning.specs.WorldSteps.{master_name}
@@ -48,7 +48,7 @@ use Rattle.lp_calling.specs.Beginning.{Starts}
 use Rattle.lp_calling.specs.Going.{StageGoes, StageTakes}
 use Rattle.lp_calling.specs.Jobs.{IsStageOn, IsStageReady, ended, stage_behind, stage_course, stage_rest}
 use Rattle.lp_calling.specs.Leave.{IsWish, asked_in, asker_value, file_deed, granted, leave_function, wish_arguments, wish_function}
-use Rattle.lp_calling.specs.Leaving.{AsksLeave, GrantedAs, IsDeedOf, IsLiveObject, IsMaster, master_stage, where_live}
+use Rattle.lp_calling.specs.Leaving.{AsksLeave, AsksToShadow, GrantedAs, IsDeedOf, IsLiveObject, IsMaster, master_stage, where_live}
 use Rattle.lp_calling.specs.Questions.{applied_name}
 use Rattle.lp_calling.proofs.Calling.{FoundBy}
 use Rattle.lp_calling.proofs.Courses.{then_on}
@@ -137,6 +137,11 @@ leave_asks live this d path m p is e g turn b by c s own t h =
 pub refused_asks : (live : Live) (this : ObjId) (d : FileDeed) (path : List ℕ) → is_path path ≡ false → AsksLeave live this d path (stages.File d None)
 refused_asks live this d path p e g turn b by c s own t h =
     ap (λ x. and_then (if x then and_then (master_call by (leave_function d) (values.Str path ∷ zero_value ∷ values.Str (efun_name e) ∷ object_value s.world (Some c.this) ∷ []) s) (granted (wishes.File d path None)) else file_deed d None s) (ended e)) p
+
+pub shadow_asks : (live : Live) (this o : ObjId) (m : Option ObjId) → IsMaster live m → AsksToShadow live this o (master_stage m (wishes.Shadow this o))
+shadow_asks live this o m is g turn b by s own h =
+    ap (λ k. and_then (and_then k (granted (wishes.Shadow this o))) (ended efuns.Shadow)) (master_called by (codes "query_allow_shadow") (values.Obj o ∷ []) s m (is g turn b s h))
+    ∙ staged efuns.Shadow (wishes.Shadow this o) own by s m
 
 pub master_on : (m : Option ObjId) (w : Wish) (low n : ℕ) → IsWish w → low ≤ n → IsStageOn (master_stage m w) low n
 master_on None w low n i l = (l, i)
@@ -289,3 +294,18 @@ shadow_denied l this o v z e own by s i = ap (λ b. and_then (shadow_by this o b
 
 pub leave_takes : (m : ObjId) (w : Wish) (v : Value) (l : ObjId → Bool) (below : ℕ) (stack : List Value) (stage : Stage) → GrantedAs l w v stage → StageTakes (stages.Master m w) v l below stack stage stack
 leave_takes m w v l below stack stage h low own q k = record { own = own; stack = q; course = λ e by s i. h e own by s i }
+
+-- whether a text is a path, by the path that it is
+pub is_some_path : (t q : List ℕ) → Some q ≡ path_if t → true ≡ is_path t
+is_some_path t q e = by (is_path t) e
+  where
+    by : (b : Bool) → Some q ≡ (if b then Some t else None) → true ≡ b
+    by true e = refl
+    by false e = cc
+
+pub is_no_path : (t : List ℕ) → None ≡ path_if t → false ≡ is_path t
+is_no_path t e = by (is_path t) e
+  where
+    by : (b : Bool) → None ≡ (if b then Some t else None) → false ≡ b
+    by true e = cc
+    by false e = refl

@@ -1,28 +1,25 @@
 -- How the master is asked for leave, on the live state.
-use Rattle.std.specs.Prelude.{◌≡◌, ◌++◌, ℕ, List, Bool, Option, Some, None, Result, Err, if◌then◌else◌}
+use Rattle.std.specs.Prelude.{◌≡◌, ℕ, List, [], ◌∷◌, Bool, Option, Some, None, codes, if◌then◌else◌}
 use Rattle.lp_values.specs.declared.id.ObjId.{ObjId}
 use Rattle.lp_values.specs.declared.value.Value.{Value}
+use Rattle.lp_values.specs.declared.value.Value.TheVariants.{Obj}
 use Rattle.lp_instr.specs.declared.efun.Efun.{Efun}
+use Rattle.lp_instr.specs.declared.efun.Efun.TheVariants as efuns
 use Rattle.lp_language.specs.World.{World, is_live, object_named}
-use Rattle.lp_language.specs.Course.{Course, Scene, State, and_then, zero_value}
+use Rattle.lp_language.specs.Course.{Scene, State, and_then}
 use Rattle.lp_meaning.specs.Askers.{Asker}
+use Rattle.lp_meaning.specs.CallingEfuns.{shadow_answered}
 use Rattle.lp_meaning.specs.EfunArguments.{opened_args}
 use Rattle.lp_meaning.specs.FileEfuns.{files, with_leave}
-use Rattle.lp_meaning.specs.FileLoads.{live_object}
+use Rattle.lp_meaning.specs.FileLoads.{live_object, master_call}
 use Rattle.lp_meaning.specs.Questions.{OfFiles, group}
 use Rattle.lp_meaning.specs.WorldSteps.{master_name}
 use Rattle.lp_world.specs.declared.live.Live.{Live}
-use Rattle.lp_efuns.specs.declared.answer.Answer.{Answer}
-use Rattle.lp_efuns.specs.declared.answer.Did.TheVariants as did
 use Rattle.lp_efuns.specs.declared.caller.Caller.{Caller}
 use Rattle.lp_efuns.specs.declared.caller.Turn.{Turn}
-use Rattle.lp_efuns.specs.Plain.{Finishes}
 use Rattle.lp_efuns.specs.Turns.{At, IsScene, Setting}
-use Rattle.lp_world.specs.Rows.{live_in}
 use Rattle.lp_calling.specs.declared.job.Stage.{Stage}
 use Rattle.lp_calling.specs.declared.job.Stage.TheVariants as stages
-use Rattle.lp_calling.specs.declared.job.Step.{Step}
-use Rattle.lp_calling.specs.declared.job.Step.TheVariants as steps
 use Rattle.lp_calling.specs.declared.wish.FileDeed.{FileDeed}
 use Rattle.lp_calling.specs.declared.wish.Wish.{Wish}
 use Rattle.lp_calling.specs.Jobs.{ended, stage_course}
@@ -54,6 +51,12 @@ AsksLeave live this d path stage =
     (e : Efun) (g : Setting) (turn : Turn) (budget : ℕ) (by : Asker) (c : Scene) (s : State) (own : List Value) → c.this ≡ this → At g live turn budget s
     → and_then (with_leave by c (leave_function d) e path s (file_deed d)) (ended e) ≡ stage_course e stage own by s
 
+-- In each such state a job of `shadow` asks the master so whether an object may shadow another one.
+abbrev pub AsksToShadow : Live → ObjId → ObjId → Stage → Type 0
+AsksToShadow live this o stage =
+    (g : Setting) (turn : Turn) (budget : ℕ) (by : Asker) (s : State) (own : List Value) → At g live turn budget s
+    → and_then (and_then (master_call by (codes "query_allow_shadow") (Obj o ∷ []) s) (λ v s. shadow_answered this o v s)) (ended efuns.Shadow) ≡ stage_course efuns.Shadow stage own by s
+
 -- Answers
 
 -- where these objects are live, a value is this live object, or none
@@ -63,11 +66,3 @@ IsLiveObject live v m = (w : World) → is_live w ≡ live → live_object w v �
 -- the stage behind an answer of the master, where these objects are live
 abbrev pub GrantedAs : (ObjId → Bool) → Wish → Value → Stage → Type 0
 GrantedAs live w v stage = (e : Efun) (own : List Value) (by : Asker) (s : State) → is_live s.world ≡ live → and_then (granted w v s) (ended e) ≡ stage_course e stage own by s
-
--- Ends
-
--- a job ends with this value, once the price of that is paid
-pub record EndsWithValue (r : Step) (e : Efun) (v : Value) (live : Live) (old new : ℕ) : Type 0 where
-  pub answer : Answer
-  pub is : r ≡ steps.Ends answer
-  pub pays : Finishes e (live_in live.objects) live.cells (did.Value v) old answer new

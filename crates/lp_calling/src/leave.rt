@@ -15,10 +15,10 @@ ghost use Rattle.lp_efuns.specs.declared.caller.Turn.{Turn};
 ghost use Rattle.lp_step.specs.Steps.{IsFit};
 ghost use Rattle.lp_calling.specs.Beginning.{IsBegunReady, IsBegunThere, Starts};
 ghost use Rattle.lp_calling.specs.Going.{IsAskedThere, IsStepThere, StageGoes, StageTakes};
-ghost use Rattle.lp_calling.specs.Jobs.{IsStageOn, IsStageReady, stage_left};
+ghost use Rattle.lp_calling.specs.Jobs.{IsReady, IsStageOn, IsStageReady, stage_left};
 ghost use Rattle.lp_calling.specs.Questions.{applied_name};
 ghost use Rattle.lp_calling.specs.Leave.{IsWish, asker_value, leave_function, wish_arguments, wish_function};
-ghost use Rattle.lp_calling.specs.Leaving.{AsksLeave, GrantedAs, IsDeedOf, IsLiveObject, IsMaster, master_stage, where_live};
+ghost use Rattle.lp_calling.specs.Leaving.{AsksLeave, AsksToShadow, GrantedAs, IsDeedOf, IsLiveObject, IsMaster, master_stage, where_live};
 
 use crate::job::{Applied, Begun, CallingFault, Job, Question, Stage, Step};
 use crate::laying::above;
@@ -190,6 +190,23 @@ pub(crate) fn begin_remove(
 {
     let path = text_shared(live.alloc, above(stack, low), 0)?;
     begin_deed(live, caller, stack, low, Efun::Rm, FileDeed::Remove, path)
+}
+
+/// The job of `shadow` that asks the master whether an object may shadow another one, once nothing else stands in the way; the master is
+/// loaded first where it does not live. So many values lie below its arguments, which it needs no longer. Takes no memory.
+pub fn ask_to_shadow(live: &Live, low: usize, this: ObjId, o: ObjId) -> Job
+    ensures efun { result.efun ≡ Efun.Shadow }
+    ensures low { result.low ≡ low }
+    ensures asks { AsksToShadow live.now this o result.stage }
+    ensures on { (n : ℕ) → low ≤ n → IsStageOn result.stage low n }
+    ensures ready { IsReady live.now.objects result }
+{
+    let master = master(live);
+    Job {
+        efun: Efun::Shadow,
+        low,
+        stage: master_stage(master, Wish::Shadow(this, o)),
+    }
 }
 
 // Going on

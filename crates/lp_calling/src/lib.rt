@@ -11,7 +11,7 @@ pub mod feed;
 mod items;
 pub mod job;
 mod laying;
-mod leave;
+pub mod leave;
 mod load;
 mod messages;
 pub mod next;
