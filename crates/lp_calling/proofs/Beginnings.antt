@@ -97,8 +97,7 @@ module _ (e : Efun) (live : Live) (stack0 : List Value) (n args old : ℕ) (ther
   }
 
   -- the arguments are paid and of their kinds
-  acting_course : (before : ℕ) (low vs : List Value) (g : Setting) (turn : Turn) (by : Asker) (c : Scene) (s : State) → stack0 ≡ low ++ vs → length vs ≡ args → At g live turn old s
-      → nat_lt old before ≡ false
+  acting_course : (before : ℕ) (low vs : List Value) (g : Setting) (turn : Turn) (by : Asker) (c : Scene) (s : State) → stack0 ≡ low ++ vs → length vs ≡ args → At g live turn old s → nat_lt old before ≡ false
       → ((t : State) → living t ≡ live_in live.objects → cells_of t ≡ live.cells → before ≡ price_before e (drop n stack0) t)
       → ((cells : Store) → None ≡ first_bad 1 (kinds e) (map (operand (live_in live.objects) cells) (drop n stack0)))
       → whole e vs by c s ≡ acts e vs by c (record s { budget = s.budget - before })
