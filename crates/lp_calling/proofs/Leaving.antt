@@ -1,6 +1,5 @@
 -- The master is asked for leave.
 use Rattle.std.proofs.Common.{◌≡◌, ◌∙◌, ◌+◌, ◌≤◌, ◌++◌, ◌∷◌, [], ℕ, zero, suc, pos, Bool, true, false, ◌&&◌, ◌||◌, not, List, Option, Some, None, IfSome, refl, ap, sym, subst, drop, length, map, take, arith, append-nil, append_assoc, length-append, unwrap_or, slice_get, codes, if◌then◌else◌}
-use mathlib.Core.Path.{fun_ext}
 use Rattle.std.specs.Option.{option_map}
 use Rattle.std.specs.Prelude.{string_bytes}
 use Rattle.std.specs.Str.{chars}
@@ -16,7 +15,7 @@ use Rattle.lp_instr.specs.declared.efun.Efun.{Efun}
 use Rattle.lp_instr.specs.declared.efun.Efun.TheVariants as efuns
 use Rattle.lp_instr.specs.EfunList.{efun_name, is_name}
 use Rattle.lp_language.specs.World.{Object as ObjectOf, World, is_live, named_from, no_object, object_named, object_value}
-use Rattle.lp_language.specs.Course.{Apply, Asks, Course, End, Gives, Over, State, Stop, Stops, and_then, gives, in_any_case, zero_value}
+use Rattle.lp_language.specs.Course.{Apply, Course, State, and_then, gives, zero_value}
 use Rattle.lp_language.specs.Operations.{cells_of, is_false, living}
 use Rattle.lp_meaning.specs.Askers.{Asker, ask_value}
 use Rattle.lp_meaning.specs.CallingEfuns.{may_begin, one_value, with_shadow}
@@ -46,12 +45,12 @@ use Rattle.lp_calling.specs.declared.wish.Wish.{Wish}
 use Rattle.lp_calling.specs.declared.wish.Wish.TheVariants as wishes
 use Rattle.lp_calling.specs.Beginning.{Starts}
 use Rattle.lp_calling.specs.Going.{StageGoes, StageTakes}
-use Rattle.lp_calling.specs.Jobs.{IsStageOn, IsStageReady, ended, stage_behind, stage_course, stage_rest}
+use Rattle.lp_calling.specs.Jobs.{IsStageOn, IsStageReady, ended, stage_course, stage_rest}
 use Rattle.lp_calling.specs.Leave.{IsWish, asked_in, asker_value, file_deed, granted, leave_function, wish_arguments, wish_function}
 use Rattle.lp_calling.specs.Leaving.{AsksLeave, AsksToShadow, GrantedAs, IsDeedOf, IsLiveObject, IsMaster, master_stage, where_live}
 use Rattle.lp_calling.specs.Questions.{applied_name}
 use Rattle.lp_calling.proofs.Calling.{FoundBy}
-use Rattle.lp_calling.proofs.Courses.{then_on}
+use Rattle.lp_calling.proofs.Courses.{asked_on, then_on}
 use Rattle.lp_calling.proofs.Settled.{settled_here}
 
 -- Words
@@ -194,13 +193,6 @@ remove_means caller path vs f = record { of_files = refl; means = λ by c s sc. 
 
 -- Going on
 
--- what follows an answer follows the end of a question, where a stop stops all
-any_case : (c : Course Value) (f : Value → State → Course Value) (k : End Value → Course Value) → ((v : Value) (s : State) → k (Gives v s) ≡ f v s) → ((x : Stop) (s : State) → k (Stops x s) ≡ Over (Stops x s))
-    → and_then c f ≡ in_any_case c k
-any_case (Over (Gives v s)) f k a b = sym (a v s)
-any_case (Over (Stops x s)) f k a b = sym (b x s)
-any_case (Asks q h) f k a b = ap (λ h. Asks q h) (fun_ext (λ o. any_case (h o) f k a b))
-
 pub master_loads : (e : Efun) (w : Wish) (below : ℕ) (stack : List Value) (live : Live) (turn : Turn) (budget : ℕ) → below ≤ length stack → IsWish w
     → StageGoes (steps.Asks (questions.Load master_name) 0) e (stages.MasterLoad w) below live turn stack budget live turn stack budget
 master_loads e w below stack live turn budget le i low own q k = record {
@@ -217,7 +209,7 @@ master_loads e w below stack live turn budget le i low own q k = record {
     settled_here g live turn budget s h,
     ap (λ c. and_then c (ended e)) (then_on (load_value by master_name s) (λ v s. asked_in (wish_function w) (wish_arguments e w) by v s) (granted w))
         ∙ then_on (load_value by master_name s) (λ v s. and_then (asked_in (wish_function w) (wish_arguments e w) by v s) (granted w)) (ended e)
-        ∙ any_case (load_value by master_name s) (λ v s. stage_rest e (stages.MasterLoad w) own by v s) (stage_behind e (stages.MasterLoad w) own by) (λ v s. refl) (λ x s. refl),
+        ∙ asked_on e (stages.MasterLoad w) own by (load_value by master_name s) (λ p. refl),
   );
 }
 
@@ -238,7 +230,7 @@ master_asked e m w a n below stack0 stack1 live turn budget le i f c t low own q
     settled_here g live turn budget s h,
     then_on (ask_value (Apply m (wish_function w)) (wish_arguments e w) by s) (granted w) (ended e)
         ∙ ap (λ x. and_then (ask_value (Apply m x) (wish_arguments e w) by s) (λ v s. stage_rest e (stages.Master m w) own by v s)) (sym f)
-        ∙ any_case (ask_value (Apply m (applied_name a)) (wish_arguments e w) by s) (λ v s. stage_rest e (stages.Master m w) own by v s) (stage_behind e (stages.Master m w) own by) (λ v s. refl) (λ x s. refl),
+        ∙ asked_on e (stages.Master m w) own by (ask_value (Apply m (applied_name a)) (wish_arguments e w) by s) (λ p. refl),
   );
 }
 
