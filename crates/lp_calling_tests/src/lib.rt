@@ -8,6 +8,8 @@ mod calls;
 #[cfg(test)]
 mod carrying;
 #[cfg(test)]
+mod files;
+#[cfg(test)]
 mod happening;
 #[cfg(test)]
 mod items;

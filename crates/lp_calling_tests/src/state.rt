@@ -12,6 +12,7 @@ use lp_code::slots::Slots;
 use lp_code::tables::Tables;
 use lp_efuns::caller::{Caller, Turn};
 use lp_efuns::plain::call_plain;
+use lp_filing::writing::append;
 use lp_instr::efun::Efun;
 use lp_instr::instr::Instr;
 use lp_moving::moving::move_into;
@@ -21,7 +22,7 @@ use lp_residence::ending::destroy;
 use lp_tree::path::FilePath;
 use lp_tree::pragma::Pragmas;
 use lp_values::id::{ObjId, ProgId};
-use lp_values::text::Text;
+use lp_values::text::{Text, code_points};
 use lp_values::value::Living;
 use lp_verify::verify::verify;
 use lp_world::additions::empty_state;
@@ -143,6 +144,16 @@ fn end(live: &mut Live, ob: ObjId)
     }
 }
 
+/// A file is there, with this text.
+fn write_doc(live: &mut Live, path: &str, text: &str) -> Result<(), Fail>
+    requires { IsClosed live.old }
+    ensures { OnOk result (IsClosed live.new) }
+{
+    let letters = code_points(live.alloc, text)?;
+    append(live, Some(path), letters.as_slice())?;
+    Ok(())
+}
+
 /// All of it comes to a state.
 fn fill(live: &mut Live) -> Result<(), Fail>
     requires { IsClosed live.old }
@@ -152,6 +163,7 @@ fn fill(live: &mut Live) -> Result<(), Fail>
     let program = add_version(live, path, program(live.alloc)?)?;
     add_objects(live, program, &NAMES)?;
     end(live, ObjId(6));
+    write_doc(live, "/doc/hello", "hello")?;
     connect(live, 1, 4)
 }
 
@@ -164,7 +176,7 @@ fn set_names(live: &mut Live, table: Objects)
     live.names = table;
 }
 
-/// The state of the tests, whose objects are those of `NAMES`. Player 1 (4) has connection 1.
+/// The state of the tests, whose objects are those of `NAMES`. Player 1 (4) has connection 1. The file `/doc/hello` holds `hello`.
 pub fn some_state(alloc: Global) -> Result<Live, Fail>
     ensures { IfOk result IsWhole }
 {
