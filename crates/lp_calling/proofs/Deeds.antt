@@ -94,8 +94,7 @@ shadow_arrives this o live0 live1 b v g turn n s e f out h = let i = f g.told g.
   where
     by : (b : Bool) → v ≡ values.Int (pos (if b then 1 else 0)) → b ≡ may_begin s.world this o → Stands g.told g.programs live1 (shadowed_if b s.world this o) → Arrives (shadow_deed this o) s v (Settled s.world g live1 turn n)
     by true e r st =
-        let t : State = record s { world = with_shadow s.world this o } in
-        (
+        let t : State = record s { world = with_shadow s.world this o } in (
           t,
           record {
             at = record { stands = st; left = h.left; outputs = out ∙ h.outputs; player = h.player; commands = h.commands };

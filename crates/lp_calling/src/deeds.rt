@@ -84,7 +84,11 @@ pub(crate) fn enter_file(
 fn done_value(is_done: bool) -> Value
     ensures { result ≡ V.Int (pos (if is_done then 1 else 0)) }
 {
-    if is_done { Value::Int(1) } else { Value::Int(0) }
+    if is_done {
+        Value::Int(1)
+    } else {
+        Value::Int(0)
+    }
 }
 
 /// An object begins to shadow another one where it may: the job has come to 1, or to 0 where it may not, which takes the place of the

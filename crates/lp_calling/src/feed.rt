@@ -108,7 +108,8 @@ pub(crate) fn player_back(stage: &Stage, player: Option<ObjId>) -> Option<ObjId>
     match stage {
         Stage::Call(_, _) | Stage::Target(_, _) | Stage::Load(_) | Stage::Items(_) => player,
         Stage::Tell(_, _) | Stage::Write(_) | Stage::Say(_, _) | Stage::TellEach(_) => player,
-        Stage::MasterLoad(_) | Stage::Master(_, _) | Stage::File(_, _) | Stage::Shadow(_, _) => player,
+        Stage::MasterLoad(_) | Stage::Master(_, _) | Stage::File(_, _) | Stage::Shadow(_, _) =>
+            player,
         Stage::Seek(_) | Stage::Value | Stage::Zero | Stage::Error(_) => player,
     }
 }

@@ -91,12 +91,7 @@ fn leave_stage(live: &Live, this: ObjId, deed: FileDeed, path: Text) -> Stage
 }
 
 /// The stage of an efun that an object calls, for a deed on the file at a path. A text that is no path is refused at once.
-fn file_stage(
-    live: &Live,
-    this: ObjId,
-    deed: FileDeed,
-    path: Text,
-) -> Result<Stage, AllocError>
+fn file_stage(live: &Live, this: ObjId, deed: FileDeed, path: Text) -> Result<Stage, AllocError>
     ensures asks { IfOk result (AsksLeave live.now this deed path) }
     ensures on { IfOk result (λ r. (low n : ℕ) → low ≤ n → IsStageOn r low n) }
     ensures ready { IfOk result (IsStageReady live.now.objects) }
@@ -140,7 +135,15 @@ pub(crate) fn begin_read(
     ensures ready { IfOk result (IsBegunReady live.now.objects) }
 {
     let path = text_shared(live.alloc, above(stack, low), 0)?;
-    begin_deed(live, caller, stack, low, Efun::ReadFile, FileDeed::Read, path)
+    begin_deed(
+        live,
+        caller,
+        stack,
+        low,
+        Efun::ReadFile,
+        FileDeed::Read,
+        path,
+    )
 }
 
 /// `file_size` begins.
@@ -156,7 +159,15 @@ pub(crate) fn begin_size(
     ensures ready { IfOk result (IsBegunReady live.now.objects) }
 {
     let path = text_shared(live.alloc, above(stack, low), 0)?;
-    begin_deed(live, caller, stack, low, Efun::FileSize, FileDeed::Size, path)
+    begin_deed(
+        live,
+        caller,
+        stack,
+        low,
+        Efun::FileSize,
+        FileDeed::Size,
+        path,
+    )
 }
 
 /// `write_file` begins.
@@ -173,7 +184,15 @@ pub(crate) fn begin_append(
 {
     let path = text_shared(live.alloc, above(stack, low), 0)?;
     let text = text_shared(live.alloc, above(stack, low), 1)?;
-    begin_deed(live, caller, stack, low, Efun::WriteFile, FileDeed::Write(text), path)
+    begin_deed(
+        live,
+        caller,
+        stack,
+        low,
+        Efun::WriteFile,
+        FileDeed::Write(text),
+        path,
+    )
 }
 
 /// `rm` begins.

@@ -159,7 +159,13 @@ const UNWRITTEN: Row = (
 #[test]
 fn written(rt: HostRuntime) -> Result<(), Fail> {
     assert!(rt;
-        leaves(&rt, rt.alloc(), &APPENDED, "/doc/hello", Some(b"hello you".as_slice()))?,
+        leaves(
+            &rt,
+            rt.alloc(),
+            &APPENDED,
+            "/doc/hello",
+            Some(b"hello you".as_slice())
+        )?,
         "a text is appended"
     );
     assert!(rt;
@@ -167,7 +173,13 @@ fn written(rt: HostRuntime) -> Result<(), Fail> {
         "a file is made"
     );
     assert!(rt;
-        leaves(&rt, rt.alloc(), &UNWRITTEN, "/doc/hello", Some(b"hello".as_slice()))?,
+        leaves(
+            &rt,
+            rt.alloc(),
+            &UNWRITTEN,
+            "/doc/hello",
+            Some(b"hello".as_slice())
+        )?,
         "a refused file stays"
     );
     Ok(())
@@ -201,11 +213,23 @@ fn removed(rt: HostRuntime) -> Result<(), Fail> {
         "a file is removed"
     );
     assert!(rt;
-        leaves(&rt, rt.alloc(), &UNREMOVED, "/doc/hello", Some(b"hello".as_slice()))?,
+        leaves(
+            &rt,
+            rt.alloc(),
+            &UNREMOVED,
+            "/doc/hello",
+            Some(b"hello".as_slice())
+        )?,
         "a refused file stays"
     );
     assert!(rt;
-        leaves(&rt, rt.alloc(), &ABSENT, "/doc/hello", Some(b"hello".as_slice()))?,
+        leaves(
+            &rt,
+            rt.alloc(),
+            &ABSENT,
+            "/doc/hello",
+            Some(b"hello".as_slice())
+        )?,
         "nothing else is removed"
     );
     Ok(())

@@ -117,8 +117,7 @@ shadow_acts caller told0 told1 live0 live1 n stack r o barred le f kept stays ov
       height = k ∙ sym job.height;
       fits = job.fits stack le;
       course = λ g by c s z sc h w.
-          let a : At g live1 turn b s = at_after g live0 live1 turn b s stays (subst (λ t. Stands t g.programs live1 s.world) (kept ∙ sym z) (over g.programs s.world w.stands)) h in
-          (
+          let a : At g live1 turn b s = at_after g live0 live1 turn b s stays (subst (λ t. Stands t g.programs live1 s.world) (kept ∙ sym z) (over g.programs s.world w.stands)) h in (
             s,
             record { at = a; settles = still s.world },
             ap (λ x. and_then (with_live x s (λ o. shadow by c o s)) (ended efuns.Shadow)) (ap (λ ws. object_arg (opened_args s ws) 0) (sym same) ∙ f g turn b s h)
