@@ -63,6 +63,6 @@ pub(crate) fn enter(
         Stage::Seek(search) => enter_search(search, live),
         Stage::File(deed, path) => enter_file(&deed, &path, live, stack, low),
         Stage::Shadow(this, o) => enter_shadow(this, o, live, stack, low),
-        _ => unreachable!(),
+        _other => unreachable!(),
     }
 }
