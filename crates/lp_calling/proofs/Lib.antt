@@ -14,4 +14,4 @@ pub mod Beginnings
 pub mod Taking
 pub mod Waiting
 pub mod Leaving
-pub mod Deeds
+pub mod Granted

@@ -61,7 +61,7 @@ pub(crate) fn enter(
         Stage::Say(this, text) => enter_say(live, turn, this, text),
         Stage::TellEach(audience) => enter_audience(audience, live),
         Stage::Seek(search) => enter_search(search, live),
-        Stage::File(deed, path) => enter_file(&deed, &path, live, stack, low),
+        Stage::File(deed, path) => enter_file(deed, path, live, stack, low),
         Stage::Shadow(this, o) => enter_shadow(this, o, live, stack, low),
         _other => unreachable!(),
     }

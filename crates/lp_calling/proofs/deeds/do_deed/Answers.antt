@@ -5,7 +5,7 @@ use Rattle.lp_meaning.specs.FileEfuns.{bytes_of, read_value, size_value}
 use Rattle.lp_filing.specs.Filing.{Comes}
 use Rattle.lp_filing.specs.declared.outcome.Outcome.TheVariants as outcomes
 use Rattle.lp_calling.specs.Leave.{file_deed}
-use Rattle.lp_calling.proofs.Deeds.{shows_comes}
+use Rattle.lp_calling.proofs.Granted.{shows_comes}
 use Rattle.lp_calling.proofs.deeds.do_deed.Goals as goal
 
 pub returns-in-Read-clause-comes : goal.returns-in-Read-clause-comes

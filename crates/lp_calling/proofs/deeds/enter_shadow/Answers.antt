@@ -2,7 +2,7 @@ use Rattle.std.proofs.Common.{ap, refl}
 use Rattle.lp_world.specs.declared.live.Live.{Live}
 use Rattle.lp_calling.specs.declared.job.Stage.TheVariants as stages
 use Rattle.lp_calling.specs.Leave.{shadow_deed}
-use Rattle.lp_calling.proofs.Deeds.{shadow_arrives, value_enters}
+use Rattle.lp_calling.proofs.Granted.{shadow_arrives, value_enters}
 use Rattle.lp_calling.proofs.deeds.enter_shadow.Goals as goal
 
 pub returns-clause-enters : goal.returns-clause-enters

@@ -7,8 +7,8 @@ use Rattle.lp_filing.specs.declared.outcome.Outcome.TheVariants as outcomes
 use Rattle.lp_calling.specs.declared.job.Stage.TheVariants as stages
 use Rattle.lp_calling.specs.Leave.{file_deed}
 use Rattle.lp_calling.proofs.Calling.{fit_with}
-use Rattle.lp_calling.proofs.Deeds.{comes_arrives, value_enters}
-use Rattle.lp_calling.proofs.deeds.enter_file.Goals as goal
+use Rattle.lp_calling.proofs.Granted.{comes_arrives, value_enters}
+use Rattle.lp_calling.proofs.deeds.do_file.Goals as goal
 
 pub returns-clause-enters : goal.returns-clause-enters
 returns-clause-enters c = λ e turn.
