@@ -1,9 +1,5 @@
-use Rattle.std.proofs.Common.{◌∙◌, ap, subst, sym}
-use Rattle.std.proofs.lemmas.Result.{IfOk-weaker}
-use Rattle.lp_calling.specs.declared.job.Stage.TheVariants as stages
-use Rattle.lp_efuns.proofs.Called.{same_variables}
-use Rattle.lp_calling.specs.Entering.{Enters}
-use Rattle.lp_calling.proofs.Entering.{advanced, direct_enters, direct_poised, fit_still, stay_still}
+use Rattle.std.proofs.Common.{◌∙◌, sym}
+use Rattle.lp_calling.proofs.Entering.{direct_enters, direct_poised}
 use Rattle.lp_calling.proofs.enter.enter.Goals as goal
 
 pub returns-then-is_direct-clause-enters : goal.returns-then-is_direct-clause-enters
