@@ -122,11 +122,10 @@ advances_around k live turn n stage f l a e own g b by s h = (
 )
 
 -- the next one is asked
-found : (k : Search) (o : ObjId) (by : Asker) → Value → State → Course Value
+abbrev found : Search → ObjId → Asker → Value → State → Course Value
 found k o by v s = cond (is_false s v) (searching k (objects_behind k) by s) (gives (values.Obj o) s)
 
 found_is : (k : Search) (o : ObjId) (by : Asker) (v : Value) (s : State) → objects_left k ≡ o ∷ objects_behind k → found k o by v s ≡ sought k (objects_left k) (objects_behind k) by v s
-unfolding found
 found_is k o by v s e = ap (λ ls. sought k ls (objects_behind k) by v s) (sym e)
 
 pub object_asks : (e : Efun) (k : Search) (o : ObjId) (name : List ℕ) (below : ℕ) (stack0 stack1 : List Value) (live : Live) (turn : Turn) (budget : ℕ) → below ≤ length stack0 → slice_get k.objects.items k.done ≡ Some o
@@ -139,7 +138,6 @@ object_asks e k o name below stack0 stack1 live turn budget le at d l nm t low o
     left = left_at k.objects.items k.done o at
 
     so : StageGoes (steps.Asks (questions.Other o (codes "id")) 1) e (stages.Seek k) below live turn stack0 budget live turn stack1 budget
-    unfolding found
     so low own q kk = record {
       own = own;
       arguments = values.Str k.text ∷ [];
