@@ -1,0 +1,302 @@
+//! `move_object`: its destination, the move, and the calls of `init` that follow.
+ghost use Rattle.std.specs.Prelude.{◌≡◌, ◌<◌, ◌≤◌, IfOk, List, Option, length, map, slice_get, true, ℕ};
+ghost use Rattle.std.specs.Str.{chars};
+ghost use Rattle.lp_values.specs.declared.value.Value.{Value as V};
+ghost use Rattle.lp_cells.specs.Cells.{Store};
+ghost use Rattle.lp_meaning.specs.EfunArguments.{arg, value_arg};
+ghost use Rattle.lp_moving.specs.Moving.{IsRefused};
+ghost use Rattle.lp_ops.specs.Operands.{operand};
+ghost use Rattle.lp_places.specs.Places.{MoveNo};
+ghost use Rattle.lp_world.specs.Closed.{IsClosed};
+ghost use Rattle.lp_world.specs.Rows.{live_in};
+ghost use Rattle.lp_world.specs.declared.objects.Object.{Object};
+ghost use Rattle.lp_calling.specs.Beginning.{IsBegunReady, IsBegunThere, Starts};
+ghost use Rattle.lp_calling.specs.Entering.{Advances, IsPoised, IsVisitPoised};
+ghost use Rattle.lp_calling.specs.Going.{IsAskedThere, IsStepThere, StageGoes, StageTakes};
+ghost use Rattle.lp_calling.specs.Jobs.{IsStageOn, IsStageReady, stage_left, unknown_many};
+ghost use Rattle.lp_calling.specs.Moving.{ActsAs, IsNextMade, IsWhom, Passes, Refuses, TellsMade, move_stage, unnamed_stage};
+ghost use Rattle.lp_calling.specs.Targets.{target_of};
+ghost use Rattle.lp_calling.specs.declared.target.CallTarget.TheVariants as targets;
+
+use crate::job::{Applied, Begun, CallingFault, Job, Question, Stage, Step, Visits};
+use crate::laying::above;
+use crate::target::{CallTarget, is_clone_name, target_of};
+use lp_efuns::arguments::text_at;
+use lp_efuns::caller::Turn;
+use lp_efuns::names::as_name;
+use lp_instr::efun::Efun;
+use lp_moving::fault::MoveFault;
+use lp_moving::moving::move_into;
+use lp_moving::visits::{InitCall, may_init};
+use lp_values::error::ErrorKind;
+use lp_values::id::ObjId;
+use lp_values::text::Text;
+use lp_values::value::{Living, Value};
+use lp_world::live::Live;
+use lp_world::objects::ObjectTable;
+use std::alloc::AllocError;
+
+// Item and destination
+
+/// An object, where it is live.
+fn if_live(o: ObjId, objects: &ObjectTable) -> Option<ObjId>
+    ensures { IsWhom (live_in objects.now) (V.Obj o) result }
+{
+    if objects.is_live(o) { Some(o) } else { None }
+}
+
+/// The live object that a value is.
+fn live_object(v: &Value, objects: &ObjectTable) -> Option<ObjId>
+    ensures { IsWhom (live_in objects.now) v.now result }
+{
+    match v {
+        Value::Obj(o) => if_live(*o, objects),
+        _ => None,
+    }
+}
+
+/// The live object that the first argument is.
+fn item_in(args: &[Value], objects: &ObjectTable) -> Option<ObjId>
+    ensures { IsWhom (live_in objects.now) (value_arg args.now 0) result }
+{
+    match args.get(0) {
+        Some(v) => live_object(v, objects),
+        None => None,
+    }
+}
+
+/// What the second argument names as the destination.
+fn destination(args: &[Value], objects: &ObjectTable) -> CallTarget
+    ensures { (cells : Store) → result ≡ target_of (arg (map (operand (live_in objects.now) cells) args.now) 1) }
+{
+    match args.get(1) {
+        Some(v) => target_of(v, objects),
+        None => CallTarget::Nothing,
+    }
+}
+
+/// The stage at which an item comes into its destination. Where one of them is no live object there is no target.
+fn move_stage(item: Option<ObjId>, dest: Option<ObjId>) -> Stage
+    ensures stage { result ≡ move_stage item dest }
+    ensures on { (low n : ℕ) → low ≤ n → IsStageOn result low n }
+    ensures less { stage_left result ≤ unknown_many }
+    ensures ready { (objects : List (Option Object)) → IsStageReady objects result }
+{
+    match item {
+        Some(i) => match dest {
+            Some(d) => Stage::Move(i, d),
+            None => Stage::Error(ErrorKind::BadTarget),
+        },
+        None => Stage::Error(ErrorKind::BadTarget),
+    }
+}
+
+// Beginning
+
+/// The stage at which the destination has this name, which no live object has. A clone is none.
+fn unnamed_stage(live: &Live, name: &str) -> Result<Stage, AllocError>
+    ensures stage { IfOk result (λ st. st ≡ unnamed_stage (chars name.now)) }
+    ensures on { IfOk result (λ st. (low n : ℕ) → low ≤ n → IsStageOn st low n) }
+    ensures ready { IfOk result (λ st. (objects : List (Option Object)) → IsStageReady objects st) }
+{
+    if is_clone_name(name) {
+        return Ok(Stage::Error(ErrorKind::BadTarget));
+    }
+    Ok(Stage::Destination(Text::from_str(live.alloc, name)?))
+}
+
+/// The first stage where the destination is a text: the live object with the name that it means.
+fn named_stage(live: &Live, args: &[Value]) -> Result<Stage, CallingFault>
+    requires { (cells : Store) → targets.Named ≡ target_of (arg (map (operand (live_in live.now.objects) cells) args.now) 1) }
+    ensures acts { IfOk result (λ st. ActsAs live.now args.now st) }
+    ensures on { IfOk result (λ st. (low n : ℕ) → low ≤ n → IsStageOn st low n) }
+    ensures ready { IfOk result (λ st. (objects : List (Option Object)) → IsStageReady objects st) }
+{
+    let name = as_name(live.alloc, text_at(args, 1))?;
+    match live.names.find(name.as_str()) {
+        Some(o) => Ok(move_stage(item_in(args, &live.objects), if_live(o, &live.objects))),
+        None => Ok(unnamed_stage(live, name.as_str())?),
+    }
+}
+
+/// The first stage.
+fn first_stage(live: &Live, args: &[Value]) -> Result<Stage, CallingFault>
+    ensures acts { IfOk result (λ st. ActsAs live.now args.now st) }
+    ensures on { IfOk result (λ st. (low n : ℕ) → low ≤ n → IsStageOn st low n) }
+    ensures ready { IfOk result (λ st. (objects : List (Option Object)) → IsStageReady objects st) }
+{
+    match destination(args, &live.objects) {
+        CallTarget::Live(dest) => Ok(move_stage(item_in(args, &live.objects), Some(dest))),
+        CallTarget::Named => named_stage(live, args),
+        CallTarget::Nothing => Ok(Stage::Zero),
+    }
+}
+
+/// `move_object` goes on as a job. Its values are its arguments, where they lie.
+pub(crate) fn begin_move(live: &Live, stack: &Vec<Value>, low: usize) -> Result<Begun, CallingFault>
+    requires low { low ≤ length stack.now.items }
+    ensures starts { IfOk result (λ r. (caller : _) → Starts r Efun.MoveObject caller live.now low stack.now.items stack.now.items) }
+    ensures there { IfOk result (λ r. (cells : Store) → IsBegunThere cells r) }
+    ensures ready { IfOk result (λ r. (objects : List (Option Object)) → IsBegunReady objects r) }
+{
+    let stage = first_stage(live, above(stack, low))?;
+    Ok(Begun::Runs(Job {
+        efun: Efun::MoveObject,
+        low,
+        stage,
+    }))
+}
+
+/// The destination was loaded: it is what the load gave. The item and it are to be live then.
+pub(crate) fn take_destination(
+    objects: &ObjectTable,
+    stack: &Vec<Value>,
+    low: usize,
+    v: &Value,
+) -> Stage
+    requires low { low ≤ length stack.now.items }
+    ensures takes { (name : List ℕ) → StageTakes (Stage.Destination name) v.now (live_in objects.now) low stack.now.items result stack.now.items }
+    ensures on { (low n : ℕ) → low ≤ n → IsStageOn result low n }
+    ensures less { stage_left result ≤ unknown_many }
+    ensures ready { (objects : List (Option Object)) → IsStageReady objects result }
+{
+    move_stage(item_in(above(stack, low), objects), live_object(v, objects))
+}
+
+// Calls of `init`
+
+/// Whether a call of `init` is made.
+fn is_made(live: &Live, item: ObjId, dest: ObjId, call: InitCall) -> bool
+    ensures is { TellsMade result live.now item dest call }
+    ensures lives { result ≡ true → live_in live.now.objects call.of ≡ true }
+{
+    may_init(live, item, dest, call.of, call.player)
+}
+
+/// The place of the first call of `init`, from one place on, that is made; or how many calls there are.
+fn next_made(live: &Live, item: ObjId, dest: ObjId, calls: &[InitCall], from: usize) -> usize
+    requires { from ≤ length calls.now }
+    ensures inside { result ≤ length calls.now }
+    ensures order { from ≤ result }
+    ensures passes { Passes live.now item dest calls.now from result }
+    ensures made { IsNextMade live.now item dest (slice_get calls.now result) }
+{
+    let mut at = from;
+    while at < calls.len() {
+        if is_made(live, item, dest, calls[at]) {
+            return at;
+        }
+        at += 1;
+    }
+    at
+}
+
+/// The calls of `init` that are left come to the next one that is made; where there is none, the value is 0.
+pub(crate) fn enter_visits(visits: Visits, live: &Live, turn: &Turn) -> Stage
+    requires done { visits.done ≤ length visits.calls.items }
+    ensures advances { Advances (Stage.Visit visits) live.now turn.now result live.now turn.now }
+    ensures poised { IsPoised result live.now turn.now }
+    ensures on { (low n : ℕ) → low ≤ n → IsStageOn result low n }
+    ensures ready { (objects : List (Option Object)) → IsStageReady objects result }
+    ensures left { stage_left result ≤ stage_left (Stage.Visit visits) }
+    ensures room { stage_left result ≤ unknown_many }
+{
+    let mut visits = visits;
+    let at = next_made(
+        live,
+        visits.item,
+        visits.dest,
+        visits.calls.as_slice(),
+        visits.done,
+    );
+    if at >= visits.calls.len() {
+        drop(visits);
+        return Stage::Zero;
+    }
+    visits.done = at;
+    visits.player = turn.player;
+    Stage::Visit(visits)
+}
+
+/// The next call of `init` is asked, for its player, who is `this_player()` until the answer.
+pub(crate) fn ask_init(
+    efun: Efun,
+    visits: &Visits,
+    live: &Live,
+    turn: &mut Turn,
+    stack: &Vec<Value>,
+    low: usize,
+) -> Step
+    requires low { low ≤ length stack.now.items }
+    requires poised { IsVisitPoised visits.now live.now turn.old }
+    ensures goes { (budget : ℕ) → StageGoes result efun (Stage.Visit visits.now) low live.now turn.old stack.now.items budget live.now turn.new stack.now.items budget }
+    ensures there { (cells : Store) → IsStepThere cells result }
+    ensures asked { IsAskedThere live.now.objects result }
+{
+    let call = visits.calls[visits.done];
+    turn.player = Some(call.player);
+    Step::Asks(Question::Apply(call.of, Applied::Init), 0)
+}
+
+/// A call of `init` was answered, whatever the answer.
+pub(crate) fn take_visit(visits: Visits) -> Stage
+    requires asking { visits.done < length visits.calls.items }
+    ensures takes { (v : V) (live : _) (low : ℕ) (stack : List V) → StageTakes (Stage.Visit visits) v live low stack result stack }
+    ensures on { (low n : ℕ) → low ≤ n → IsStageOn result low n }
+    ensures less { stage_left result < stage_left (Stage.Visit visits) }
+    ensures ready { (objects : List (Option Object)) → IsStageReady objects result }
+{
+    let mut visits = visits;
+    visits.done += 1;
+    Stage::Visit(visits)
+}
+
+// The move
+
+/// The error of a move that was refused.
+fn error_of(fault: MoveFault) -> Result<ErrorKind, AllocError>
+    ensures { IfOk result (λ kind. (r : Option MoveNo) → IsRefused fault r → Refuses r kind) }
+{
+    match fault {
+        MoveFault::IsShadow => Ok(ErrorKind::IsShadow),
+        MoveFault::WouldContainItself => Ok(ErrorKind::WouldContainItself),
+        MoveFault::NoMemory => Err(AllocError),
+    }
+}
+
+/// An item is moved into its destination, and the calls of `init` that follow come to the first one that is made. An item that may not
+/// be moved is an error.
+///
+/// # Errors
+/// Where memory runs out. The state stands for what it stood for then.
+pub(crate) fn enter_move(
+    item: ObjId,
+    dest: ObjId,
+    live: &mut Live,
+    turn: &Turn,
+) -> Result<Stage, AllocError>
+    requires closed { IsClosed live.old }
+    ensures advances { IfOk result (λ t. Advances (Stage.Move item dest) live.old turn.now t live.new turn.now) }
+    ensures poised { IfOk result (λ t. IsPoised t live.new turn.now) }
+    ensures on { IfOk result (λ t. (low n : ℕ) → low ≤ n → IsStageOn t low n) }
+    ensures ready { IfOk result (λ t. (objects : List (Option Object)) → IsStageReady objects t) }
+    ensures left { IfOk result (λ t. stage_left t ≤ unknown_many) }
+    ensures closed { IsClosed live.new }
+    ensures cells { live.new.cells ≡ live.old.cells }
+    ensures objects { live.new.objects ≡ live.old.objects }
+    ensures names { live.new.names ≡ live.old.names }
+{
+    match move_into(live, item, dest) {
+        Ok(calls) => {
+            let visits = Visits {
+                item,
+                dest,
+                calls,
+                done: 0,
+                player: None,
+            };
+            Ok(enter_visits(visits, live, turn))
+        }
+        Err(fault) => Ok(Stage::Error(error_of(fault)?)),
+    }
+}
