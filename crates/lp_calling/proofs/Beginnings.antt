@@ -33,6 +33,7 @@ use Rattle.lp_calling.proofs.Ending.{cut_to}
 pub calling_group : (e : Efun) → is_calling e ≡ true → group e ≡ Calls
 calling_group efuns.CallOther p = refl
 calling_group efuns.LoadObject p = refl
+calling_group efuns.MoveObject p = refl
 calling_group efuns.Filter p = refl
 calling_group efuns.Map p = refl
 calling_group efuns.TellObject p = refl

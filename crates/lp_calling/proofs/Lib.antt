@@ -7,6 +7,8 @@ pub mod Loading
 pub mod Rounds
 pub mod Telling
 pub mod Writing
+pub mod Moves
+pub mod Visits
 pub mod Beginnings
 pub mod Taking
 pub mod Waiting

@@ -28,6 +28,7 @@ use Rattle.lp_efuns.proofs.Looking.{found_same}
 use Rattle.lp_calling.specs.declared.job.Begun.TheVariants as begun
 use Rattle.lp_calling.specs.declared.job.Stage.{Stage}
 use Rattle.lp_calling.specs.declared.job.Stage.TheVariants as stages
+use Rattle.lp_calling.specs.declared.moving.Moving.TheVariants as moves
 use Rattle.lp_calling.specs.declared.target.CallTarget.{CallTarget}
 use Rattle.lp_calling.specs.declared.target.CallTarget.TheVariants as targets
 use Rattle.lp_calling.specs.Beginning.{Starts, acts}
@@ -133,7 +134,7 @@ module _ (live : Live) (vs : List Value) (name : List ℕ) (is : (cells : Store)
     where
       picked : (b : Bool)
           → and_then (and_then (if b then stops (Failed (plain BadTarget)) s else load_value by name s) (λ v s. move_to by (live_object s.world (value_arg vs 0)) (live_object s.world v) s)) (ended efuns.MoveObject)
-          ≡ stage_course efuns.MoveObject (if b then stages.Error BadTarget else stages.Destination name) vs by s
+          ≡ stage_course efuns.MoveObject (if b then stages.Error BadTarget else stages.Move (moves.Destination name)) vs by s
       picked true = refl
       picked false = refl
 
@@ -158,7 +159,7 @@ stage_starts stage caller live n stack on f turn b low vs q k =
 
 -- the destination that was loaded
 pub destination_takes : (name : List ℕ) (v : Value) (l : ObjId → Bool) (item dest : Option ObjId) (below : ℕ) (stack : List Value) → IsWhom l (value_arg (drop below stack) 0) item → IsWhom l v dest
-    → StageTakes (stages.Destination name) v l below stack (move_stage item dest) stack
+    → StageTakes (stages.Move (moves.Destination name)) v l below stack (move_stage item dest) stack
 destination_takes name v l item dest below stack w x low own q k =
     let same : drop below stack ≡ own = ap (drop below) q ∙ drop_at low own below k in
     record {

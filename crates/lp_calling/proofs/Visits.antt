@@ -27,10 +27,12 @@ use Rattle.lp_calling.specs.declared.job.Question.TheVariants as questions
 use Rattle.lp_calling.specs.declared.job.Stage.{Stage}
 use Rattle.lp_calling.specs.declared.job.Stage.TheVariants as stages
 use Rattle.lp_calling.specs.declared.job.Step.TheVariants as steps
-use Rattle.lp_calling.specs.declared.job.Visits.{Visits}
+use Rattle.lp_calling.specs.declared.moving.Moving.TheVariants as moves
+use Rattle.lp_calling.specs.declared.moving.Visits.{Visits}
 use Rattle.lp_calling.specs.Entering.{Advances}
 use Rattle.lp_calling.specs.Going.{StageGoes, StageTakes}
-use Rattle.lp_calling.specs.Jobs.{calls_behind, ended, stage_behind, stage_course}
+use Rattle.lp_calling.specs.Jobs.{ended, stage_behind, stage_course}
+use Rattle.lp_calling.specs.Moves.{calls_behind}
 use Rattle.lp_calling.specs.Moving.{IsNextMade, IsVisitPoised, Passes, Refuses, TellsMade}
 use Rattle.lp_calling.specs.Questions.{question_course}
 use Rattle.lp_calling.proofs.Lists.{left_at}
@@ -86,20 +88,20 @@ none_next live item dest (c ∷ cs) (suc n) h = none_next live item dest cs n (o
 
 -- Coming to the next call
 
-pub visits_advance : (r : Visits) (live : Live) (turn : Turn) (at : ℕ) (p : Option ObjId) → Passes live r.item r.dest r.calls.items r.done at → Advances (stages.Visit r) live turn (stages.Visit (record r { done = at; player = p })) live turn
+pub visits_advance : (r : Visits) (live : Live) (turn : Turn) (at : ℕ) (p : Option ObjId) → Passes live r.item r.dest r.calls.items r.done at → Advances (stages.Move (moves.Visiting r)) live turn (stages.Move (moves.Visiting (record r { done = at; back = p }))) live turn
 visits_advance r live turn at p k e own g b by s h = (s, settled_here g live turn b s h, ap (λ c. and_then c (ended e)) (k g turn b by s h))
 
-pub visits_over : (r : Visits) (live : Live) (turn : Turn) (at : ℕ) → Passes live r.item r.dest r.calls.items r.done at → length r.calls.items ≤ at → Advances (stages.Visit r) live turn stages.Zero live turn
+pub visits_over : (r : Visits) (live : Live) (turn : Turn) (at : ℕ) → Passes live r.item r.dest r.calls.items r.done at → length r.calls.items ≤ at → Advances (stages.Move (moves.Visiting r)) live turn stages.Zero live turn
 visits_over r live turn at k le e own g b by s h = (
   s,
   settled_here g live turn b s h,
   ap (λ c. and_then c (ended e)) (k g turn b by s h ∙ ap (λ l. inits by r.item r.dest (map init_of l) s) (none_behind r.calls.items at le)),
 )
 
-pub visits_poised : (r : Visits) (live : Live) (turn : Turn) (at : ℕ) → at < length r.calls.items → IsNextMade live r.item r.dest (slice_get r.calls.items at) → IsVisitPoised (record r { done = at; player = turn.player }) live turn
+pub visits_poised : (r : Visits) (live : Live) (turn : Turn) (at : ℕ) → at < length r.calls.items → IsNextMade live r.item r.dest (slice_get r.calls.items at) → IsVisitPoised (record r { done = at; back = turn.player }) live turn
 visits_poised r live turn at l m =
     let f = inside_found r.calls.items at l in
-    record { call = f.0; is = f.1; made = subst (λ o. IsNextMade live r.item r.dest o) f.1 m; player = refl }
+    record { call = f.0; is = f.1; made = subst (λ o. IsNextMade live r.item r.dest o) f.1 m; back = refl }
 
 -- The move
 
@@ -121,7 +123,7 @@ refused_moves by item dest s (Some reason) kind k e = ap (λ x. elim x as (λ _.
 abbrev pub TellsMoved : Live → ObjId → ObjId → Live → List InitCall → Type 0
 TellsMoved live0 item dest live1 calls = (told : Option Bytes) (programs : List RawProgram) (w : World) → Stands told programs live0 w → IsMoved told programs w item dest live1 calls
 
-pub move_advances : (r : Visits) (live0 live1 : Live) (turn : Turn) → r.done ≡ 0 → TellsMoved live0 r.item r.dest live1 r.calls.items → live1.outputs ≡ live0.outputs → Advances (stages.Move r.item r.dest) live0 turn (stages.Visit r) live1 turn
+pub move_advances : (r : Visits) (live0 live1 : Live) (turn : Turn) → r.done ≡ 0 → TellsMoved live0 r.item r.dest live1 r.calls.items → live1.outputs ≡ live0.outputs → Advances (stages.Move (moves.Into r.item r.dest)) live0 turn (stages.Move (moves.Visiting r)) live1 turn
 move_advances r live0 live1 turn z f o e own g b by s h =
     let m = f g.told g.programs s.world h.stands in
     let t : State = record s { world = moved_world s.world r.item r.dest } in
@@ -137,7 +139,7 @@ move_advances r live0 live1 turn z f o e own g b by s h =
 pub refusal_advances : (item dest : ObjId) (live0 live1 : Live) (turn : Turn) (fault : MoveFault) (kind : ErrorKind) → ((r : Option MoveNo) → IsRefused fault r → Refuses r kind)
     → ((told : Option Bytes) (programs : List RawProgram) (w : World) → Stands told programs live0 w → IsRefused fault (may_move w.places w.shadows item dest))
     → ((told : Option Bytes) (programs : List RawProgram) (w : World) → Stands told programs live0 w → Stands told programs live1 w) → live1.outputs ≡ live0.outputs
-    → Advances (stages.Move item dest) live0 turn (stages.Error kind) live1 turn
+    → Advances (stages.Move (moves.Into item dest)) live0 turn (stages.Error kind) live1 turn
 refusal_advances item dest live0 live1 turn fault kind k f st o e own g b by s h = (
   s,
   record {
@@ -157,26 +159,26 @@ advance_on stage0 stage1 stage2 live0 live1 live2 turn0 turn1 turn2 f k e own g 
 -- Asking
 
 -- However a question ends that was asked for another player, he is put back.
-ends_behind : (e : Efun) (r : Visits) (own : List Value) (by : Asker) (p : Option ObjId) (end : End Value) → r.player ≡ p
-    → and_then (and_then (Over (with_player_back p end)) (λ v s. inits by r.item r.dest (calls_behind r) s)) (ended e) ≡ stage_behind e (stages.Visit r) own by end
+ends_behind : (e : Efun) (r : Visits) (own : List Value) (by : Asker) (p : Option ObjId) (end : End Value) → r.back ≡ p
+    → and_then (and_then (Over (with_player_back p end)) (λ v s. inits by r.item r.dest (calls_behind r) s)) (ended e) ≡ stage_behind e (stages.Move (moves.Visiting r)) own by end
 ends_behind e r own by p (Gives v s) q = ap (λ p. and_then (inits by r.item r.dest (calls_behind r) (record s { player = p })) (ended e)) (sym q)
 ends_behind e r own by p (Stops x s) q = ap (λ p. Over (Stops x (record s { player = p }))) (sym q)
 
-asks_behind : (e : Efun) (r : Visits) (own : List Value) (by : Asker) (what : Asked) (p : Option ObjId) (s : State) → r.player ≡ s.player
-    → and_then (and_then (for_player p (λ s. ask_value what [] by s) s) (λ v s. inits by r.item r.dest (calls_behind r) s)) (ended e) ≡ in_any_case (ask_value what [] by (record s { player = p })) (stage_behind e (stages.Visit r) own by)
+asks_behind : (e : Efun) (r : Visits) (own : List Value) (by : Asker) (what : Asked) (p : Option ObjId) (s : State) → r.back ≡ s.player
+    → and_then (and_then (for_player p (λ s. ask_value what [] by s) s) (λ v s. inits by r.item r.dest (calls_behind r) s)) (ended e) ≡ in_any_case (ask_value what [] by (record s { player = p })) (stage_behind e (stages.Move (moves.Visiting r)) own by)
 asks_behind e r own by what p s q =
     ap (λ f. Asks (question what [] by (record s { player = p })) f) (fun_ext (λ o. ends_behind e r own by s.player (end_of_outcome (record s { player = p }) o) q))
 
-first_course : (e : Efun) (r : Visits) (own : List Value) (by : Asker) (call : InitCall) (s : State) → slice_get r.calls.items r.done ≡ Some call → may_init s.world r.item r.dest (init_of call) ≡ true → r.player ≡ s.player
-    → stage_course e (stages.Visit r) own by s ≡ in_any_case (question_course (questions.Apply call.of applies.Init) [] by (record s { player = Some call.player })) (stage_behind e (stages.Visit r) own by)
+first_course : (e : Efun) (r : Visits) (own : List Value) (by : Asker) (call : InitCall) (s : State) → slice_get r.calls.items r.done ≡ Some call → may_init s.world r.item r.dest (init_of call) ≡ true → r.back ≡ s.player
+    → stage_course e (stages.Move (moves.Visiting r)) own by s ≡ in_any_case (question_course (questions.Apply call.of applies.Init) [] by (record s { player = Some call.player })) (stage_behind e (stages.Move (moves.Visiting r)) own by)
 first_course e r own by call s q m p =
     ap (λ l. and_then (inits by r.item r.dest (map init_of l) s) (ended e)) (left_at r.calls.items r.done call q)
     ∙ ap (λ c. and_then c (ended e)) (first_by by r.item r.dest (init_of call) (calls_behind r) s true m)
     ∙ asks_behind e r own by (Apply call.of (codes "init")) (Some call.player) s p
 
 pub init_asks : (e : Efun) (r : Visits) (call : InitCall) (below : ℕ) (stack : List Value) (live : Live) (turn : Turn) (budget : ℕ) → below ≤ length stack → slice_get r.calls.items r.done ≡ Some call
-    → IsNextMade live r.item r.dest (Some call) → r.player ≡ turn.player
-    → StageGoes (steps.Asks (questions.Apply call.of applies.Init) 0) e (stages.Visit r) below live turn stack budget live (record turn { player = Some call.player }) stack budget
+    → IsNextMade live r.item r.dest (Some call) → r.back ≡ turn.player
+    → StageGoes (steps.Asks (questions.Apply call.of applies.Init) 0) e (stages.Move (moves.Visiting r)) below live turn stack budget live (record turn { player = Some call.player }) stack budget
 init_asks e r call below stack live turn budget le q m p low own z k =
     let inside : r.done < length r.calls.items = found_inside r.calls.items r.done call q in
     record {
@@ -198,5 +200,5 @@ init_asks e r call below stack live turn budget le q m p low own z k =
 -- Answers
 
 -- the next call is left then
-pub visit_takes : (r : Visits) (v : Value) (l : ObjId → Bool) (below : ℕ) (stack : List Value) → StageTakes (stages.Visit r) v l below stack (stages.Visit (record r { done = r.done + 1 })) stack
+pub visit_takes : (r : Visits) (v : Value) (l : ObjId → Bool) (below : ℕ) (stack : List Value) → StageTakes (stages.Move (moves.Visiting r)) v l below stack (stages.Move (moves.Visiting (record r { done = r.done + 1 }))) stack
 visit_takes r v l below stack low own q k = record { own = own; stack = q; course = λ e by s i. refl }

@@ -1,7 +1,9 @@
 pub mod Targets
 pub mod Questions
+pub mod Moves
 pub mod Jobs
 pub mod Beginning
+pub mod Moving
 pub mod Entering
 pub mod Audiences
 pub mod Searches

@@ -23,7 +23,9 @@ use Rattle.lp_efuns.specs.declared.caller.Turn.{Turn}
 use Rattle.lp_efuns.specs.Turns.{At, Setting}
 use Rattle.lp_calling.specs.declared.job.Stage.{Stage}
 use Rattle.lp_calling.specs.declared.job.Stage.TheVariants as stages
-use Rattle.lp_calling.specs.declared.job.Visits.{Visits}
+use Rattle.lp_calling.specs.declared.moving.Moving.{Moving}
+use Rattle.lp_calling.specs.declared.moving.Moving.TheVariants as moves
+use Rattle.lp_calling.specs.declared.moving.Visits.{Visits}
 use Rattle.lp_calling.specs.Beginning.{acts}
 use Rattle.lp_calling.specs.Jobs.{stage_course}
 
@@ -33,12 +35,12 @@ IsWhom live v r = (w : World) → is_live w ≡ live → r ≡ live_object w v
 
 -- an item comes into its destination where both are live, and else there is no target
 abbrev pub move_stage : Option ObjId → Option ObjId → Stage
-move_stage (Some item) (Some dest) = stages.Move item dest
+move_stage (Some item) (Some dest) = stages.Move (moves.Into item dest)
 move_stage _ _ = stages.Error BadTarget
 
 -- the destination has a name that no live object has: a clone is none, and another object is loaded
 abbrev pub unnamed_stage : List ℕ → Stage
-unnamed_stage name = if is_clone_name name then stages.Error BadTarget else stages.Destination name
+unnamed_stage name = if is_clone_name name then stages.Error BadTarget else stages.Move (moves.Destination name)
 
 -- From each state for which the live state stands the efun acts with these arguments as from a stage.
 abbrev pub ActsAs : Live → List Value → Stage → Type 0
@@ -55,12 +57,18 @@ IsNextMade live item dest None = ⊤
 IsNextMade live item dest (Some i) =
     ((g : Setting) (turn : Turn) (budget : ℕ) (s : State) → At g live turn budget s → may_init s.world item dest (init_of i) ≡ true) × (live_in live.objects i.of ≡ true)
 
--- the next call is made, and behind it `this_player()` of now is put back
+-- The next call is made, and behind it `this_player()` of now is put back.
 pub record IsVisitPoised (r : Visits) (live : Live) (turn : Turn) : Type 0 where
   pub call : InitCall
   pub is : slice_get r.calls.items r.done ≡ Some call
   pub made : IsNextMade live r.item r.dest (Some call)
-  pub player : r.player ≡ turn.player
+  pub back : r.back ≡ turn.player
+
+-- a move asks as it stands
+abbrev pub IsMovePoised : Moving → Live → Turn → Type 0
+IsMovePoised (moves.Destination name) live turn = ⊤
+IsMovePoised (moves.Into item dest) live turn = ⊥
+IsMovePoised (moves.Visiting r) live turn = IsVisitPoised r live turn
 
 -- what tells whether a call of `init` is made, in each world for which the live state stands
 abbrev pub TellsMade : Bool → Live → ObjId → ObjId → InitCall → Type 0

@@ -8,6 +8,7 @@ ghost use Rattle.lp_calling.specs.Jobs.{IsStageOn, IsStageReady, stage_left};
 
 use crate::audience::{enter_audience, enter_say};
 use crate::job::Stage;
+use crate::moving::enter_moving;
 use crate::search::enter_search;
 use lp_efuns::caller::Turn;
 use lp_instr::efun::Efun;
@@ -20,7 +21,7 @@ fn is_direct(stage: &Stage) -> bool
     ensures { result ≡ is_direct stage.now }
 {
     match stage {
-        Stage::Say(_, _) | Stage::TellEach(_) | Stage::Seek(_) => false,
+        Stage::Move(_) | Stage::Say(_, _) | Stage::TellEach(_) | Stage::Seek(_) => false,
         _ => true,
     }
 }
@@ -56,6 +57,7 @@ pub(crate) fn enter(
         return Ok(stage);
     }
     match stage {
+        Stage::Move(moving) => enter_moving(moving, live, turn),
         Stage::Say(this, text) => enter_say(live, turn, this, text),
         Stage::TellEach(audience) => enter_audience(audience, live),
         Stage::Seek(search) => enter_search(search, live),

@@ -12,6 +12,7 @@ pub mod job;
 mod laying;
 mod load;
 mod messages;
+pub mod moving;
 pub mod next;
 mod search;
 mod target;

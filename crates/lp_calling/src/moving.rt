@@ -9,16 +9,19 @@ ghost use Rattle.lp_ops.specs.Operands.{operand};
 ghost use Rattle.lp_places.specs.Places.{MoveNo};
 ghost use Rattle.lp_world.specs.Closed.{IsClosed};
 ghost use Rattle.lp_world.specs.Rows.{live_in};
+ghost use Rattle.lp_world.specs.declared.live.Live.{Live as L};
 ghost use Rattle.lp_world.specs.declared.objects.Object.{Object};
+ghost use Rattle.lp_efuns.specs.declared.caller.Turn.{Turn as T};
 ghost use Rattle.lp_calling.specs.Beginning.{IsBegunReady, IsBegunThere, Starts};
-ghost use Rattle.lp_calling.specs.Entering.{Advances, IsPoised, IsVisitPoised};
+ghost use Rattle.lp_calling.specs.Entering.{Advances, IsPoised};
 ghost use Rattle.lp_calling.specs.Going.{IsAskedThere, IsStepThere, StageGoes, StageTakes};
-ghost use Rattle.lp_calling.specs.Jobs.{IsStageOn, IsStageReady, stage_left, unknown_many};
-ghost use Rattle.lp_calling.specs.Moving.{ActsAs, IsNextMade, IsWhom, Passes, Refuses, TellsMade, move_stage, unnamed_stage};
+ghost use Rattle.lp_calling.specs.Jobs.{IsStageOn, IsStageReady, move_left, stage_left, unknown_many};
+ghost use Rattle.lp_calling.specs.Moves.{IsMoveAsking, IsMoveOn, move_back};
+ghost use Rattle.lp_calling.specs.Moving.{ActsAs, IsMovePoised, IsNextMade, IsVisitPoised, IsWhom, Passes, Refuses, TellsMade, move_stage, unnamed_stage};
 ghost use Rattle.lp_calling.specs.Targets.{target_of};
 ghost use Rattle.lp_calling.specs.declared.target.CallTarget.TheVariants as targets;
 
-use crate::job::{Applied, Begun, CallingFault, Job, Question, Stage, Step, Visits};
+use crate::job::{Applied, Begun, CallingFault, Job, Question, Stage, Step};
 use crate::laying::above;
 use crate::target::{CallTarget, is_clone_name, target_of};
 use lp_efuns::arguments::text_at;
@@ -35,6 +38,32 @@ use lp_values::value::{Living, Value};
 use lp_world::live::Live;
 use lp_world::objects::ObjectTable;
 use std::alloc::AllocError;
+
+/// The calls of `init` that follow a move, one after another.
+#[derive(Drop)]
+pub struct Visits {
+    /// The item that was moved.
+    pub item: ObjId,
+    /// Its destination.
+    pub dest: ObjId,
+    /// The calls, the first one first.
+    pub calls: Vec<InitCall>,
+    /// How many of them are done.
+    pub done: usize,
+    /// `this_player()` behind a call that is asked.
+    pub back: Option<ObjId>,
+}
+
+/// Where a move stands. The values on the stack are the arguments of the efun, the item first.
+#[derive(Drop)]
+pub enum Moving {
+    /// It loads the destination of this name.
+    Destination(Text),
+    /// It moves an item into a destination.
+    Into(ObjId, ObjId),
+    /// The item was moved, and the calls of `init` that are left are made.
+    Visiting(Visits),
+}
 
 // Item and destination
 
@@ -84,7 +113,7 @@ fn move_stage(item: Option<ObjId>, dest: Option<ObjId>) -> Stage
 {
     match item {
         Some(i) => match dest {
-            Some(d) => Stage::Move(i, d),
+            Some(d) => Stage::Move(Moving::Into(i, d)),
             None => Stage::Error(ErrorKind::BadTarget),
         },
         None => Stage::Error(ErrorKind::BadTarget),
@@ -102,7 +131,7 @@ fn unnamed_stage(live: &Live, name: &str) -> Result<Stage, AllocError>
     if is_clone_name(name) {
         return Ok(Stage::Error(ErrorKind::BadTarget));
     }
-    Ok(Stage::Destination(Text::from_str(live.alloc, name)?))
+    Ok(Stage::Move(Moving::Destination(Text::from_str(live.alloc, name)?)))
 }
 
 /// The first stage where the destination is a text: the live object with the name that it means.
@@ -148,14 +177,14 @@ pub(crate) fn begin_move(live: &Live, stack: &Vec<Value>, low: usize) -> Result<
 }
 
 /// The destination was loaded: it is what the load gave. The item and it are to be live then.
-pub(crate) fn take_destination(
+fn take_destination(
     objects: &ObjectTable,
     stack: &Vec<Value>,
     low: usize,
     v: &Value,
 ) -> Stage
     requires low { low ≤ length stack.now.items }
-    ensures takes { (name : List ℕ) → StageTakes (Stage.Destination name) v.now (live_in objects.now) low stack.now.items result stack.now.items }
+    ensures takes { (name : List ℕ) → StageTakes (Stage.Move (Moving.Destination name)) v.now (live_in objects.now) low stack.now.items result stack.now.items }
     ensures on { (low n : ℕ) → low ≤ n → IsStageOn result low n }
     ensures less { stage_left result ≤ unknown_many }
     ensures ready { (objects : List (Option Object)) → IsStageReady objects result }
@@ -192,13 +221,13 @@ fn next_made(live: &Live, item: ObjId, dest: ObjId, calls: &[InitCall], from: us
 }
 
 /// The calls of `init` that are left come to the next one that is made; where there is none, the value is 0.
-pub(crate) fn enter_visits(visits: Visits, live: &Live, turn: &Turn) -> Stage
+fn enter_visits(visits: Visits, live: &Live, turn: &Turn) -> Stage
     requires done { visits.done ≤ length visits.calls.items }
-    ensures advances { Advances (Stage.Visit visits) live.now turn.now result live.now turn.now }
+    ensures advances { Advances (Stage.Move (Moving.Visiting visits)) live.now turn.now result live.now turn.now }
     ensures poised { IsPoised result live.now turn.now }
     ensures on { (low n : ℕ) → low ≤ n → IsStageOn result low n }
     ensures ready { (objects : List (Option Object)) → IsStageReady objects result }
-    ensures left { stage_left result ≤ stage_left (Stage.Visit visits) }
+    ensures left { stage_left result ≤ stage_left (Stage.Move (Moving.Visiting visits)) }
     ensures room { stage_left result ≤ unknown_many }
 {
     let mut visits = visits;
@@ -214,13 +243,12 @@ pub(crate) fn enter_visits(visits: Visits, live: &Live, turn: &Turn) -> Stage
         return Stage::Zero;
     }
     visits.done = at;
-    visits.player = turn.player;
-    Stage::Visit(visits)
+    visits.back = turn.player;
+    Stage::Move(Moving::Visiting(visits))
 }
 
 /// The next call of `init` is asked, for its player, who is `this_player()` until the answer.
-pub(crate) fn ask_init(
-    efun: Efun,
+fn ask_init(
     visits: &Visits,
     live: &Live,
     turn: &mut Turn,
@@ -229,7 +257,7 @@ pub(crate) fn ask_init(
 ) -> Step
     requires low { low ≤ length stack.now.items }
     requires poised { IsVisitPoised visits.now live.now turn.old }
-    ensures goes { (budget : ℕ) → StageGoes result efun (Stage.Visit visits.now) low live.now turn.old stack.now.items budget live.now turn.new stack.now.items budget }
+    ensures goes { (efun : _) (budget : ℕ) → StageGoes result efun (Stage.Move (Moving.Visiting visits.now)) low live.now turn.old stack.now.items budget live.now turn.new stack.now.items budget }
     ensures there { (cells : Store) → IsStepThere cells result }
     ensures asked { IsAskedThere live.now.objects result }
 {
@@ -239,16 +267,16 @@ pub(crate) fn ask_init(
 }
 
 /// A call of `init` was answered, whatever the answer.
-pub(crate) fn take_visit(visits: Visits) -> Stage
+fn take_visit(visits: Visits) -> Stage
     requires asking { visits.done < length visits.calls.items }
-    ensures takes { (v : V) (live : _) (low : ℕ) (stack : List V) → StageTakes (Stage.Visit visits) v live low stack result stack }
+    ensures takes { (v : V) (live : _) (low : ℕ) (stack : List V) → StageTakes (Stage.Move (Moving.Visiting visits)) v live low stack result stack }
     ensures on { (low n : ℕ) → low ≤ n → IsStageOn result low n }
-    ensures less { stage_left result < stage_left (Stage.Visit visits) }
+    ensures less { stage_left result < stage_left (Stage.Move (Moving.Visiting visits)) }
     ensures ready { (objects : List (Option Object)) → IsStageReady objects result }
 {
     let mut visits = visits;
     visits.done += 1;
-    Stage::Visit(visits)
+    Stage::Move(Moving::Visiting(visits))
 }
 
 // The move
@@ -269,14 +297,14 @@ fn error_of(fault: MoveFault) -> Result<ErrorKind, AllocError>
 ///
 /// # Errors
 /// Where memory runs out. The state stands for what it stood for then.
-pub(crate) fn enter_move(
+fn enter_into(
     item: ObjId,
     dest: ObjId,
     live: &mut Live,
     turn: &Turn,
 ) -> Result<Stage, AllocError>
     requires closed { IsClosed live.old }
-    ensures advances { IfOk result (λ t. Advances (Stage.Move item dest) live.old turn.now t live.new turn.now) }
+    ensures advances { IfOk result (λ t. Advances (Stage.Move (Moving.Into item dest)) live.old turn.now t live.new turn.now) }
     ensures poised { IfOk result (λ t. IsPoised t live.new turn.now) }
     ensures on { IfOk result (λ t. (low n : ℕ) → low ≤ n → IsStageOn t low n) }
     ensures ready { IfOk result (λ t. (objects : List (Option Object)) → IsStageReady objects t) }
@@ -293,10 +321,102 @@ pub(crate) fn enter_move(
                 dest,
                 calls,
                 done: 0,
-                player: None,
+                back: None,
             };
             Ok(enter_visits(visits, live, turn))
         }
         Err(fault) => Ok(Stage::Error(error_of(fault)?)),
+    }
+}
+
+// At any stage
+
+/// `this_player()` once a question of a move has ended.
+pub(crate) fn move_back(moving: &Moving, player: Option<ObjId>) -> Option<ObjId>
+    ensures { result ≡ move_back moving.now player }
+{
+    match moving {
+        Moving::Destination(_) | Moving::Into(_, _) => player,
+        Moving::Visiting(visits) => visits.back,
+    }
+}
+
+/// A move goes on up to where it asks or ends: the item is moved, and calls of `init` that are not made are passed.
+///
+/// # Errors
+/// Where memory runs out. The state stands for what it stood for then.
+pub(crate) fn enter_moving(
+    moving: Moving,
+    live: &mut Live,
+    turn: &Turn,
+) -> Result<Stage, AllocError>
+    requires closed { IsClosed live.old }
+    requires on { IsMoveOn moving }
+    ensures advances { IfOk result (λ t. Advances (Stage.Move moving) live.old turn.now t live.new turn.now) }
+    ensures poised { IfOk result (λ t. IsPoised t live.new turn.now) }
+    ensures on { IfOk result (λ t. (low n : ℕ) → low ≤ n → IsStageOn t low n) }
+    ensures ready { IfOk result (λ t. (objects : List (Option Object)) → IsStageReady objects t) }
+    ensures left { IfOk result (λ t. stage_left t ≤ move_left moving) }
+    ensures closed { IsClosed live.new }
+    ensures cells { live.new.cells ≡ live.old.cells }
+    ensures objects { live.new.objects ≡ live.old.objects }
+    ensures names { live.new.names ≡ live.old.names }
+{
+    match moving {
+        Moving::Destination(name) => Ok(Stage::Move(Moving::Destination(name))),
+        Moving::Into(item, dest) => enter_into(item, dest, live, turn),
+        Moving::Visiting(visits) => Ok(enter_visits(visits, live, turn)),
+    }
+}
+
+/// The destination of this name is to be loaded, without arguments.
+fn ask_destination(name: &Text) -> Result<Step, AllocError>
+    ensures goes { IfOk result (λ r. (efun : _) (low : ℕ) (live : L) (turn : T) (stack : List V) (budget : ℕ) → low ≤ length stack → StageGoes r efun (Stage.Move (Moving.Destination name.now)) low live turn stack budget live turn stack budget) }
+    ensures there { IfOk result (λ r. (cells : Store) → IsStepThere cells r) }
+    ensures asked { IfOk result (λ r. (objects : List (Option Object)) → IsAskedThere objects r) }
+{
+    Ok(Step::Asks(Question::Load(name.copy()?), 0))
+}
+
+/// A move asks: for the load of its destination, or for the next call of `init`.
+pub(crate) fn ask_moving(
+    moving: &Moving,
+    live: &Live,
+    turn: &mut Turn,
+    stack: &Vec<Value>,
+    low: usize,
+) -> Result<Step, AllocError>
+    requires low { low ≤ length stack.now.items }
+    requires poised { IsMovePoised moving.now live.now turn.old }
+    ensures goes { IfOk result (λ r. (efun : _) (budget : ℕ) → StageGoes r efun (Stage.Move moving.now) low live.now turn.old stack.now.items budget live.now turn.new stack.now.items budget) }
+    ensures there { IfOk result (λ r. (cells : Store) → IsStepThere cells r) }
+    ensures asked { IfOk result (IsAskedThere live.now.objects) }
+{
+    match moving {
+        Moving::Destination(name) => ask_destination(name),
+        Moving::Into(_, _) => unreachable!(),
+        Moving::Visiting(visits) => Ok(ask_init(visits, live, turn, stack, low)),
+    }
+}
+
+/// A question of a move was answered.
+pub(crate) fn take_moving(
+    moving: Moving,
+    objects: &ObjectTable,
+    stack: &Vec<Value>,
+    low: usize,
+    v: &Value,
+) -> Stage
+    requires low { low ≤ length stack.now.items }
+    requires asking { IsMoveAsking moving }
+    ensures takes { StageTakes (Stage.Move moving) v.now (live_in objects.now) low stack.now.items result stack.now.items }
+    ensures on { (low n : ℕ) → low ≤ n → IsStageOn result low n }
+    ensures less { stage_left result < move_left moving }
+    ensures ready { (objects : List (Option Object)) → IsStageReady objects result }
+{
+    match moving {
+        Moving::Destination(_) => take_destination(objects, stack, low, v),
+        Moving::Into(_, _) => unreachable!(),
+        Moving::Visiting(visits) => take_visit(visits),
     }
 }
