@@ -71,7 +71,10 @@ pub enum Moving {
 fn if_live(o: ObjId, objects: &ObjectTable) -> Option<ObjId>
     ensures { IsWhom (live_in objects.now) (V.Obj o) result }
 {
-    if objects.is_live(o) { Some(o) } else { None }
+    if objects.is_live(o) {
+        return Some(o);
+    }
+    None
 }
 
 /// The live object that a value is.
@@ -123,7 +126,7 @@ fn move_stage(item: Option<ObjId>, dest: Option<ObjId>) -> Stage
 // Beginning
 
 /// The stage at which the destination has this name, which no live object has. A clone is none.
-fn unnamed_stage(live: &Live, name: &str) -> Result<Stage, AllocError>
+fn unnamed_stage(live: &Live, name: &str) -> Result<Stage, CallingFault>
     ensures stage { IfOk result (λ st. st ≡ unnamed_stage (chars name.now)) }
     ensures on { IfOk result (λ st. (low n : ℕ) → low ≤ n → IsStageOn st low n) }
     ensures ready { IfOk result (λ st. (objects : List (Option Object)) → IsStageReady objects st) }
@@ -144,7 +147,7 @@ fn named_stage(live: &Live, args: &[Value]) -> Result<Stage, CallingFault>
     let name = as_name(live.alloc, text_at(args, 1))?;
     match live.names.find(name.as_str()) {
         Some(o) => Ok(move_stage(item_in(args, &live.objects), if_live(o, &live.objects))),
-        None => Ok(unnamed_stage(live, name.as_str())?),
+        None => unnamed_stage(live, name.as_str()),
     }
 }
 
