@@ -2,10 +2,13 @@ pub mod Lists
 pub mod Courses
 pub mod Settled
 pub mod Ending
+pub mod Entering
 pub mod Calling
 pub mod Loading
 pub mod Rounds
 pub mod Telling
+pub mod Audiences
+pub mod Searches
 pub mod Writing
 pub mod Moves
 pub mod Visits

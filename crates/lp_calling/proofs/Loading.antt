@@ -31,7 +31,7 @@ use Rattle.lp_calling.specs.Going.{StageGoes, StageTakes}
 use Rattle.lp_calling.specs.Jobs.{called_in, ended}
 use Rattle.lp_calling.specs.Targets.{IsLoadable, IsUnnamed, MeansName}
 use Rattle.lp_calling.proofs.Calling.{FoundBy, error_starts}
-use Rattle.lp_calling.proofs.Courses.{then_on}
+use Rattle.lp_calling.proofs.Courses.{asked_on, then_on}
 use Rattle.lp_calling.proofs.Settled.{settled_here}
 
 -- Names
@@ -61,7 +61,7 @@ unnamed_led live vs name is g turn b by s m u c h =
 
 -- Beginning
 
-one_above : (low : List Value) (v : Value) (n : ℕ) (stack : List Value) → stack ≡ low ++ v ∷ [] → length low ≡ n → n < length stack
+pub one_above : (low : List Value) (v : Value) (n : ℕ) (stack : List Value) → stack ≡ low ++ v ∷ [] → length low ≡ n → n < length stack
 one_above low v n stack e k = let z : length stack ≡ length low + 1 = ap length e ∙ length-append low (v ∷ []) in omega arith
 
 -- a live object takes the place of the arguments
@@ -124,7 +124,7 @@ load_asks e name below stack live turn budget le low own q k = record {
   fits = subst (λ l. below ≤ length l) q le;
   is_asking = tt;
   with_these = refl;
-  course = λ g by s h. (s, settled_here g live turn budget s h, refl);
+  course = λ g by s h. (s, settled_here g live turn budget s h, asked_on e (stages.Load name) own by (load_value by name s) (λ p. refl));
 }
 
 pub target_asks : (e : Efun) (name fun : List ℕ) (below : ℕ) (stack : List Value) (live : Live) (turn : Turn) (budget : ℕ) → below ≤ length stack
@@ -138,7 +138,7 @@ target_asks e name fun below stack live turn budget le low own q k = record {
   fits = subst (λ l. below ≤ length l) q le;
   is_asking = tt;
   with_these = refl;
-  course = λ g by s h. (s, settled_here g live turn budget s h, then_on (load_value by name s) (λ v s. called_in fun (drop 2 own) by v s) (ended e));
+  course = λ g by s h. (s, settled_here g live turn budget s h, then_on (load_value by name s) (λ v s. called_in fun (drop 2 own) by v s) (ended e) ∙ asked_on e (stages.Target name fun) own by (load_value by name s) (λ p. refl));
 }
 
 -- Answers

@@ -52,7 +52,7 @@ use Rattle.lp_calling.specs.Beginning.{Starts, acts}
 use Rattle.lp_calling.specs.Going.{StageGoes, StageTakes}
 use Rattle.lp_calling.specs.Jobs.{added, answered, ended, further, going, items_left, round_efun, taken, taken_by}
 use Rattle.lp_calling.proofs.Calling.{error_starts}
-use Rattle.lp_calling.proofs.Courses.{pays_nothing, then_on}
+use Rattle.lp_calling.proofs.Courses.{asked_on, pays_nothing, then_on}
 use Rattle.lp_calling.proofs.Ending.{cut_to}
 use Rattle.lp_calling.proofs.Settled.{end_settled, settled_here, value_settles}
 use Rattle.lp_calling.proofs.Lists.{further_is, get_above, item_first, item_got, left_behind, left_split, part_at, part_kept, taken_grown}
@@ -193,7 +193,8 @@ item_asks e r below n stack0 stack1 live turn budget room d l c t low own q k =
       course = λ g by s h. (
         s,
         settled_here g live turn budget s h,
-        item_asked e r own (drop (r.done + 1) (take r.count (drop r.arguments own))) next.0 by s (sym (ap (λ f. f r.object) (live_same g.told g.programs live s.world h.stands)) ∙ l) next.1,
+        item_asked e r own (drop (r.done + 1) (take r.count (drop r.arguments own))) next.0 by s (sym (ap (λ f. f r.object) (live_same g.told g.programs live s.world h.stands)) ∙ l) next.1
+            ∙ asked_on e (stages.Items r) own by (ask_value (Other r.object r.function) (next.0 ∷ further r own) by s) (λ p. refl),
       );
     }
 

@@ -39,7 +39,7 @@ use Rattle.lp_calling.specs.Beginning.{Settled, Starts}
 use Rattle.lp_calling.specs.Going.{StageGoes}
 use Rattle.lp_calling.specs.Jobs.{IsStageOn, IsStageReady, ended, stage_course}
 use Rattle.lp_calling.specs.Targets.{reader, told_stage}
-use Rattle.lp_calling.proofs.Courses.{then_on}
+use Rattle.lp_calling.proofs.Courses.{asked_on, then_on}
 use Rattle.lp_calling.proofs.Settled.{over_onward, settled_here}
 
 differ : false ≡ true → ⊥
@@ -92,7 +92,7 @@ ends_as (steps.Asks c n) e stage below live0 live1 turn stack0 stack1 b0 b1 z f 
 -- Telling
 
 -- a message to a live object, by its connection
-abbrev tell_to : Asker → ObjId → List ℕ → State → Option ℕ → Course Value
+abbrev pub tell_to : Asker → ObjId → List ℕ → State → Option ℕ → Course Value
 tell_to by o text s None = and_then (ask_value (Apply o (codes "catch_tell")) (values.Str text ∷ []) by s) (λ v s. gives zero_value s)
 tell_to by o text s (Some k) = gives zero_value (told (outs.Text k text ∷ []) s)
 
@@ -101,13 +101,13 @@ told_to : (by : Asker) (o : ObjId) (text : List ℕ) (s : State) (c : Option ℕ
 told_to by o text s None = refl
 told_to by o text s (Some k) = refl
 
-telling : (by : Asker) (o : ObjId) (text : List ℕ) (s : State) (b : Bool) (c : Option ℕ) → is_live s.world o ≡ b → connection_of s.world o ≡ c → tell by o text s ≡ (if b then tell_to by o text s c else gives zero_value s)
+pub telling : (by : Asker) (o : ObjId) (text : List ℕ) (s : State) (b : Bool) (c : Option ℕ) → is_live s.world o ≡ b → connection_of s.world o ≡ c → tell by o text s ≡ (if b then tell_to by o text s c else gives zero_value s)
 telling by o text s b c l e =
     ap (λ x. if is_live s.world o then x else gives zero_value s) (told_to by o text s (connection_of s.world o))
     ∙ ap (λ x. if x then tell_to by o text s (connection_of s.world o) else gives zero_value s) l
     ∙ ap (λ x. if b then tell_to by o text s x else gives zero_value s) e
 
-live_at : (g : Setting) (live : Live) (turn : Turn) (b : ℕ) (s : State) (o : ObjId) (is : Bool) → At g live turn b s → live_in live.objects o ≡ is → is_live s.world o ≡ is
+pub live_at : (g : Setting) (live : Live) (turn : Turn) (b : ℕ) (s : State) (o : ObjId) (is : Bool) → At g live turn b s → live_in live.objects o ≡ is → is_live s.world o ≡ is
 live_at g live turn b s o is h l = sym (ap (λ f. f o) (live_same g.told g.programs live s.world h.stands)) ∙ l
 
 pub dead_told : (e : Efun) (o : ObjId) (text : List ℕ) (live : Live) (turn : Turn) (b : ℕ) → live_in live.objects o ≡ false
@@ -137,7 +137,8 @@ tell_asks e o text below stack0 stack1 live turn budget le l c t low own q k = r
     s,
     settled_here g live turn budget s h,
     ap (λ c. and_then c (ended e)) (telling by o text s true None (live_at g live turn budget s o true h l) (connection_same g live turn budget s o h ∙ sym c))
-        ∙ then_on (ask_value (Apply o (codes "catch_tell")) (values.Str text ∷ []) by s) (λ v s. gives zero_value s) (ended e),
+        ∙ then_on (ask_value (Apply o (codes "catch_tell")) (values.Str text ∷ []) by s) (λ v s. gives zero_value s) (ended e)
+        ∙ asked_on e (stages.Tell o text) own by (ask_value (Apply o (codes "catch_tell")) (values.Str text ∷ []) by s) (λ p. refl),
   );
 }
 
