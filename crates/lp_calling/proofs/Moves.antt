@@ -1,5 +1,5 @@
 -- Where `move_object` moves an item to.
-use Rattle.std.proofs.Common.{◌≡◌, ◌∙◌, ℕ, Bool, true, false, List, Option, Some, None, refl, ap, sym, drop, length, map, if◌then◌else◌}
+use Rattle.std.proofs.Common.{◌≡◌, ◌∙◌, ◌≤◌, ◌++◌, [], ℕ, Bool, true, false, List, Option, Some, None, refl, ap, sym, subst, append-nil, drop, length, map, if◌then◌else◌}
 use Rattle.std.proofs.lemmas.List.{drop_at}
 use Rattle.lp_values.specs.declared.error.ErrorKind.TheVariants.{BadTarget}
 use Rattle.lp_values.specs.Errors.{plain}
@@ -26,17 +26,21 @@ use Rattle.lp_efuns.specs.declared.caller.Turn.{Turn}
 use Rattle.lp_efuns.specs.Turns.{At, Setting}
 use Rattle.lp_efuns.proofs.Looking.{found_same}
 use Rattle.lp_calling.specs.declared.job.Begun.TheVariants as begun
+use Rattle.lp_calling.specs.declared.job.Question.TheVariants as questions
 use Rattle.lp_calling.specs.declared.job.Stage.{Stage}
 use Rattle.lp_calling.specs.declared.job.Stage.TheVariants as stages
+use Rattle.lp_calling.specs.declared.job.Step.TheVariants as steps
 use Rattle.lp_calling.specs.declared.moving.Moving.TheVariants as moves
 use Rattle.lp_calling.specs.declared.target.CallTarget.{CallTarget}
 use Rattle.lp_calling.specs.declared.target.CallTarget.TheVariants as targets
 use Rattle.lp_calling.specs.Beginning.{Starts, acts}
-use Rattle.lp_calling.specs.Going.{StageTakes}
+use Rattle.lp_calling.specs.Going.{StageGoes, StageTakes}
 use Rattle.lp_calling.specs.Jobs.{IsStageOn, ended, stage_course}
+use Rattle.lp_calling.specs.Moves.{comes_into}
 use Rattle.lp_calling.specs.Moving.{ActsAs, IsWhom, move_stage, unnamed_stage}
 use Rattle.lp_calling.specs.Targets.{target_of}
 use Rattle.lp_calling.proofs.Calling.{FoundBy}
+use Rattle.lp_calling.proofs.Courses.{asked_on, then_on}
 use Rattle.lp_calling.proofs.Loading.{led}
 use Rattle.lp_calling.proofs.Settled.{settled_here}
 
@@ -168,3 +172,24 @@ destination_takes name v l item dest below stack w x low own q k =
       course = λ e by s i.
           dest_staged e s.world (value_arg own 0) v item dest own by s (ap (λ ws. live_object s.world (value_arg ws 0)) (sym same) ∙ sym (w s.world i)) (sym (x s.world i));
     }
+
+-- Asking
+
+-- nothing lies on top of the job's own values
+pub destination_asks : (e : Efun) (name : List ℕ) (below : ℕ) (stack : List Value) (live : Live) (turn : Turn) (budget : ℕ) → below ≤ length stack
+    → StageGoes (steps.Asks (questions.Load name) 0) e (stages.Move (moves.Destination name)) below live turn stack budget live turn stack budget
+destination_asks e name below stack live turn budget le low own q k = record {
+  own = own;
+  arguments = [];
+  stack = q ∙ sym (append-nil (low ++ own));
+  count = refl;
+  height = refl;
+  fits = (subst (λ l. below ≤ length l) q le, tt);
+  is_asking = tt;
+  with_these = refl;
+  course = λ g by s h. (
+    s,
+    settled_here g live turn budget s h,
+    then_on (load_value by name s) (comes_into (value_arg own 0) by) (ended e) ∙ asked_on e (stages.Move (moves.Destination name)) own by (load_value by name s) (λ p. refl),
+  );
+}

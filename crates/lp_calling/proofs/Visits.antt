@@ -150,6 +150,10 @@ refusal_advances item dest live0 live1 turn fault kind k f st o e own g b by s h
       (refused_moves by item dest s (may_move s.world.places s.world.shadows item dest) kind (k (may_move s.world.places s.world.shadows item dest) (f g.told g.programs s.world h.stands)) refl),
 )
 
+-- nothing changes
+pub still_advances : (stage : Stage) (live : Live) (turn : Turn) → Advances stage live turn stage live turn
+still_advances stage live turn e own g b by s h = (s, settled_here g live turn b s h, refl)
+
 -- one after another
 pub advance_on : (stage0 stage1 stage2 : Stage) (live0 live1 live2 : Live) (turn0 turn1 turn2 : Turn) → Advances stage0 live0 turn0 stage1 live1 turn1 → Advances stage1 live1 turn1 stage2 live2 turn2 → Advances stage0 live0 turn0 stage2 live2 turn2
 advance_on stage0 stage1 stage2 live0 live1 live2 turn0 turn1 turn2 f k e own g b by s h =
