@@ -16,7 +16,7 @@ use Rattle.lp_efuns.specs.Turns.{At, Setting}
 use Rattle.lp_calling.specs.declared.job.Audience.{Audience}
 use Rattle.lp_calling.specs.Beginning.{Settled}
 use Rattle.lp_calling.specs.Entering.{IsAudiencePoised, IsTold}
-use Rattle.lp_calling.specs.Jobs.{listeners_left, telling, unknown_many}
+use Rattle.lp_calling.specs.Jobs.{listeners_left, telling}
 
 -- who says something, in each state for which the live state stands
 abbrev pub Speaks : ObjId → Live → Turn → ObjId → Type 0
@@ -36,7 +36,6 @@ pub record IsAudienceIn (a : Audience) (live : Live) (place : ObjId) (but : Opti
   pub but : a.but ≡ but
   pub listeners : Holds live place a.listeners.items
   pub none_done : a.done ≡ 0
-  pub few : length a.listeners.items < unknown_many
 
 -- An object that is next is done: telling it and those behind it is telling those, in a state for which the live state stands then.
 abbrev pub IsDone : Audience → Live → Live → ObjId → Type 0

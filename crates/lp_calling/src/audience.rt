@@ -199,6 +199,7 @@ pub(crate) fn enter_audience(audience: Audience, live: &mut Live) -> Result<Stag
     ensures on { IfOk result (λ t. (low n : _) → low ≤ n → IsStageOn t low n) }
     ensures ready { IfOk result (λ t. (objects : List (Option Object)) → IsStageReady objects t) }
     ensures left { IfOk result (λ t. stage_left t ≤ length audience.listeners.items - audience.done) }
+    ensures few { IfOk result (λ t. stage_left t ≤ unknown_many) }
     ensures closed { IsClosed live.new }
     ensures same { live.new ≡ record live.old { outputs = live.new.outputs } }
 {

@@ -52,7 +52,7 @@ fn start(
 fn go_on(
     rt: &impl Abort,
     live: &mut Live,
-    turn: &Turn,
+    turn: &mut Turn,
     stack: &mut Vec<Value>,
     job: &mut Job,
     budget: &mut u64,
@@ -83,7 +83,7 @@ fn go_on(
 fn carry(
     rt: &impl Abort,
     live: &mut Live,
-    turn: &Turn,
+    turn: &mut Turn,
     stack: &mut Vec<Value>,
     job: &mut Job,
     replies: &[Reply],
@@ -97,11 +97,11 @@ fn carry(
         if !go_on(rt, live, turn, stack, job, budget, log)? {
             return Ok(());
         }
-        answer(rt, live, stack, job, *reply)?;
+        answer(rt, live, turn, stack, job, *reply)?;
     }
     if go_on(rt, live, turn, stack, job, budget, log)? {
         say(live.alloc, log, "and is stopped")?;
-        stop(job, stack);
+        stop(job, turn, stack);
     }
     Ok(())
 }
@@ -110,7 +110,7 @@ fn carry(
 fn finish(
     rt: &impl Abort,
     live: &mut Live,
-    turn: &Turn,
+    turn: &mut Turn,
     stack: &mut Vec<Value>,
     job: Option<Job>,
     replies: &[Reply],
@@ -134,7 +134,7 @@ fn finish(
 pub fn outcome(
     rt: &impl Abort,
     live: &mut Live,
-    turn: &Turn,
+    turn: &mut Turn,
     efun: Efun,
     args: &[Arg],
     replies: &[Reply],

@@ -6,6 +6,7 @@ use crate::state::destruct;
 use crate::values::{Arg, Item, has_all, make_item, value};
 use lp_calling::feed::feed;
 use lp_calling::job::Job;
+use lp_efuns::caller::Turn;
 use lp_values::id::{CellId, ObjId};
 use lp_values::value::Value;
 use lp_world::live::Live;
@@ -90,6 +91,7 @@ fn reply_of(live: &mut Live, stack: &[Value], reply: Reply) -> Result<Value, Fai
 pub fn answer(
     rt: &impl Abort,
     live: &mut Live,
+    turn: &mut Turn,
     stack: &mut Vec<Value>,
     job: &mut Job,
     reply: Reply,
@@ -105,6 +107,6 @@ pub fn answer(
         has_all(&live.cells, stack.as_slice()),
         "the stack is there"
     );
-    feed(job, live, stack, v)?;
+    feed(job, live, turn, stack, v)?;
     Ok(())
 }

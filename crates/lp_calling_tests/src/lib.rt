@@ -18,7 +18,11 @@ mod messages;
 #[cfg(test)]
 mod prices;
 #[cfg(test)]
+mod rooms;
+#[cfg(test)]
 mod rows;
+#[cfg(test)]
+mod searches;
 #[cfg(test)]
 mod state;
 #[cfg(test)]

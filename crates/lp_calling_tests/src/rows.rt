@@ -1,7 +1,7 @@
 //! Tables of jobs.
 use crate::carrying::outcome;
 use crate::happening::Reply;
-use crate::state::{some_state, turn_of};
+use crate::state::{some_hall, some_state, turn_of};
 use crate::telling::is_so;
 use crate::values::Arg;
 use lp_instr::efun::Efun;
@@ -21,9 +21,9 @@ fn comes_to(
     row: &Row,
 ) -> Result<bool, Fail> {
     let mut live = some_state(alloc)?;
-    let turn = turn_of(alloc, player);
+    let mut turn = turn_of(alloc, player);
     let mut budget = 1000000;
-    let found = outcome(rt, &mut live, &turn, row.0, row.1, row.2, &mut budget)?;
+    let found = outcome(rt, &mut live, &mut turn, row.0, row.1, row.2, &mut budget)?;
     Ok(is_so(alloc, found.as_slice(), row.3)?)
 }
 
@@ -40,6 +40,33 @@ pub fn hold(
     Ok(())
 }
 
+/// Whether a job in the hall comes to this, in a turn of a player.
+fn comes_to_in_hall(
+    rt: &impl Abort,
+    alloc: Global,
+    player: Option<ObjId>,
+    row: &Row,
+) -> Result<bool, Fail> {
+    let mut live = some_hall(alloc)?;
+    let mut turn = turn_of(alloc, player);
+    let mut budget = 1000000;
+    let found = outcome(rt, &mut live, &mut turn, row.0, row.1, row.2, &mut budget)?;
+    Ok(is_so(alloc, found.as_slice(), row.3)? && turn.player == player)
+}
+
+/// Each in the hall, in a turn of a player, who stays `this_player()`.
+pub fn hold_in_hall(
+    rt: &impl Abort,
+    alloc: Global,
+    player: Option<ObjId>,
+    rows: &[Row],
+) -> Result<(), Fail> {
+    for row in rows {
+        assert!(rt; comes_to_in_hall(rt, alloc, player, row)?, "{:?} {}", row.0, row.3);
+    }
+    Ok(())
+}
+
 /// Whether a call with this budget comes to this, and leaves so much of it.
 pub fn costs(
     rt: &impl Abort,
@@ -49,8 +76,8 @@ pub fn costs(
     left: u64,
 ) -> Result<bool, Fail> {
     let mut live = some_state(alloc)?;
-    let turn = turn_of(alloc, Some(ObjId(4)));
+    let mut turn = turn_of(alloc, Some(ObjId(4)));
     let mut budget = budget;
-    let found = outcome(rt, &mut live, &turn, row.0, row.1, row.2, &mut budget)?;
+    let found = outcome(rt, &mut live, &mut turn, row.0, row.1, row.2, &mut budget)?;
     Ok(is_so(alloc, found.as_slice(), row.3)? && budget == left)
 }

@@ -10,8 +10,11 @@ use lp_code::name::Name;
 use lp_code::program::{FunRow, Program, RawProgram};
 use lp_code::slots::Slots;
 use lp_code::tables::Tables;
-use lp_efuns::caller::Turn;
+use lp_efuns::caller::{Caller, Turn};
+use lp_efuns::plain::call_plain;
+use lp_instr::efun::Efun;
 use lp_instr::instr::Instr;
+use lp_moving::moving::move_into;
 use lp_objects::objects::Objects;
 use lp_residence::adding::{add_object, add_version};
 use lp_residence::ending::destroy;
@@ -181,6 +184,58 @@ pub fn destruct(live: &mut Live, ob: ObjId) -> Result<(), Fail>
     end(live, ob);
     set_names(live, table);
     Ok(())
+}
+
+/// An object becomes living.
+fn animate(live: &mut Live, ob: u64) -> Result<(), Fail>
+    requires { IsWhole live.old }
+    ensures { OnOk result (IsWhole live.new) }
+{
+    let caller = Caller {
+        this: ObjId(ob),
+        interactive: None,
+        callers: &[],
+    };
+    let mut turn = turn_of(live.alloc, None);
+    let mut budget = 1000;
+    match call_plain(
+        live,
+        &mut turn,
+        &caller,
+        Efun::EnableCommands,
+        &[],
+        &mut budget,
+    ) {
+        Ok(_) => Ok(()),
+        Err(_) => Err(AllocError)?,
+    }
+}
+
+/// An object comes into another one.
+fn put(live: &mut Live, item: u64, dest: u64) -> Result<(), Fail>
+    requires { IsWhole live.old }
+    ensures { OnOk result (IsWhole live.new) }
+{
+    match move_into(live, ObjId(item), ObjId(dest)) {
+        Ok(_) => Ok(()),
+        Err(_) => Err(AllocError)?,
+    }
+}
+
+/// The state of the tests, where the players (4 and 5), a sword (1) and another one (2) that player 1 holds are in the hall (3). The
+/// players and the first sword are living. The player who came last, player 2, stands first there, then player 1, then the sword.
+pub fn some_hall(alloc: Global) -> Result<Live, Fail>
+    ensures { IfOk result IsWhole }
+{
+    let mut live = some_state(alloc)?;
+    animate(&mut live, 1)?;
+    animate(&mut live, 4)?;
+    animate(&mut live, 5)?;
+    put(&mut live, 1, 3)?;
+    put(&mut live, 4, 3)?;
+    put(&mut live, 5, 3)?;
+    put(&mut live, 2, 4)?;
+    Ok(live)
 }
 
 /// A turn of a player, in which no command runs.

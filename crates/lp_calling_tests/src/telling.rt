@@ -83,9 +83,10 @@ fn say_question(alloc: Global, log: &mut Vec<char>, question: &Question) -> Resu
             say(alloc, log, ".")?;
             log.extend_from_slice(name.as_slice())
         }
-        Question::CatchTell(o) => {
+        Question::Apply(o, applied) => {
             say_number(alloc, log, o.0)?;
-            say(alloc, log, "!catch_tell")
+            say(alloc, log, "!")?;
+            say(alloc, log, applied.name())
         }
         Question::Load(name) => {
             say(alloc, log, "load ")?;
