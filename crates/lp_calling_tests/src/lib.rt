@@ -16,6 +16,8 @@ mod loads;
 #[cfg(test)]
 mod messages;
 #[cfg(test)]
+mod moves;
+#[cfg(test)]
 mod prices;
 #[cfg(test)]
 mod rooms;
