@@ -87,7 +87,7 @@ const LOADED: [Row; 5] = [
 
 #[test]
 fn loaded(rt: HostRuntime) -> Result<(), Fail> {
-    hold_in_hall(&rt, rt.alloc(), Some(ObjId(4)), &LOADED)
+    hold_in_hall(&rt, rt.alloc(), None, &LOADED)
 }
 
 const REFUSED: [Row; 9] = [
