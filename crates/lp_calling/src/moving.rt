@@ -206,16 +206,17 @@ fn is_made(live: &Live, item: ObjId, dest: ObjId, call: InitCall) -> bool
 }
 
 /// The place of the first call of `init`, from one place on, that is made; or how many calls there are.
-fn next_made(live: &Live, item: ObjId, dest: ObjId, calls: &[InitCall], from: usize) -> usize
-    requires { from ≤ length calls.now }
-    ensures inside { result ≤ length calls.now }
+fn next_made(live: &Live, item: ObjId, dest: ObjId, calls: &Vec<InitCall>, from: usize) -> usize
+    requires { from ≤ length calls.now.items }
+    ensures inside { result ≤ length calls.now.items }
     ensures order { from ≤ result }
-    ensures passes { Passes live.now item dest calls.now from result }
-    ensures made { IsNextMade live.now item dest (slice_get calls.now result) }
+    ensures passes { Passes live.now item dest calls.now.items from result }
+    ensures made { IsNextMade live.now item dest (slice_get calls.now.items result) }
 {
     let mut at = from;
     while at < calls.len() {
-        if is_made(live, item, dest, calls[at]) {
+        let call = calls[at];
+        if is_made(live, item, dest, call) {
             return at;
         }
         at += 1;
@@ -234,13 +235,7 @@ fn enter_visits(visits: Visits, live: &Live, turn: &Turn) -> Stage
     ensures room { stage_left result ≤ unknown_many }
 {
     let mut visits = visits;
-    let at = next_made(
-        live,
-        visits.item,
-        visits.dest,
-        visits.calls.as_slice(),
-        visits.done,
-    );
+    let at = next_made(live, visits.item, visits.dest, &visits.calls, visits.done);
     if at >= visits.calls.len() {
         drop(visits);
         return Stage::Zero;
@@ -328,7 +323,10 @@ fn enter_into(
             };
             Ok(enter_visits(visits, live, turn))
         }
-        Err(fault) => Ok(Stage::Error(error_of(fault)?)),
+        Err(fault) => {
+            let kind = error_of(fault)?;
+            Ok(Stage::Error(kind))
+        }
     }
 }
 

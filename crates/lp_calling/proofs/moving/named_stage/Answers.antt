@@ -12,8 +12,8 @@ returns-in-Some-clause-acts c =
     (named_acts a.live.now a.args.now (chars c.as_str.result.now) c.requires (λ l cells. ap chars c.as_str.ensures.value ∙ c.in_ok-name.ensures ∙ ap as_name (c.text_at.ensures l cells)) c.in-Some.o c.item_in.result c.if_live.result
     c.in-Some.ensures c.item_in.ensures c.if_live.ensures)
 
-pub returns-in-None-clause-acts : goal.returns-in-None-clause-acts
-returns-in-None-clause-acts c =
+pub returns-clause-acts : goal.returns-clause-acts
+returns-clause-acts c =
     let a = c.args in
     let name = chars c.as_str.result.now in
     let same : c.as_str-in-None.result.now ≡ c.as_str.result.now = c.as_str-in-None.ensures.value ∙ sym c.as_str.ensures.value in
