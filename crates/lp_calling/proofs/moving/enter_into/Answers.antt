@@ -12,7 +12,7 @@ returns-in-Ok-clause-advances c =
     advance_on (stages.Move (moves.Into a.item a.dest)) (stages.Move (moves.Visiting r)) c.enter_visits.result a.live.now c.move_into.new.live c.move_into.new.live a.turn.now a.turn.now a.turn.now
     (move_advances r a.live.now c.move_into.new.live a.turn.now refl c.in-Ok.ensures.moves c.move_into.ensures.outputs) c.enter_visits.ensures.advances
 
-pub returns-in_ok-kind-clause-advances : goal.returns-in_ok-kind-clause-advances
-returns-in_ok-kind-clause-advances c =
+pub returns-in_ok-kind-in-Err-clause-advances : goal.returns-in_ok-kind-in-Err-clause-advances
+returns-in_ok-kind-in-Err-clause-advances c =
     let a = c.args in
-    refusal_advances a.item a.dest a.live.now c.move_into.new.live a.turn.now c.in-Err.fault c.in_ok-kind.kind c.in_ok-kind.ensures c.in-Err.ensures.refused c.in-Err.ensures.same c.move_into.ensures.outputs
+    refusal_advances a.item a.dest a.live.now c.move_into.new.live a.turn.now c.in-Err.fault c.in_ok-kind-in-Err.kind c.in_ok-kind-in-Err.ensures c.in-Err.ensures.refused c.in-Err.ensures.same c.move_into.ensures.outputs
