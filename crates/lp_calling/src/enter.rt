@@ -61,6 +61,6 @@ pub(crate) fn enter(
         Stage::Say(this, text) => enter_say(live, turn, this, text),
         Stage::TellEach(audience) => enter_audience(audience, live),
         Stage::Seek(search) => enter_search(search, live),
-        _ => unreachable!(),
+        _other => unreachable!(),
     }
 }

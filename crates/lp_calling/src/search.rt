@@ -13,7 +13,7 @@ ghost use Rattle.lp_calling.specs.Beginning.{IsBegunReady, IsBegunThere, Starts}
 ghost use Rattle.lp_calling.specs.Entering.{Advances, IsPoised, IsSearchPoised};
 ghost use Rattle.lp_calling.specs.Going.{IsAskedThere, IsStepThere, StageGoes, StageTakes};
 ghost use Rattle.lp_calling.specs.Jobs.{IsStageOn, IsStageReady, left_around, stage_left, unknown_many};
-ghost use Rattle.lp_calling.specs.Searches.{IsBeside, IsFirstSearch, IsSearchIn, IsSkipped, SearchesAround, SearchesIn, is_in};
+ghost use Rattle.lp_calling.specs.Searches.{IsBeside, IsFirstSearch, IsSearchIn, IsSkipped, SearchesAround, SearchesIn, is_in, is_near};
 ghost use Rattle.lp_calling.specs.Targets.{target_of};
 ghost use Rattle.lp_calling.specs.declared.target.CallTarget.TheVariants as targets;
 
@@ -41,8 +41,18 @@ fn is_beside(live: &Live, this: ObjId, around: Option<ObjId>, o: ObjId) -> bool
     let place = live.places.environment(o);
     match around {
         Some(e) => is_at(place, e),
-        None => is_at(place, this) || is_in(place, live.places.environment(this)),
+        None => is_near(place, live.places.environment(this), this),
     }
+}
+
+/// Whether a place is this object, or the place where this object is.
+fn is_near(place: Option<ObjId>, around: Option<ObjId>, this: ObjId) -> bool
+    ensures { result ≡ is_near place around this }
+{
+    if is_at(place, this) {
+        return true;
+    }
+    is_in(place, around)
 }
 
 /// Whether two places are one.
