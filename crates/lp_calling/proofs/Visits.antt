@@ -1,10 +1,11 @@
 -- A move, and the calls of `init` that follow it.
-use Rattle.std.proofs.Common.{◌≡◌, ◌∙◌, ◌+◌, ◌≤◌, ◌<◌, ◌++◌, ◌∷◌, [], ℕ, zero, suc, Bool, true, false, List, Option, Some, None, refl, ap, sym, subst, codes, drop, length, map, slice_get, arith, append-nil, if◌then◌else◌}
+use Rattle.std.proofs.Common.{◌≡◌, ◌∙◌, ◌+◌, ◌≤◌, ◌<◌, ◌++◌, ◌∷◌, [], ℕ, zero, suc, Bool, true, false, List, Option, Some, None, All, refl, ap, sym, subst, codes, drop, length, map, slice_get, arith, append-nil, if◌then◌else◌}
 use mathlib.Core.Path.{fun_ext}
 use Rattle.lp_values.specs.declared.id.ObjId.{ObjId}
 use Rattle.lp_values.specs.declared.error.ErrorKind.{ErrorKind}
 use Rattle.lp_values.specs.Errors.{plain}
 use Rattle.lp_values.specs.declared.value.Value.{Value}
+use Rattle.lp_cells.specs.Cells.{IsThere, KeepsThere}
 use Rattle.lp_code.specs.declared.program.RawProgram.{RawProgram}
 use Rattle.lp_instr.specs.declared.efun.Efun.{Efun}
 use Rattle.lp_language.specs.World.{World}
@@ -16,9 +17,11 @@ use Rattle.lp_moving.specs.declared.fault.MoveFault.{MoveFault}
 use Rattle.lp_moving.specs.declared.visits.InitCall.{InitCall}
 use Rattle.lp_places.specs.Places.{Init, MoveNo, inits_of_move, may_move, moved}
 use Rattle.lp_swapfile.specs.Device.{Bytes}
+use Rattle.lp_world.specs.Closed.{IsClosed}
 use Rattle.lp_world.specs.Rows.{live_in}
 use Rattle.lp_world.specs.Stands.{Stands}
 use Rattle.lp_world.specs.declared.live.Live.{Live}
+use Rattle.lp_step.specs.Steps.{IsFit}
 use Rattle.lp_efuns.specs.declared.caller.Turn.{Turn}
 use Rattle.lp_efuns.specs.Turns.{At, Setting}
 use Rattle.lp_settling.proofs.Still.{onward, still}
@@ -159,6 +162,13 @@ pub advance_on : (stage0 stage1 stage2 : Stage) (live0 live1 live2 : Live) (turn
 advance_on stage0 stage1 stage2 live0 live1 live2 turn0 turn1 turn2 f k e own g b by s h =
     let i = f e own g b by s h in
     let j = k e own g b by i.0 i.1.at in (j.0, record { at = j.1.at; settles = onward s.world i.0.world j.0.world i.1.settles j.1.settles }, i.2 ∙ j.2)
+
+-- what stays where the cells do
+pub fit_moved : (live0 live1 : Live) (stack : List Value) → live1.cells ≡ live0.cells → IsClosed live1 → IsFit live0 stack → IsFit live1 stack
+fit_moved live0 live1 stack q c h = record { closed = c; there = subst (λ cells. All (IsThere cells) stack) (sym q) h.there }
+
+pub stay_moved : (live0 live1 : Live) → live1.cells ≡ live0.cells → KeepsThere live0.cells live1.cells
+stay_moved live0 live1 q = subst (λ cells. KeepsThere live0.cells cells) (sym q) (λ v h. h)
 
 -- Asking
 
