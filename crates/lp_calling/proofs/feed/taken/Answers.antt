@@ -35,6 +35,21 @@ returns-in-Write-clause-takes c =
 pub returns-in-Value-clause-takes : goal.returns-in-Value-clause-takes
 returns-in-Value-clause-takes c = absurd (subst (λ s. IsStageAsking s) c.in-Value.is c.requires.asking)
 
+pub returns-in-Say-clause-takes : goal.returns-in-Say-clause-takes
+returns-in-Say-clause-takes c =
+    subst (λ s. StageTakes s c.args.v (live_in c.args.objects.now) c.args.low c.args.stack.now.items stages.Zero c.args.stack.now.items) (sym c.in-Say.is)
+    (zero_takes (stages.Say c.in-Say.field-0 c.in-Say.field-1) c.args.v (live_in c.args.objects.now) c.args.low c.args.stack.now.items (λ e own by s. refl))
+
+pub returns-in-TellEach-clause-takes : goal.returns-in-TellEach-clause-takes
+returns-in-TellEach-clause-takes c =
+    subst (λ s. StageTakes s c.args.v (live_in c.args.objects.now) c.args.low c.args.stack.now.items c.take_told.result c.args.stack.now.items) (sym c.in-TellEach.is)
+    (c.take_told.ensures.takes c.args.v (live_in c.args.objects.now) c.args.low c.args.stack.now.items)
+
+pub returns-in-Seek-clause-takes : goal.returns-in-Seek-clause-takes
+returns-in-Seek-clause-takes c =
+    IfOk-weaker c.take_sought.result _ _
+    (λ t k. subst (λ s. StageTakes s c.args.v (live_in c.args.objects.now) c.args.low c.args.stack.now.items t c.take_sought.new.stack.items) (sym c.in-Seek.is) k) c.take_sought.ensures.takes
+
 pub take_moving-requires-clause-low : goal.take_moving-requires-clause-low
 take_moving-requires-clause-low c = (subst (λ st. IsStageOn st c.args.low (length c.args.stack.now.items)) c.in-Move.is c.requires.on).0
 
