@@ -36,6 +36,7 @@ pub direct_poised : (stage : Stage) (live : Live) (turn : Turn) → is_direct st
 direct_poised (stages.Call o name) live turn e = tt
 direct_poised (stages.Target name fun) live turn e = tt
 direct_poised (stages.Load name) live turn e = tt
+direct_poised (stages.Move m) live turn e = cc
 direct_poised (stages.Items r) live turn e = tt
 direct_poised (stages.Tell o t) live turn e = tt
 direct_poised (stages.Write t) live turn e = tt

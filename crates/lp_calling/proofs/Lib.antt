@@ -10,6 +10,8 @@ pub mod Telling
 pub mod Audiences
 pub mod Searches
 pub mod Writing
+pub mod Moves
+pub mod Visits
 pub mod Beginnings
 pub mod Taking
 pub mod Waiting

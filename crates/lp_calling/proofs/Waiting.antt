@@ -17,6 +17,7 @@ low_on : (stage : Stage) (low n : ℕ) → IsStageOn stage low n → low ≤ n
 low_on (stages.Call o name) low n h = h
 low_on (stages.Target name fun) low n h = h
 low_on (stages.Load name) low n h = h
+low_on (stages.Move m) low n h = h.0
 low_on (stages.Items r) low n h = omega (arith, h.0)
 low_on (stages.Tell o t) low n h = h
 low_on (stages.Write t) low n h = h

@@ -9,6 +9,7 @@ ghost use Rattle.lp_calling.specs.Jobs.{IsStageOn, IsStageReady, stage_left};
 use crate::audience::{enter_audience, enter_say};
 use crate::deeds::{enter_file, enter_shadow};
 use crate::job::Stage;
+use crate::moving::enter_moving;
 use crate::search::enter_search;
 use lp_efuns::caller::Turn;
 use lp_instr::efun::Efun;
@@ -21,7 +22,7 @@ fn is_direct(stage: &Stage) -> bool
     ensures { result ≡ is_direct stage.now }
 {
     match stage {
-        Stage::Say(_, _) | Stage::TellEach(_) | Stage::Seek(_) => false,
+        Stage::Move(_) | Stage::Say(_, _) | Stage::TellEach(_) | Stage::Seek(_) => false,
         Stage::File(_, _) | Stage::Shadow(_, _) => false,
         _ => true,
     }
@@ -55,6 +56,7 @@ fn come(
     ensures names { live.new.names ≡ live.old.names }
 {
     match stage {
+        Stage::Move(moving) => enter_moving(moving, live, turn),
         Stage::Say(this, text) => enter_say(live, turn, this, text),
         Stage::TellEach(audience) => enter_audience(audience, live),
         Stage::Seek(search) => enter_search(search, live),

@@ -1,9 +1,9 @@
-use Rattle.std.proofs.Common.{length, refl, subst, sym}
+use Rattle.std.proofs.Common.{◌<◌, length, refl, subst, sym}
 use Rattle.std.proofs.lemmas.Result.{IfOk-weaker}
 use Rattle.lp_world.specs.Rows.{live_in}
 use Rattle.lp_calling.specs.declared.job.Stage.TheVariants as stages
 use Rattle.lp_calling.specs.Going.{StageTakes}
-use Rattle.lp_calling.specs.Jobs.{IsStageAsking, IsStageOn}
+use Rattle.lp_calling.specs.Jobs.{IsStageAsking, IsStageOn, stage_left}
 use Rattle.lp_calling.proofs.Calling.{zero_takes}
 use Rattle.lp_calling.proofs.feed.taken.Goals as goal
 
@@ -80,3 +80,19 @@ returns-in-File-clause-takes c = absurd (subst (λ s. IsStageAsking s) c.in-File
 
 pub returns-in-Shadow-clause-takes : goal.returns-in-Shadow-clause-takes
 returns-in-Shadow-clause-takes c = absurd (subst (λ s. IsStageAsking s) c.in-Shadow.is c.requires.asking)
+
+pub take_moving-requires-clause-low : goal.take_moving-requires-clause-low
+take_moving-requires-clause-low c = (subst (λ st. IsStageOn st c.args.low (length c.args.stack.now.items)) c.in-Move.is c.requires.on).0
+
+pub take_moving-requires-clause-asking : goal.take_moving-requires-clause-asking
+take_moving-requires-clause-asking c = subst (λ st. IsStageAsking st) c.in-Move.is c.requires.asking
+
+pub returns-in-Move-clause-takes : goal.returns-in-Move-clause-takes
+returns-in-Move-clause-takes c =
+    subst (λ s. StageTakes s c.args.v (live_in c.args.objects.now) c.args.low c.args.stack.now.items c.take_moving.result c.args.stack.now.items) (sym c.in-Move.is) c.take_moving.ensures.takes
+
+pub returns-in-Move-clause-on : goal.returns-in-Move-clause-on
+returns-in-Move-clause-on c = c.take_moving.ensures.on c.args.low (length c.args.stack.now.items) (subst (λ st. IsStageOn st c.args.low (length c.args.stack.now.items)) c.in-Move.is c.requires.on).0
+
+pub returns-in-Move-clause-less : goal.returns-in-Move-clause-less
+returns-in-Move-clause-less c = subst (λ st. stage_left c.take_moving.result < stage_left st) (sym c.in-Move.is) c.take_moving.ensures.less
