@@ -67,3 +67,54 @@ fn text_of(text: &Option<String>) -> Option<&str>
         None => None,
     }
 }
+
+/// The saved variables of an object become the file at a path, and the job ends.
+fn save(
+    efun: Efun,
+    this: ObjId,
+    code: &RawProgram,
+    path: Option<&str>,
+    live: &mut Live,
+    stack: &mut Vec<Value>,
+    low: usize,
+    budget: &mut u64,
+) -> Result<Answer, AllocError>
+    requires closed { IsClosed live.old }
+    requires variables { IsSome (variables_at live.old.objects this) }
+    ensures keeps { IfOk result (λ a. KeepsWith a efun (FileDeed.Save this) (option_copied path.entry) this code.now live.old stack.old.items low budget.old live.new stack.new.items budget.new) }
+    ensures only { IsOnlyKept live.old live.new }
+    ensures closed { IsClosed live.new }
+    ensures there { IfOk result (IsAnswerThere live.new.cells) }
+    ensures stay { KeepsThere live.old.cells live.new.cells }
+    ensures variables { KeepsVariables live.old.objects live.new.objects }
+    ensures still { OnErr result (StandsStill live.old live.new) }
+{
+    let outcome = save_object(live, this, code, path)?;
+    Ok(end_with(efun, outcome, live, stack, low, budget))
+}
+
+/// The saved variables of an object come from the file at a path, and the job ends.
+fn restore(
+    efun: Efun,
+    this: ObjId,
+    code: &RawProgram,
+    path: Option<&str>,
+    live: &mut Live,
+    stack: &mut Vec<Value>,
+    low: usize,
+    budget: &mut u64,
+) -> Result<Answer, AllocError>
+    requires closed { IsClosed live.old }
+    requires variables { IsSome (variables_at live.old.objects this) }
+    requires path { IfSome (option_copied path) IsAscii }
+    ensures keeps { IfOk result (λ a. KeepsWith a efun (FileDeed.Restore this) (option_copied path.entry) this code.now live.old stack.old.items low budget.old live.new stack.new.items budget.new) }
+    ensures only { IsOnlyKept live.old live.new }
+    ensures closed { IsClosed live.new }
+    ensures there { IfOk result (IsAnswerThere live.new.cells) }
+    ensures stay { KeepsThere live.old.cells live.new.cells }
+    ensures variables { KeepsVariables live.old.objects live.new.objects }
+    ensures still { OnErr result (StandsStill live.old live.new) }
+{
+    let outcome = restore_object(live, this, code, path)?;
+    Ok(end_with(efun, outcome, live, stack, low, budget))
+}
