@@ -200,9 +200,9 @@ room_starts caller live n stack place text a le f tx i turn b low vs q k =
         ap (λ o. and_then (with_live o s (λ o. tell_each by (text_arg (opened_args s vs) 1) None (inventory s.world.places o) s)) (ended efuns.TellRoom))
             (object_same g live turn b s vs 0 (Some place) h (λ cells. f cells ∙ ap (λ ws. object_arg (map (operand (live_in live.objects) cells) ws) 0) same))
             ∙ ap (λ c. and_then c (ended efuns.TellRoom))
-            (ap (λ t. tell_each by t None (inventory s.world.places place) s) (sym (tx (living s) (cells_of s) ∙ ap (λ ws. text_arg (opened_args s ws) 1) same) ∙ sym i.text)
+            (ap (λ t. tell_each by t None (inventory s.world.places place) s) (sym (tx (living s) (cells_of s) ∙ ap (λ ws. text_arg (opened_args s ws) 1) same) ∙ sym i.same_text)
             ∙ ap (λ os. tell_each by a.text None os s) (i.listeners g turn b s h)
-            ∙ ap (λ but. tell_each by a.text but a.listeners.items s) (sym i.but)
+            ∙ ap (λ but. tell_each by a.text but a.listeners.items s) (sym i.same_but)
             ∙ ap (λ m. telling a (drop m a.listeners.items) by s) (sym i.none_done)),
       );
     }
@@ -275,9 +275,9 @@ says_in live live1 turn o this place text a stage sp li i f e own g b by s h =
       ap (λ p. and_then (say_in by p text (environment s.world.places p) s) (ended e)) (sp g b s h)
           ∙ ap (λ p. and_then (say_in by o text p s) (ended e)) (li g turn b s h)
           ∙ ap (λ c. and_then c (ended e))
-          (ap (λ x. tell_each by x (Some o) (inventory s.world.places place) s) (sym i.text)
+          (ap (λ x. tell_each by x (Some o) (inventory s.world.places place) s) (sym i.same_text)
           ∙ ap (λ os. tell_each by a.text (Some o) os s) (i.listeners g turn b s h)
-          ∙ ap (λ but. tell_each by a.text but a.listeners.items s) (sym i.but)
+          ∙ ap (λ but. tell_each by a.text but a.listeners.items s) (sym i.same_but)
           ∙ ap (λ m. telling a (drop m a.listeners.items) by s) (sym i.none_done))
           ∙ t.2,
     )

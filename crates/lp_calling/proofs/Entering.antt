@@ -36,12 +36,17 @@ pub direct_poised : (stage : Stage) (live : Live) (turn : Turn) → is_direct st
 direct_poised (stages.Call o name) live turn e = tt
 direct_poised (stages.Target name fun) live turn e = tt
 direct_poised (stages.Load name) live turn e = tt
+direct_poised (stages.Move m) live turn e = cc
 direct_poised (stages.Items r) live turn e = tt
 direct_poised (stages.Tell o t) live turn e = tt
 direct_poised (stages.Write t) live turn e = tt
 direct_poised (stages.Say this t) live turn e = cc
 direct_poised (stages.TellEach a) live turn e = cc
 direct_poised (stages.Seek k) live turn e = cc
+direct_poised (stages.MasterLoad w) live turn e = tt
+direct_poised (stages.Master m w) live turn e = tt
+direct_poised (stages.File d p) live turn e = cc
+direct_poised (stages.Shadow this o) live turn e = cc
 direct_poised stages.Value live turn e = tt
 direct_poised stages.Zero live turn e = tt
 direct_poised (stages.Error kind) live turn e = tt

@@ -1,9 +1,10 @@
 -- The master is asked for leave.
-use Rattle.std.proofs.Common.{◌≡◌, ◌∙◌, ◌+◌, ◌≤◌, ◌++◌, ◌∷◌, [], ℕ, zero, suc, pos, Bool, true, false, ◌&&◌, ◌||◌, not, List, Option, Some, None, IfSome, refl, ap, sym, subst, drop, length, map, take, arith, append-nil, append_assoc, length-append, unwrap_or, slice_get, codes, if◌then◌else◌}
+use Rattle.std.proofs.Common.{◌≡◌, ◌∙◌, ◌+◌, ◌≤◌, ◌++◌, ◌∷◌, [], ℕ, zero, suc, pos, Bool, true, false, ◌&&◌, ◌||◌, not, List, Option, Some, None, IfSome, is_some, refl, ap, sym, subst, drop, length, map, take, arith, append-nil, append_assoc, length-append, unwrap_or, slice_get, codes, if◌then◌else◌}
 use mathlib.Core.Path.{fun_ext}
 use Rattle.std.specs.Option.{option_map}
 use Rattle.std.specs.Prelude.{string_bytes}
 use Rattle.std.specs.Str.{chars}
+use Rattle.std.specs.declared.alloc.Global.{Global}
 use Rattle.std.specs.declared.string.String.{String}
 use Rattle.std.proofs.lemmas.List.{drop_at}
 use Rattle.lp_values.specs.declared.id.ObjId.{ObjId}
@@ -70,15 +71,15 @@ first_true false b e = cc
 -- an object that has a name lives
 named_lives : (name : List ℕ) (n : ℕ) (xs : List ObjectOf) (o : ObjId) → named_from name n xs ≡ Some o → (k : ℕ) × (o.0 ≡ n + k) × ((unwrap_or (slice_get xs k) no_object).is_live ≡ true)
 named_lives name n [] o e = absurd cc
-named_lives name n (x ∷ xs) o e = by (x.is_live && is_name x.name name) refl e
+named_lives name n (x ∷ xs) o e = by (λ q. named_lives name (suc n) xs o q) (x.is_live && is_name x.name name) refl e
   where
-    by : (b : Bool) → (x.is_live && is_name x.name name) ≡ b → (if b then Some (record { 0 = n }) else named_from name (suc n) xs) ≡ Some o → (k : ℕ) × (o.0 ≡ n + k) × ((unwrap_or (slice_get (x ∷ xs) k) no_object).is_live ≡ true)
-    by true r q =
+    by : (named_from name (suc n) xs ≡ Some o → (k : ℕ) × (o.0 ≡ suc n + k) × ((unwrap_or (slice_get xs k) no_object).is_live ≡ true)) → (b : Bool) → (x.is_live && is_name x.name name) ≡ b → (if b then Some (record { 0 = n }) else named_from name (suc n) xs) ≡ Some o → (k : ℕ) × (o.0 ≡ n + k) × ((unwrap_or (slice_get (x ∷ xs) k) no_object).is_live ≡ true)
+    by f true r q =
         let m : ObjId = record { 0 = n } in
         let z : m ≡ o = cc in
         let at : n ≡ o.0 = ap (λ (i : ObjId). i.0) z in
         (0, omega arith, first_true x.is_live (is_name x.name name) r)
-    by false r q = let i = named_lives name (suc n) xs o q in (suc i.0, omega (arith, i.1), i.2)
+    by f false r q = let i = f q in (suc i.0, omega (arith, i.1), i.2)
 
 master_lives : (w : World) (o : ObjId) → object_named w master_name ≡ Some o → is_live w o ≡ true
 master_lives w o e =
@@ -308,7 +309,7 @@ no_master_takes w v l below stack stage f h low own q k = record {
       ∙ h e own by s i;
 }
 
-pub path_granted : (l : ObjId → Bool) (d : FileDeed) (path : List ℕ) (o : Option ObjId) (v : Value) (p : Option String) → ((cells : Store) → option_map string_bytes p ≡ path_answered path (operand l cells v))
+pub path_granted : (l : ObjId → Bool) (d : FileDeed) (path : List ℕ) (o : Option ObjId) (v : Value) (p : Option (String Global)) → ((cells : Store) → option_map string_bytes p ≡ path_answered path (operand l cells v))
     → GrantedAs l (wishes.File d path o) v (stages.File d p)
 path_granted l d path o v p f e own by s i = ap (λ x. and_then (file_deed d x s) (ended e)) (ap (λ k. path_answered path (operand k (cells_of s) v)) i ∙ sym (f (cells_of s)))
 
@@ -328,16 +329,16 @@ pub leave_takes : (m : ObjId) (w : Wish) (v : Value) (l : ObjId → Bool) (below
 leave_takes m w v l below stack stage h low own q k = record { own = own; stack = q; course = λ e by s i. h e own by s i }
 
 -- whether a text is a path, by the path that it is
-pub is_some_path : (t q : List ℕ) → Some q ≡ path_if t → true ≡ is_path t
-is_some_path t q e = by (is_path t) e
+pub is_path_by : (t : List ℕ) (o : Option (String Global)) → option_map string_bytes o ≡ path_if t → is_some o ≡ is_path t
+is_path_by t o e = by (is_path t) o e
   where
-    by : (b : Bool) → Some q ≡ (if b then Some t else None) → true ≡ b
-    by true e = refl
-    by false e = cc
+    by : (b : Bool) (o : Option (String Global)) → option_map string_bytes o ≡ (if b then Some t else None) → is_some o ≡ b
+    by true None e = absurd cc
+    by true (Some p) e = refl
+    by false None e = refl
+    by false (Some p) e = absurd cc
 
-pub is_no_path : (t : List ℕ) → None ≡ path_if t → false ≡ is_path t
-is_no_path t e = by (is_path t) e
-  where
-    by : (b : Bool) → None ≡ (if b then Some t else None) → false ≡ b
-    by true e = cc
-    by false e = refl
+-- what is laid on top of the stack, one after another
+pub laid : (s0 s1 s2 s3 : List Value) (a b c d x : Value) → s1 ≡ s0 ++ a ∷ b ∷ [] → s2 ≡ s1 ++ c ∷ [] → s3 ≡ s2 ++ x ∷ [] → x ≡ d → s3 ≡ s0 ++ a ∷ b ∷ c ∷ d ∷ []
+laid s0 s1 s2 s3 a b c d x p q r e =
+    r ∙ ap (λ v. s2 ++ v ∷ []) e ∙ ap (λ l. l ++ d ∷ []) q ∙ append_assoc s1 (c ∷ []) (d ∷ []) ∙ ap (λ l. l ++ c ∷ d ∷ []) p ∙ append_assoc s0 (a ∷ b ∷ []) (c ∷ d ∷ [])

@@ -10,8 +10,10 @@ pub mod Telling
 pub mod Audiences
 pub mod Searches
 pub mod Writing
+pub mod Moves
+pub mod Visits
 pub mod Beginnings
 pub mod Taking
 pub mod Waiting
 pub mod Leaving
-pub mod Deeds
+pub mod Granted

@@ -37,7 +37,7 @@ use Rattle.lp_calling.proofs.Settled.{settled_here}
 -- Names
 
 -- what a text comes to, by the object with the name that it means
-led : (by : Asker) (t : List ℕ) (s : State) (name : List ℕ) (r : Option ObjId) → name ≡ as_name t → object_named s.world name ≡ r → text_target by t s ≡ elim r as (λ _. Course Value) [
+pub led : (by : Asker) (t : List ℕ) (s : State) (name : List ℕ) (r : Option ObjId) → name ≡ as_name t → object_named s.world name ≡ r → text_target by t s ≡ elim r as (λ _. Course Value) [
   | Some o ↦ gives (values.Obj o) s
   | None ↦ if is_clone_name name then stops (Failed (plain BadTarget)) s else load_value by name s
 ]

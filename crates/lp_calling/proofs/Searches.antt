@@ -33,13 +33,13 @@ use Rattle.lp_calling.specs.declared.target.CallTarget.{CallTarget}
 use Rattle.lp_calling.specs.declared.target.CallTarget.TheVariants as targets
 use Rattle.lp_calling.specs.Audiences.{Holds, LiesIn}
 use Rattle.lp_calling.specs.Beginning.{Starts}
-use Rattle.lp_calling.specs.Entering.{Advances}
+use Rattle.lp_calling.specs.Entering.{Advances, IsSearchPoised}
 use Rattle.lp_calling.specs.Going.{StageGoes, StageTakes}
 use Rattle.lp_calling.specs.Jobs.{ended, objects_behind, objects_left, search_around, searching, sought, stage_course}
-use Rattle.lp_calling.specs.Searches.{ArePassed, IsBeside, IsFirstSearch, IsLiveAt, IsSearchIn, IsSkipped, SearchesAround, SearchesIn, is_in}
+use Rattle.lp_calling.specs.Searches.{ArePassed, IsBeside, IsFirstSearch, IsLiveAt, IsSearchIn, IsSkipped, SearchesAround, SearchesIn, is_in, is_near}
 use Rattle.lp_calling.specs.Targets.{target_of}
 use Rattle.lp_calling.proofs.Courses.{asked_on, goes_alike, then_on}
-use Rattle.lp_calling.proofs.Lists.{left_at}
+use Rattle.lp_calling.proofs.Lists.{left_at, left_split}
 use Rattle.lp_calling.proofs.Loading.{one_above}
 use Rattle.lp_calling.proofs.Settled.{settled_here}
 use Rattle.lp_calling.proofs.Telling.{live_at}
@@ -53,7 +53,7 @@ in_is : (place around : Option ObjId) → elim around as (λ _. Bool) [ Some e �
 in_is place None = refl
 in_is place (Some e) = refl
 
-pub beside_this : (live : Live) (this o : ObjId) (place around : Option ObjId) (is : Bool) → LiesIn place live o → LiesIn around live this → is ≡ is_at place this || is_in place around → IsBeside is live this None o
+pub beside_this : (live : Live) (this o : ObjId) (place around : Option ObjId) (is : Bool) → LiesIn place live o → LiesIn around live this → is ≡ is_near place around this → IsBeside is live this None o
 beside_this live this o place around is li la e g turn b s h =
     ap (λ p. is_at p this || elim (environment s.world.places this) as (λ _. Bool) [ Some e ↦ is_at p e | None ↦ false ]) (li g turn b s h)
     ∙ ap (λ a. is_at place this || elim a as (λ _. Bool) [ Some e ↦ is_at place e | None ↦ false ]) (la g turn b s h)
@@ -83,9 +83,15 @@ all_passed live os n m e k f = record { passed = f; more = k; next = λ l. absur
 -- Places
 
 -- what is left is searched
-pub place_searched : (live : Live) (place : ObjId) (text : List ℕ) (os : List ObjId) (n : ℕ) → Holds live place os → ArePassed live os 0 n → SearchesIn (stages.Seek (record { text = text; objects = record { items = os }; done = n; around = None })) live text place
-place_searched live place text os n ho f e own g turn b by s h =
-    ap (λ c. and_then c (ended e)) (ap (λ ls. present_among by text ls s nobody) (ho g turn b s h) ∙ f g turn b by s text nobody h)
+pub place_searched : (k : Search) (live : Live) (place : ObjId) (text : List ℕ) → k.text ≡ text → k.around ≡ None → Holds live place k.objects.items → ArePassed live k.objects.items 0 k.done → SearchesIn (stages.Seek k) live text place
+place_searched k live place text t a ho f e own g turn b by s h =
+    ap (λ c. and_then c (ended e))
+    (ap (λ ls. present_among by text ls s nobody) (ho g turn b s h) ∙ f g turn b by s text nobody h ∙ ap (λ t. present_among by t (objects_left k) s (search_around by t None)) (sym t)
+    ∙ ap (λ a. present_among by k.text (objects_left k) s (search_around by k.text a)) (sym a))
+
+-- the next one is live
+pub poised_at : (k : Search) (live : Live) (os : List ObjId) → os ≡ k.objects.items → IsLiveAt live os k.done → IsSearchPoised k live
+poised_at k live os e x = record { object = x.object; is = ap (λ l. slice_get l k.done) (sym e) ∙ x.is; lives = x.lives }
 
 -- nothing is left
 pub place_empty : (live : Live) (place : ObjId) (text : List ℕ) (os : List ObjId) (n : ℕ) → Holds live place os → ArePassed live os 0 n → length os ≤ n → SearchesIn stages.Zero live text place
@@ -116,11 +122,10 @@ advances_around k live turn n stage f l a e own g b by s h = (
 )
 
 -- the next one is asked
-found : (k : Search) (o : ObjId) (by : Asker) → Value → State → Course Value
+abbrev found : Search → ObjId → Asker → Value → State → Course Value
 found k o by v s = cond (is_false s v) (searching k (objects_behind k) by s) (gives (values.Obj o) s)
 
 found_is : (k : Search) (o : ObjId) (by : Asker) (v : Value) (s : State) → objects_left k ≡ o ∷ objects_behind k → found k o by v s ≡ sought k (objects_left k) (objects_behind k) by v s
-unfolding found
 found_is k o by v s e = ap (λ ls. sought k ls (objects_behind k) by v s) (sym e)
 
 pub object_asks : (e : Efun) (k : Search) (o : ObjId) (name : List ℕ) (below : ℕ) (stack0 stack1 : List Value) (live : Live) (turn : Turn) (budget : ℕ) → below ≤ length stack0 → slice_get k.objects.items k.done ≡ Some o
@@ -133,7 +138,6 @@ object_asks e k o name below stack0 stack1 live turn budget le at d l nm t low o
     left = left_at k.objects.items k.done o at
 
     so : StageGoes (steps.Asks (questions.Other o (codes "id")) 1) e (stages.Seek k) below live turn stack0 budget live turn stack1 budget
-    unfolding found
     so low own q kk = record {
       own = own;
       arguments = values.Str k.text ∷ [];
@@ -157,25 +161,26 @@ object_asks e k o name below stack0 stack1 live turn budget le at d l nm t low o
 -- Answers
 
 -- by whether it is 0
-sought_by : (k : Search) (o : ObjId) (by : Asker) (v : Value) (s : State) (b : Bool) → slice_get k.objects.items k.done ≡ Some o → is_false s v ≡ b
+sought_by : (k : Search) (o : ObjId) (by : Asker) (v : Value) (s : State) (b : Bool) → objects_left k ≡ o ∷ objects_behind k → is_false s v ≡ b
     → sought k (objects_left k) (objects_behind k) by v s ≡ (cond b (searching k (objects_behind k) by s) (gives (values.Obj o) s))
-sought_by k o by v s b at e =
-    ap (λ ls. sought k ls (objects_behind k) by v s) (left_at k.objects.items k.done o at) ∙ ap (λ b. cond b (searching k (objects_behind k) by s) (gives (values.Obj o) s)) e
+sought_by k o by v s b l e = ap (λ ls. sought k ls (objects_behind k) by v s) l ∙ ap (λ b. cond b (searching k (objects_behind k) by s) (gives (values.Obj o) s)) e
 
 false_is : (s : State) (l : ObjId → Bool) (v : Value) (b : Bool) → living s ≡ l → is_zero l v ≡ b → is_false s v ≡ b
 unfolding is_false
 false_is s l v b i e = ap (λ l. is_zero l v) i ∙ e
 
-pub zero_takes_on : (k : Search) (o : ObjId) (v : Value) (l : ObjId → Bool) (below : ℕ) (stack : List Value) → slice_get k.objects.items k.done ≡ Some o → is_zero l v ≡ true
+pub zero_takes_on : (k : Search) (v : Value) (l : ObjId → Bool) (below : ℕ) (stack : List Value) → k.done < length k.objects.items → is_zero l v ≡ true
     → StageTakes (stages.Seek k) v l below stack (stages.Seek (record k { done = k.done + 1 })) stack
-zero_takes_on k o v l below stack at z low own q kk = record { own = own; stack = q; course = λ e by s i. ap (λ c. and_then c (ended e)) (sought_by k o by v s true at (false_is s l v true i z)) }
+zero_takes_on k v l below stack d z low own q kk =
+    let next = left_split k.objects.items k.done d in
+    record { own = own; stack = q; course = λ e by s i. ap (λ c. and_then c (ended e)) (sought_by k next.0 by v s true next.1 (false_is s l v true i z)) }
 
 pub found_takes : (k : Search) (o : ObjId) (v : Value) (l : ObjId → Bool) (below : ℕ) (stack0 stack1 : List Value) → slice_get k.objects.items k.done ≡ Some o → is_zero l v ≡ false → stack1 ≡ take below stack0 ++ values.Obj o ∷ []
     → StageTakes (stages.Seek k) v l below stack0 stages.Value stack1
 found_takes k o v l below stack0 stack1 at z t low own q kk = record {
   own = values.Obj o ∷ [];
   stack = t ∙ ap (λ s. s ++ values.Obj o ∷ []) (ap (take below) q ∙ take_at low own below kk);
-  course = λ e by s i. ap (λ c. and_then c (ended e)) (sought_by k o by v s false at (false_is s l v false i z));
+  course = λ e by s i. ap (λ c. and_then c (ended e)) (sought_by k o by v s false (left_at k.objects.items k.done o at) (false_is s l v false i z));
 }
 
 -- Beginning
@@ -278,13 +283,13 @@ module _ (caller : Caller) (live : Live) (n : ℕ) (stack0 stack1 : List Value) 
   searched g turn b by c s None text k sc h i =
       ap (λ o. present_in by text (Some o) s (λ s. present_in by text (environment s.world.places o) s nobody)) sc.this
       ∙ ap (λ os. present_among by text os s (search_around by text (Some caller.this))) (i.objects g turn b s h)
-      ∙ ap (λ t. present_among by t k.objects.items s (search_around by t (Some caller.this))) (sym i.text)
-      ∙ ap (λ a. present_among by k.text k.objects.items s (search_around by k.text a)) (sym i.around)
+      ∙ ap (λ t. present_among by t k.objects.items s (search_around by t (Some caller.this))) (sym i.same_text)
+      ∙ ap (λ a. present_among by k.text k.objects.items s (search_around by k.text a)) (sym i.same_around)
       ∙ ap (λ m. searching k (drop m k.objects.items) by s) (sym i.none_done)
   searched g turn b by c s (Some place) text k sc h i =
       ap (λ os. present_among by text os s nobody) (i.objects g turn b s h)
-      ∙ ap (λ t. present_among by t k.objects.items s (search_around by t None)) (sym i.text)
-      ∙ ap (λ a. present_among by k.text k.objects.items s (search_around by k.text a)) (sym i.around)
+      ∙ ap (λ t. present_among by t k.objects.items s (search_around by t None)) (sym i.same_text)
+      ∙ ap (λ a. present_among by k.text k.objects.items s (search_around by k.text a)) (sym i.same_around)
       ∙ ap (λ m. searching k (drop m k.objects.items) by s) (sym i.none_done)
 
   pub search_starts : (around : Option ObjId) (text : List ℕ) (k : Search) → ((cells : Store) → targets.Named ≡ target_of (arg (map (operand (live_in live.objects) cells) (drop n stack0)) 0))

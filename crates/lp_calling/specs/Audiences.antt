@@ -32,8 +32,8 @@ Holds live place os = (g : Setting) (turn : Turn) (budget : ℕ) (s : State) →
 
 -- All who lie in an object are told a text, but one.
 pub record IsAudienceIn (a : Audience) (live : Live) (place : ObjId) (but : Option ObjId) (text : List ℕ) : Type 0 where
-  pub text : a.text ≡ text
-  pub but : a.but ≡ but
+  pub same_text : a.text ≡ text
+  pub same_but : a.but ≡ but
   pub listeners : Holds live place a.listeners.items
   pub none_done : a.done ≡ 0
 

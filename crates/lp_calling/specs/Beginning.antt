@@ -26,6 +26,7 @@ use Rattle.lp_calling.specs.Jobs.{IsJobOn, IsReady, course_of}
 abbrev pub is_calling : Efun → Bool
 is_calling efuns.CallOther = true
 is_calling efuns.LoadObject = true
+is_calling efuns.MoveObject = true
 is_calling efuns.Filter = true
 is_calling efuns.Map = true
 is_calling efuns.TellObject = true

@@ -20,6 +20,7 @@ use Rattle.lp_calling.specs.declared.job.Stage.{Stage}
 use Rattle.lp_calling.specs.declared.job.Stage.TheVariants as stages
 use Rattle.lp_calling.specs.Beginning.{Settled}
 use Rattle.lp_calling.specs.Jobs.{stage_course}
+use Rattle.lp_calling.specs.Moving.{IsMovePoised}
 
 -- whether an object that is left is told, in a world
 abbrev pub is_told : World → Option ObjId → ObjId → Bool
@@ -50,6 +51,7 @@ abbrev pub is_direct : Stage → Bool
 is_direct (stages.Call o name) = true
 is_direct (stages.Target name fun) = true
 is_direct (stages.Load name) = true
+is_direct (stages.Move m) = false
 is_direct (stages.Items r) = true
 is_direct (stages.Tell o t) = true
 is_direct (stages.Write t) = true
@@ -69,6 +71,7 @@ abbrev pub IsPoised : Stage → Live → Turn → Type 0
 IsPoised (stages.Call o name) live turn = ⊤
 IsPoised (stages.Target name fun) live turn = ⊤
 IsPoised (stages.Load name) live turn = ⊤
+IsPoised (stages.Move m) live turn = IsMovePoised m live turn
 IsPoised (stages.Items r) live turn = ⊤
 IsPoised (stages.Tell o t) live turn = ⊤
 IsPoised (stages.Write t) live turn = ⊤

@@ -25,6 +25,9 @@ use Rattle.lp_calling.specs.declared.job.Search.{Search}
 use Rattle.lp_calling.specs.declared.job.Stage.{Stage}
 use Rattle.lp_calling.specs.declared.job.Stage.TheVariants as stages
 use Rattle.lp_calling.specs.Leave.{IsWish, asked_in, file_deed, granted, is_keeping, shadow_deed, wish_arguments, wish_function}
+use Rattle.lp_calling.specs.declared.moving.Moving.{Moving}
+use Rattle.lp_calling.specs.declared.moving.Moving.TheVariants as moves
+use Rattle.lp_calling.specs.Moves.{IsMoveAsking, IsMoveOn, move_back, move_course, move_rest}
 
 -- an efun has its value: the price of that is paid
 abbrev pub ended : Efun → Value → State → Course Value
@@ -123,6 +126,7 @@ abbrev pub stage_course : Efun → Stage → List Value → Asker → State → 
 stage_course e (stages.Call o name) own by s = and_then (ask_value (Other o name) (drop 2 own) by s) (ended e)
 stage_course e (stages.Target name fun) own by s = and_then (and_then (load_value by name s) (λ v s. called_in fun (drop 2 own) by v s)) (ended e)
 stage_course e (stages.Load name) own by s = and_then (load_value by name s) (ended e)
+stage_course e (stages.Move m) own by s = and_then (move_course m own by s) (ended e)
 stage_course e (stages.Items r) own by s = and_then (going r (further r own) (taken r own) (items_left r own) by s) (ended e)
 stage_course e (stages.Tell o t) own by s = and_then (tell by o t s) (ended e)
 stage_course e (stages.Write t) own by s = and_then (write_text by t s) (ended e)
@@ -143,6 +147,7 @@ abbrev pub stage_rest : Efun → Stage → List Value → Asker → Value → St
 stage_rest e (stages.Call o name) own by v s = ended e v s
 stage_rest e (stages.Target name fun) own by v s = and_then (called_in fun (drop 2 own) by v s) (ended e)
 stage_rest e (stages.Load name) own by v s = ended e v s
+stage_rest e (stages.Move m) own by v s = and_then (move_rest m own by v s) (ended e)
 stage_rest e (stages.Items r) own by v s = and_then (answered r (further r own) (taken r own) (items_left r own) by v s) (ended e)
 stage_rest e (stages.Tell o t) own by v s = ended e zero_value s
 stage_rest e (stages.Write t) own by v s = ended e zero_value s
@@ -169,6 +174,7 @@ abbrev pub player_back : Stage → Option ObjId → Option ObjId
 player_back (stages.Call o name) p = p
 player_back (stages.Target name fun) p = p
 player_back (stages.Load name) p = p
+player_back (stages.Move m) p = move_back m p
 player_back (stages.Items r) p = p
 player_back (stages.Tell o t) p = p
 player_back (stages.Write t) p = p
@@ -202,6 +208,7 @@ abbrev pub IsStageOn : Stage → ℕ → ℕ → Type 0
 IsStageOn (stages.Call o name) low n = low ≤ n
 IsStageOn (stages.Target name fun) low n = low ≤ n
 IsStageOn (stages.Load name) low n = low ≤ n
+IsStageOn (stages.Move m) low n = (low ≤ n) × IsMoveOn m
 IsStageOn (stages.Items r) low n = (low + (r.arguments + r.count) ≤ n) × (r.done ≤ r.count)
 IsStageOn (stages.Tell o t) low n = low ≤ n
 IsStageOn (stages.Write t) low n = low ≤ n
@@ -225,6 +232,7 @@ abbrev pub IsStageAsking : Stage → Type 0
 IsStageAsking (stages.Call o name) = ⊤
 IsStageAsking (stages.Target name fun) = ⊤
 IsStageAsking (stages.Load name) = ⊤
+IsStageAsking (stages.Move m) = IsMoveAsking m
 IsStageAsking (stages.Items r) = r.done < r.count
 IsStageAsking (stages.Tell o t) = ⊤
 IsStageAsking (stages.Write t) = ⊤
@@ -250,11 +258,17 @@ abbrev pub left_around : Option ObjId → ℕ
 left_around None = 0
 left_around (Some o) = unknown_many
 
+abbrev pub move_left : Moving → ℕ
+move_left (moves.Destination name) = unknown_many + 1
+move_left (moves.Into item dest) = unknown_many
+move_left (moves.Visiting r) = length r.calls.items - r.done
+
 -- how many questions it asks at most
 abbrev pub stage_left : Stage → ℕ
 stage_left (stages.Call o name) = 1
 stage_left (stages.Target name fun) = 2
 stage_left (stages.Load name) = 1
+stage_left (stages.Move m) = move_left m
 stage_left (stages.Items r) = r.count - r.done
 stage_left (stages.Tell o t) = 1
 stage_left (stages.Write t) = 1
@@ -280,6 +294,7 @@ abbrev pub IsStageReady : List (Option Object) → Stage → Type 0
 IsStageReady objects (stages.Call o name) = IsSome (row_at objects o.0)
 IsStageReady objects (stages.Target name fun) = ⊤
 IsStageReady objects (stages.Load name) = ⊤
+IsStageReady objects (stages.Move m) = ⊤
 IsStageReady objects (stages.Items r) = ⊤
 IsStageReady objects (stages.Tell o t) = ⊤
 IsStageReady objects (stages.Write t) = ⊤

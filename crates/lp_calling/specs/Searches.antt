@@ -1,5 +1,5 @@
 -- Objects are searched for what a text names.
-use Rattle.std.specs.Prelude.{◌≡◌, ◌≤◌, ◌<◌, ⊤, ℕ, List, Bool, true, false, Option, Some, None, drop, length, slice_get}
+use Rattle.std.specs.Prelude.{◌≡◌, ◌≤◌, ◌<◌, ⊤, ℕ, List, Bool, true, false, ◌||◌, Option, Some, None, drop, length, slice_get}
 use Rattle.lp_values.specs.declared.id.ObjId.{ObjId}
 use Rattle.lp_values.specs.declared.value.Value.{Value}
 use Rattle.lp_instr.specs.declared.efun.Efun.{Efun}
@@ -22,8 +22,8 @@ IsBeside is live this around o = (g : Setting) (turn : Turn) (budget : ℕ) (s :
 
 -- All that lies in an object is searched.
 pub record IsSearchIn (k : Search) (live : Live) (place : ObjId) (around : Option ObjId) (text : List ℕ) : Type 0 where
-  pub text : k.text ≡ text
-  pub around : k.around ≡ around
+  pub same_text : k.text ≡ text
+  pub same_around : k.around ≡ around
   pub objects : Holds live place k.objects.items
   pub none_done : k.done ≡ 0
 
@@ -63,3 +63,7 @@ IsFirstSearch k live this (Some place) text = IsSearchIn k live place None text
 abbrev pub is_in : Option ObjId → Option ObjId → Bool
 is_in place None = false
 is_in place (Some e) = is_at place e
+
+-- whether a place is this object, or where this object is
+abbrev pub is_near : Option ObjId → Option ObjId → ObjId → Bool
+is_near place around this = is_at place this || is_in place around

@@ -20,6 +20,7 @@ use crate::laying::above;
 use crate::leave::{begin_append, begin_read, begin_remove, begin_restore, begin_save, begin_size};
 use crate::load::begin_load;
 use crate::messages::{begin_printf, begin_tell, begin_write};
+use crate::moving::begin_move;
 use crate::search::begin_present;
 use lp_cells::cells::Cells;
 use lp_efuns::answer::Answer;
@@ -32,15 +33,16 @@ use lp_values::value::Value;
 use lp_world::live::Live;
 use lp_world::objects::ObjectTable;
 
-/// Whether an efun is carried out by a job: `call_other`, `load_object`, `filter`, `map`, `tell_object`, `write`, `printf`, `tell_room`,
-/// `say`, `present`, `read_file`, `file_size`, `write_file`, `rm`, `save_object` and
-/// `restore_object` are.
+/// Whether an efun is carried out by a job: `call_other`, `load_object`, `move_object`, `filter`, `map`, `tell_object`, `write`, `printf`,
+/// `tell_room`, `say`, `present`, `read_file`, `file_size`, `write_file`, `rm`, `save_object`
+/// and `restore_object` are.
 pub fn is_calling(efun: Efun) -> bool
     ensures { result ≡ is_calling efun }
 {
     match efun {
         Efun::CallOther
         | Efun::LoadObject
+        | Efun::MoveObject
         | Efun::Filter
         | Efun::Map
         | Efun::TellObject
@@ -75,6 +77,7 @@ fn start(
     match efun {
         Efun::CallOther => begin_call(live, stack, low),
         Efun::LoadObject => begin_load(live, stack, low),
+        Efun::MoveObject => begin_move(live, stack, low),
         Efun::Filter => begin_items(live, caller, stack, low, true),
         Efun::Map => begin_items(live, caller, stack, low, false),
         Efun::TellObject => begin_tell(live, stack, low),

@@ -55,10 +55,7 @@ fn do_deed(live: &mut Live, deed: &FileDeed, path: Option<&str>) -> Result<Value
 }
 
 /// A deed on a file is done: the job has come to its value, which takes the place of the arguments.
-///
-/// # Errors
-/// Where memory runs out, after which the state is closed.
-pub(crate) fn enter_file(
+fn do_file(
     deed: &FileDeed,
     path: &Option<String>,
     live: &mut Live,
@@ -82,6 +79,37 @@ pub(crate) fn enter_file(
     let v = do_deed(live, deed, text_of(path))?;
     put_at(stack, low, v)?;
     Ok(Stage::Value)
+}
+
+/// A deed on a file is done: the job has come to its value, which takes the place of the arguments.
+///
+/// # Errors
+/// Where memory runs out, after which the state is closed.
+pub(crate) fn enter_file(
+    deed: FileDeed,
+    path: Option<String>,
+    live: &mut Live,
+    stack: &mut Vec<Value>,
+    low: usize,
+) -> Result<Stage, AllocError>
+    requires plain { is_keeping deed ≡ false }
+    requires low { low ≤ length stack.old.items }
+    requires fit { IsFit live.old stack.old.items }
+    ensures enters { IfOk result (λ t. (e : _) (turn : Turn) → Enters e (Stage.File deed path) low live.old turn stack.old.items t live.new turn stack.new.items) }
+    ensures poised { IfOk result (λ t. (l : L) (turn : Turn) → IsPoised t l turn) }
+    ensures on { IfOk result (λ t. IsStageOn t low (length stack.new.items)) }
+    ensures ready { IfOk result (λ t. (objects : List (Option Object)) → IsStageReady objects t) }
+    ensures left { IfOk result (λ t. stage_left t ≤ 0) }
+    ensures closed { IsClosed live.new }
+    ensures fit { OnOk result (IsFit live.new stack.new.items) }
+    ensures cells { live.new.cells ≡ live.old.cells }
+    ensures objects { live.new.objects ≡ live.old.objects }
+    ensures names { live.new.names ≡ live.old.names }
+{
+    let done = do_file(&deed, &path, live, stack, low);
+    drop(path);
+    drop(deed);
+    done
 }
 
 /// Whether something was done, as a value.

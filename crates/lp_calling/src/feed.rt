@@ -13,6 +13,7 @@ use crate::items::take_item;
 use crate::job::{Job, Stage};
 use crate::laying::put_at;
 use crate::leave::{take_leave, take_master};
+use crate::moving::{move_back, take_moving};
 use crate::search::take_sought;
 use lp_efuns::caller::Turn;
 use lp_values::error::ErrorKind;
@@ -85,6 +86,7 @@ fn taken(
         Stage::Call(_, _) => take_value(stack, low, v),
         Stage::Target(_, function) => Ok(take_target(objects, v, function)),
         Stage::Load(_) => take_value(stack, low, v),
+        Stage::Move(moving) => Ok(take_moving(moving, objects, stack, low, &v)),
         Stage::Items(round) => take_item(round, objects, stack, low, v),
         Stage::Tell(_, _) => Ok(Stage::Zero),
         Stage::Write(_) => Ok(Stage::Zero),
@@ -101,12 +103,13 @@ fn taken(
     }
 }
 
-/// `this_player()` once a question of a stage has ended. No stage changes it so far.
+/// `this_player()` once a question of a stage has ended.
 pub(crate) fn player_back(stage: &Stage, player: Option<ObjId>) -> Option<ObjId>
     ensures { result ≡ player_back stage.now player }
 {
     match stage {
         Stage::Call(_, _) | Stage::Target(_, _) | Stage::Load(_) | Stage::Items(_) => player,
+        Stage::Move(moving) => move_back(moving, player),
         Stage::Tell(_, _) | Stage::Write(_) | Stage::Say(_, _) | Stage::TellEach(_) => player,
         Stage::MasterLoad(_) | Stage::Master(_, _) | Stage::File(_, _) | Stage::Shadow(_, _) =>
             player,

@@ -4,6 +4,7 @@ ghost use Rattle.std.specs.Str.{chars};
 ghost use Rattle.lp_calling.specs.Questions.{applied_name};
 ghost use Rattle.lp_calling.specs.declared.job.CallingFault.TheVariants.{NoMemory};
 
+use crate::moving::Moving;
 use crate::wish::{FileDeed, Wish};
 use lp_efuns::answer::{Answer, EfunFault};
 use lp_instr::efun::Efun;
@@ -109,6 +110,8 @@ pub enum Stage {
     Target(Text, Text),
     /// It loads the object of this name, and comes to that.
     Load(Text),
+    /// It moves an object.
+    Move(Moving),
     /// It calls a function for the items that are left.
     Items(Round),
     /// It gives an object a text.

@@ -69,13 +69,8 @@ pub(crate) fn master_stage(master: Option<ObjId>, wish: Wish) -> Stage
 fn is_path(alloc: Global, text: &[char]) -> Result<bool, AllocError>
     ensures { IfOk result (λ b. b ≡ path_test text.now) }
 {
-    match path_of(alloc, text)? {
-        Some(path) => {
-            drop(path);
-            Ok(true)
-        }
-        None => Ok(false),
-    }
+    let path = path_of(alloc, text)?;
+    Ok(path.is_some())
 }
 
 /// The stage at which leave is asked for a deed on the file at a path.

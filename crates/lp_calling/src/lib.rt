@@ -14,6 +14,7 @@ mod laying;
 pub mod leave;
 mod load;
 mod messages;
+pub mod moving;
 pub mod next;
 mod search;
 mod target;

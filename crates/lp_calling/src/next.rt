@@ -18,6 +18,7 @@ use crate::laying::cut;
 use crate::leave::{ask_master, load_master};
 use crate::load::ask_load;
 use crate::messages::{step_tell, step_write};
+use crate::moving::ask_moving;
 use crate::search::ask_object;
 use crate::wish::FileDeed;
 use lp_efuns::caller::Turn;
@@ -55,6 +56,7 @@ fn go(
         Stage::Call(o, name) => ask_call(efun, *o, name, stack, low),
         Stage::Target(name, _) => ask_load(name),
         Stage::Load(name) => ask_load(name),
+        Stage::Move(moving) => ask_moving(moving, live, turn, stack, low),
         Stage::Items(round) => step_items(efun, round, live, stack, low, budget),
         Stage::Tell(o, text) => step_tell(efun, *o, text, live, stack, low, budget),
         Stage::Write(text) => step_write(efun, text, live, turn, stack, low, budget),

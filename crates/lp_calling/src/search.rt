@@ -1,5 +1,5 @@
 //! `present`: an object is searched for.
-ghost use Rattle.std.specs.Prelude.{◌≡◌, ◌+◌, ◌-◌, ◌<◌, ◌≤◌, IfOk, List, OnOk, Option, Some, None, drop, length, map, true};
+ghost use Rattle.std.specs.Prelude.{◌≡◌, ◌+◌, ◌-◌, ◌<◌, ◌≤◌, ◌++◌, ◌∷◌, [], IfOk, List, OnOk, Option, Some, codes, drop, length, map, take};
 ghost use Rattle.lp_values.specs.declared.value.Value.{Value as V};
 ghost use Rattle.lp_cells.specs.Cells.{IsThere, Store};
 ghost use Rattle.lp_ops.specs.Operands.{operand};
@@ -13,8 +13,10 @@ ghost use Rattle.lp_calling.specs.Beginning.{IsBegunReady, IsBegunThere, Starts}
 ghost use Rattle.lp_calling.specs.Entering.{Advances, IsPoised, IsSearchPoised};
 ghost use Rattle.lp_calling.specs.Going.{IsAskedThere, IsStepThere, StageGoes, StageTakes};
 ghost use Rattle.lp_calling.specs.Jobs.{IsStageOn, IsStageReady, left_around, stage_left, unknown_many};
-ghost use Rattle.lp_calling.specs.Searches.{IsBeside, IsFirstSearch, IsSearchIn, IsSkipped, SearchesAround, SearchesIn, is_in};
+ghost use Rattle.lp_calling.specs.Searches.{IsBeside, IsFirstSearch, IsSearchIn, IsSkipped, SearchesAround, SearchesIn, is_in, is_near};
 ghost use Rattle.lp_calling.specs.Targets.{target_of};
+ghost use Rattle.lp_calling.specs.declared.job.Question.{Question as Q};
+ghost use Rattle.lp_calling.specs.declared.job.Step.{Step as S};
 ghost use Rattle.lp_calling.specs.declared.target.CallTarget.TheVariants as targets;
 
 use crate::audience::is_at;
@@ -30,7 +32,7 @@ use lp_values::text::Text;
 use lp_values::value::{Living, Value, is_zero};
 use lp_world::live::Live;
 use lp_world::objects::ObjectTable;
-use std::alloc::AllocError;
+use std::alloc::{AllocError, Global};
 
 // Beginning
 
@@ -41,8 +43,18 @@ fn is_beside(live: &Live, this: ObjId, around: Option<ObjId>, o: ObjId) -> bool
     let place = live.places.environment(o);
     match around {
         Some(e) => is_at(place, e),
-        None => is_at(place, this) || is_in(place, live.places.environment(this)),
+        None => is_near(place, live.places.environment(this), this),
     }
+}
+
+/// Whether a place is this object, or the place where this object is.
+fn is_near(place: Option<ObjId>, around: Option<ObjId>, this: ObjId) -> bool
+    ensures { result ≡ is_near place around this }
+{
+    if is_at(place, this) {
+        return true;
+    }
+    is_in(place, around)
 }
 
 /// Whether two places are one.
@@ -251,7 +263,30 @@ pub(crate) fn enter_search(search: Search, live: &Live) -> Result<Stage, AllocEr
     enter_around(live, search.around, search.text)
 }
 
-/// The next object is asked for `id`, with the text on top.
+/// The name of the function that tells whether an object is what a text names.
+fn id_name(alloc: Global) -> Result<Text, AllocError>
+    ensures { IfOk result (λ t. t ≡ codes "id") }
+{
+    Text::from_str(alloc, "id")
+}
+
+/// An object is asked for `id`, with the text on top.
+fn ask_id(
+    alloc: Global,
+    o: ObjId,
+    text: &Text,
+    stack: &mut Vec<Value>,
+) -> Result<Step, AllocError>
+    ensures asks { IfOk result (λ r. (r ≡ S.Asks (Q.Other o (codes "id")) 1) × (stack.new.items ≡ stack.old.items ++ V.Str text.now ∷ [])) }
+    ensures fit { OnOk result ((l : L) → IsFit l stack.old.items → IsFit l stack.new.items) }
+    ensures there { IfOk result (λ r. (cells : Store) → IsStepThere cells r) }
+{
+    let name = id_name(alloc)?;
+    stack.push(Value::Str(text.copy()?))?;
+    Ok(Step::Asks(Question::Other(o, name), 1))
+}
+
+/// The next object is asked for `id`.
 pub(crate) fn ask_object(
     search: &Search,
     live: &Live,
@@ -265,12 +300,20 @@ pub(crate) fn ask_object(
     ensures there { IfOk result (λ r. (cells : Store) → IsStepThere cells r) }
     ensures asked { IfOk result (IsAskedThere live.now.objects) }
 {
-    let o = search.objects[search.done];
-    stack.push(Value::Str(search.text.copy()?))?;
-    Ok(Step::Asks(
-        Question::Other(o, Text::from_str(live.alloc, "id")?),
-        1,
-    ))
+    ask_id(live.alloc, search.objects[search.done], &search.text, stack)
+}
+
+/// An object was found, which is the value.
+fn take_found(o: ObjId, stack: &mut Vec<Value>, low: usize) -> Result<Stage, AllocError>
+    requires { low ≤ length stack.old.items }
+    ensures found { IfOk result (λ t. (t ≡ Stage.Value) × (stack.new.items ≡ take low stack.old.items ++ V.Obj o ∷ [])) }
+    ensures on { IfOk result (λ t. IsStageOn t low (length stack.new.items)) }
+    ensures none { IfOk result (λ t. stage_left t ≡ 0) }
+    ensures ready { IfOk result (λ t. (objects : List (Option Object)) → IsStageReady objects t) }
+    ensures fit { OnOk result ((l : L) → IsFit l stack.old.items → IsFit l stack.new.items) }
+{
+    put_at(stack, low, Value::Obj(o))?;
+    Ok(Stage::Value)
 }
 
 /// An object was asked: it is the value where it did not answer 0; else the next one is to be asked.
@@ -297,7 +340,5 @@ pub(crate) fn take_sought(
             around: search.around,
         }));
     }
-    let o = search.objects[search.done];
-    put_at(stack, low, Value::Obj(o))?;
-    Ok(Stage::Value)
+    take_found(search.objects[search.done], stack, low)
 }

@@ -3,7 +3,7 @@ ghost use Rattle.std.specs.Prelude.{◌≡◌, IfOk, OnOk};
 ghost use Rattle.lp_calling_tests.specs.Whole.{CanAllGo, CanGo, IsWhole, WaitsIf};
 
 use crate::happening::{Reply, answer};
-use crate::telling::{say, say_asked, say_end, say_outputs};
+use crate::telling::{say, say_asked, say_end, say_outputs, say_player};
 use crate::values::{Arg, has_all, lay};
 use lp_calling::begin::{begin, is_calling};
 use lp_calling::job::{Begun, CallingFault, Job, Step};
@@ -67,9 +67,11 @@ fn go_on(
         has_all(&live.cells, stack.as_slice()),
         "the stack is there"
     );
+    let before = turn.player;
     match next(job, live, turn, stack, budget)? {
         Step::Asks(question, n) => {
             say_asked(rt, live, log, stack, &question, n)?;
+            say_player(live.alloc, log, before, turn.player)?;
             Ok(true)
         }
         Step::Ends(answer) => {

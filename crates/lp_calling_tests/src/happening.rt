@@ -2,7 +2,7 @@
 ghost use Rattle.std.specs.Prelude.{OnOk};
 ghost use Rattle.lp_calling_tests.specs.Whole.{CanGo, DoesWait, IsWhole};
 
-use crate::state::destruct;
+use crate::state::{destruct, put};
 use crate::values::{Arg, Item, has_all, make_item, value};
 use lp_calling::feed::feed;
 use lp_calling::job::Job;
@@ -19,6 +19,8 @@ use std::test::Fail;
 pub enum Event {
     /// An object is destructed.
     Dies(u64),
+    /// An object comes into another one.
+    Leaves(u64, u64),
     /// An item of the array that the efun was given is written, at a place from 0.
     Writes(u64, Item),
 }
@@ -63,6 +65,7 @@ fn happen(live: &mut Live, stack: &[Value], event: Event) -> Result<(), Fail>
 {
     match event {
         Event::Dies(ob) => destruct(live, ObjId(ob)),
+        Event::Leaves(item, dest) => put(live, item, dest),
         Event::Writes(i, item) => write(live, stack, i, item),
     }
 }

@@ -18,6 +18,8 @@ mod loads;
 #[cfg(test)]
 mod messages;
 #[cfg(test)]
+mod moves;
+#[cfg(test)]
 mod prices;
 #[cfg(test)]
 mod rooms;

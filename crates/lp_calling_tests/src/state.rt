@@ -224,7 +224,7 @@ fn animate(live: &mut Live, ob: u64) -> Result<(), Fail>
 }
 
 /// An object comes into another one.
-fn put(live: &mut Live, item: u64, dest: u64) -> Result<(), Fail>
+pub fn put(live: &mut Live, item: u64, dest: u64) -> Result<(), Fail>
     requires { IsWhole live.old }
     ensures { OnOk result (IsWhole live.new) }
 {

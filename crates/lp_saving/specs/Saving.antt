@@ -1,12 +1,15 @@
 -- Jobs that save and restore the variables of objects.
-use Rattle.std.specs.Prelude.{◌≡◌, ℕ, ⊤, List, ◌++◌, IfErr, IsSome, length, Option, Some, Result}
+use Rattle.std.specs.Prelude.{◌≡◌, ℕ, List, ◌++◌, IfErr, IsSome, length, Option, Some, Result}
 use Rattle.lp_values.specs.declared.id.ObjId.{ObjId}
 use Rattle.lp_values.specs.declared.value.Value.{Value}
 use Rattle.lp_code.specs.declared.program.RawProgram.{RawProgram}
 use Rattle.lp_swapfile.specs.Counts.{Counts}
 use Rattle.lp_swapfile.specs.Device.{Bytes, Last}
+use Rattle.lp_instr.specs.declared.efun.Efun.{Efun}
 use Rattle.lp_language.specs.World.{World}
-use Rattle.lp_language.specs.Course.{State}
+use Rattle.lp_language.specs.Resolve.{heritage_of}
+use Rattle.lp_part_laws.specs.Versions.{FitsVersion}
+use Rattle.lp_language.specs.Course.{State, and_then}
 use Rattle.lp_meaning.specs.Askers.{Asker}
 use Rattle.lp_world.specs.declared.live.Live.{Live}
 use Rattle.lp_world.specs.declared.objects.Object.{Object}
@@ -25,9 +28,9 @@ use Rattle.lp_efuns.specs.declared.caller.Turn.{Turn}
 use Rattle.lp_efuns.specs.Turns.{At, Setting}
 use Rattle.lp_calling.specs.declared.job.Job.{Job}
 use Rattle.lp_calling.specs.declared.wish.FileDeed.{FileDeed}
-use Rattle.lp_calling.specs.declared.wish.FileDeed.TheVariants as deeds
 use Rattle.lp_calling.specs.Beginning.{IsOver, Settled}
-use Rattle.lp_calling.specs.Jobs.{course_of}
+use Rattle.lp_calling.specs.Jobs.{course_of, ended}
+use Rattle.lp_calling.specs.Leave.{file_deed}
 
 -- What came into memory
 
@@ -42,16 +45,27 @@ pub record IsKeeper (live : Live) (o : ObjId) (code : RawProgram) : Type 0 where
 
 -- Deeds
 
--- the object whose variables are saved or restored is this one
-abbrev pub IsKeeperOf : FileDeed → ObjId → Type 0
-IsKeeperOf (deeds.Save this) o = this ≡ o
-IsKeeperOf (deeds.Restore this) o = this ≡ o
-IsKeeperOf _ o = ⊤
-
 -- what a deed came to, before the price of its value is paid
 abbrev pub did_of : Outcome → Did
 did_of (outcomes.Value v) = did.Value v
 did_of (outcomes.Error e) = did.Error e
+
+-- only files, cells and variables changed
+abbrev pub IsOnlyKept : Live → Live → Type 0
+IsOnlyKept live0 live1 = live1 ≡ record live0 { store = live1.store; cells = live1.cells; objects = live1.objects }
+
+-- A deed of an efun ends so, with its values taken from the stack, where a program fits the version of an object: from each state for which
+-- the live state stands its course asks nothing and ends with this answer.
+abbrev pub KeepsWith : Answer → Efun → FileDeed → Option (List ℕ) → ObjId → RawProgram → Live → List Value → ℕ → ℕ → Live → List Value → ℕ → Type 0
+KeepsWith a e d p o code live0 stack0 below budget0 live1 stack1 budget1 =
+    (turn : Turn) (low own : List Value) → stack0 ≡ low ++ own → length low ≡ below
+    → (stack1 ≡ low) × ((g : Setting) (s : State) → At g live0 turn budget0 s → FitsVersion (heritage_of s.world o) code → IsOver a (Settled s.world g live1 turn budget1) (and_then (file_deed d p s) (ended e)))
+
+-- the same, with what the swap file told, where the programs of the world fit
+abbrev pub KeepsOver : Answer → Efun → FileDeed → Option (List ℕ) → Option Bytes → Live → List Value → ℕ → ℕ → Live → List Value → ℕ → Type 0
+KeepsOver a e d p told live0 stack0 below budget0 live1 stack1 budget1 =
+    (turn : Turn) (low own : List Value) → stack0 ≡ low ++ own → length low ≡ below
+    → (stack1 ≡ low) × ((g : Setting) (s : State) → g.told ≡ told → At g live0 turn budget0 s → IsWorldOf told g.programs live0 s.world → IsOver a (Settled s.world g live1 turn budget1) (and_then (file_deed d p s) (ended e)))
 
 -- How such a job ends
 

@@ -1,11 +1,10 @@
 //! An object comes into memory with its program.
 ghost use Rattle.std.specs.Prelude.{◌≡◌, IfOk, IsSome, OnOk, Some};
-ghost use Rattle.std.specs.Option.{option_copied};
 ghost use Rattle.lp_world.specs.Closed.{IsClosed};
 ghost use Rattle.lp_world.specs.Rows.{row_at, variables_at};
 ghost use Rattle.lp_world.specs.declared.objects.Object.{Object};
 ghost use Rattle.lp_targets.specs.Brought.{Brings, program_at};
-ghost use Rattle.lp_saving.specs.Saving.{IsKeeper, IsKeeperOf, StandsOver};
+ghost use Rattle.lp_saving.specs.Saving.{IsKeeper, StandsOver};
 
 use lp_residence::answers::EnterFault;
 use lp_residence::entering::enter;

@@ -36,7 +36,7 @@ use Rattle.lp_calling.specs.declared.job.Begun.TheVariants as begun
 use Rattle.lp_calling.specs.declared.job.Job.{Job}
 use Rattle.lp_calling.specs.declared.job.Stage.TheVariants as stages
 use Rattle.lp_calling.specs.Beginning.{Begins, Settled, acts, whole}
-use Rattle.lp_calling.specs.Jobs.{IsJobOn, course_of, ended}
+use Rattle.lp_calling.specs.Jobs.{IsStageOn, course_of, ended}
 use Rattle.lp_calling.specs.Leaving.{AsksToShadow}
 use Rattle.lp_shadowing.specs.Shadowing.{ActsShadow, BeginsOver, BeginsShadow, IsBarred, IsJobFor, NamesObject, is_barred, shadow_by}
 
@@ -75,12 +75,12 @@ nothing_for live low this o = record {
   course = λ g turn b by s own h. refl;
 }
 
-pub asks_for : (live : Live) (low : ℕ) (this o : ObjId) (job : Job) → job.efun ≡ efuns.Shadow → job.low ≡ low → AsksToShadow live this o job.stage → ((stack : List Value) → low ≤ length stack → IsJobOn job stack) → IsJobFor (begun.Runs job) live low this o false
+pub asks_for : (live : Live) (low : ℕ) (this o : ObjId) (job : Job) → job.efun ≡ efuns.Shadow → job.low ≡ low → AsksToShadow live this o job.stage → ((n : ℕ) → low ≤ n → IsStageOn job.stage low n) → IsJobFor (begun.Runs job) live low this o false
 asks_for live low this o job e l a on = record {
   job = job;
   is = refl;
   height = l;
-  fits = on;
+  fits = λ stack k. subst (λ m. IsStageOn job.stage m (length stack)) (sym l) (on (length stack) k);
   course = λ g turn b by s own h. a g turn b by s own h ∙ ap (λ x. course_of (record job { efun = x }) own by s) (sym e);
 }
 

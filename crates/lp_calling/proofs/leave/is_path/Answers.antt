@@ -1,5 +1,6 @@
-use Rattle.lp_calling.proofs.Leaving.{is_no_path, is_some_path}
+use Rattle.std.proofs.Common.{◌∙◌}
+use Rattle.lp_calling.proofs.Leaving.{is_path_by}
 use Rattle.lp_calling.proofs.leave.is_path.Goals as goal
 
-pub returns-in-Some : goal.returns-in-Some
-returns-in-Some c = is_some_path c.args.text.now _ c.in_ok-path_of.ensures
+pub returns : goal.returns
+returns c = c.is_some.ensures ∙ is_path_by c.args.text.now c.in_ok-path.path c.in_ok-path.ensures

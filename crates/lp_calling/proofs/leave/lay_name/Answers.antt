@@ -7,4 +7,4 @@ use Rattle.lp_calling.proofs.leave.lay_name.Goals as goal
 
 pub returns-clause-items : goal.returns-clause-items
 returns-clause-items c =
-    c.in_ok-push.ensures ∙ ap (λ t. c.args.stack.now.items ++ values.Str t ∷ []) (c.in_ok-name.ensures ∙ ap chars c.name.ensures ∙ name_chars c.args.efun)
+    c.in_ok-push.ensures.items ∙ ap (λ t. c.args.stack.now.items ++ values.Str t ∷ []) (c.in_ok-name.ensures ∙ ap chars c.name.ensures ∙ name_chars c.args.efun)

@@ -9,5 +9,5 @@ use Rattle.lp_calling.proofs.leave.refused.Goals as goal
 pub returns-in-File-clause-granted : goal.returns-in-File-clause-granted
 returns-in-File-clause-granted c = λ l. subst (λ w. GrantedAs l w zero_value (stages.File c.in-File.deed None)) (sym c.in-File.is) (file_refused l c.in-File.deed c.in-File.field-1 c.in-File.field-2)
 
-pub returns-in-Shadow-clause-granted : goal.returns-in-Shadow-clause-granted
-returns-in-Shadow-clause-granted c = λ l. subst (λ w. GrantedAs l w zero_value stages.Zero) (sym c.in-Shadow.is) (shadow_refused l c.in-Shadow.field-0 c.in-Shadow.field-1)
+pub returns-clause-granted : goal.returns-clause-granted
+returns-clause-granted c = λ l. subst (λ w. GrantedAs l w zero_value stages.Zero) (sym c.in-Shadow.is) (shadow_refused l c.in-Shadow.field-0 c.in-Shadow.field-1)

@@ -1,6 +1,6 @@
 -- What is done once the master gave leave.
-use Rattle.std.proofs.Common.{◌≡◌, ◌∙◌, ◌++◌, ◌∷◌, [], ℕ, pos, Bool, true, false, ◌&&◌, not, List, Option, All, refl, ap, sym, subst, length, take, if◌then◌else◌}
-use Rattle.std.proofs.lemmas.List.{take_at}
+use Rattle.std.proofs.Common.{◌≡◌, ◌∙◌, ◌+◌, ◌<◌, ◌≤◌, ◌++◌, ◌∷◌, [], ℕ, pos, Bool, true, false, ◌&&◌, not, List, Option, All, refl, ap, sym, subst, arith, length, length-append, take, if◌then◌else◌}
+use Rattle.std.proofs.lemmas.List.{length-take-le, take_at}
 use Rattle.std.proofs.lemmas.List.Elements.{All-cons, All-weaker}
 use Rattle.lp_values.specs.declared.id.ObjId.{ObjId}
 use Rattle.lp_values.specs.declared.value.Value.{Value}
@@ -43,6 +43,13 @@ value_enters e stage go below live0 live1 turn stack0 stack1 v c f t low own q k
   stack = t ∙ ap (λ s. s ++ v ∷ []) (ap (take below) q ∙ take_at low own below k);
   course = λ g b by s h. let i = f g b s h in (i.0, i.1, c own by s ∙ ap (λ x. and_then x (ended e)) i.2);
 }
+
+-- so it finds its value on the stack
+pub value_on : (stack0 stack1 : List Value) (low : ℕ) (v : Value) → low ≤ length stack0 → stack1 ≡ take low stack0 ++ v ∷ [] → low < length stack1
+value_on stack0 stack1 low v le e =
+    let front : length (take low stack0) ≡ low = length-take-le low stack0 le in
+    let size : length stack1 ≡ length (take low stack0) + length (v ∷ []) = ap length e ∙ length-append (take low stack0) (v ∷ []) in
+    omega arith
 
 -- Files
 
