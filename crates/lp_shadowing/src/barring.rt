@@ -27,7 +27,7 @@ const MOST_ROWS: usize = 65535;
 fn program_forbids(victim: &RawProgram, other: &RawProgram) -> Result<bool, AllocError>
     ensures { IfOk result (λ b. (h k : Heritage) → FitsVersion h victim.now → FitsVersion k other.now → b ≡ is_forbidden_in h k) }
 {
-    if MOST_ROWS < other.tables.slots.len() {
+    if MOST_ROWS < other.tables.slots.as_slice().len() {
         return Err(AllocError);
     }
     Ok(forbids(victim, other))
