@@ -1,0 +1,3 @@
+pub mod Marked
+pub mod Counting
+pub mod Reported
