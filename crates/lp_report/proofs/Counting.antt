@@ -2,7 +2,7 @@
 use Rattle.std.proofs.Common.{◌≡◌, ◌∙◌, ℕ, ◌+◌, ◌<◌, Bool, true, false, List, [], ◌∷◌, ◌++◌, Option, Some, None, length, take, refl, ap, sym, subst, cond, suc, add-one, append_assoc, arith, if◌then◌else◌, get_or}
 use Rattle.std.specs.Prelude.{filter}
 use Rattle.std.specs.List.{flat_map}
-use Rattle.std.proofs.lemmas.List.{take_more}
+use Rattle.std.proofs.lemmas.List.{append-nil, take_more}
 use Rattle.std.proofs.lemmas.List.Filters.{length-filter_more}
 use Rattle.std.proofs.lemmas.Grind.{flat_map-append}
 use Rattle.std.proofs.lemmas.Option.{unwrap_or-slice_get}
@@ -27,7 +27,7 @@ versions_row rows n l =
     ap (λ x. live_versions (take n rows) ++ live_version x) r ∙ ap (λ xs. live_versions (take n rows) ++ xs) (one_version (get_or rows n None)) ∙ sym e
   where
     one_version : (x : Option Object) → live_version x ≡ live_versions (x ∷ [])
-    one_version x = ?
+    one_version x = sym (append-nil (live_version x))
 
 -- one version more
 pub kept_one : (rows : List (Option Version)) (k n : ℕ) (needed : List ProgId) → k ≡ n + 1 → is_needed needed n ≡ true

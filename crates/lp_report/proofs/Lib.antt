@@ -1,3 +1,4 @@
 pub mod Marked
 pub mod Counting
+pub mod Left
 pub mod Reported

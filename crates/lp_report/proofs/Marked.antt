@@ -1,7 +1,7 @@
 -- A further version is needed.
 use Rattle.std.proofs.Common.{◌≡◌, ◌∙◌, ℕ, ◌<◌, ◌≤◌, Bool, true, false, ◌||◌, List, [], ◌∷◌, ◌++◌, Some, length, refl, ap, sym, subst, inl, inr, nat_eq, arith}
 use Rattle.std.specs.Prelude.{slice_get, slice_set}
-use Rattle.std.proofs.lemmas.Option.{slice_get_within}
+use Rattle.std.proofs.lemmas.List.{length-set}
 use Rattle.std.proofs.lemmas.List.Folds.{list_any-append}
 use Rattle.std.proofs.lemmas.Bool.{eq-eqb, ne_eqb}
 use Rattle.std.proofs.Math.Bool.{or-false}
@@ -23,12 +23,9 @@ needed_here needed p n e = needed_more needed p n ∙ ap (λ b. is_needed needed
 needed_other : (needed : List ProgId) (p : ProgId) (n : ℕ) → (p.0 ≡ n → ⊥) → is_needed needed n ≡ is_needed (needed ++ p ∷ []) n
 needed_other needed p n d = sym (needed_more needed p n ∙ ap (λ b. is_needed needed n || b) (ne_eqb p.0 n d) ∙ or-false (is_needed needed n))
 
-length_set : (xs : List Bool) (i : ℕ) (b : Bool) → length (slice_set xs i b) ≡ length xs
-length_set xs i b = ?
-
 pub marked : (marks : List Bool) (p : ProgId) (needed : List ProgId) → p.0 < length marks → AreMarks marks needed → AreMarks (slice_set marks p.0 true) (needed ++ p ∷ [])
 marked marks p needed within h n l =
-    let m : n < length marks = subst (λ k. n < k) (length_set marks p.0 true) l in
+    let m : n < length marks = subst (λ k. n < k) (length-set marks p.0 true) l in
     elim (same_or_not p.0 n) [
       | inl s ↦ ap (λ k. slice_get (slice_set marks p.0 true) k) (sym s) ∙ get_set_here marks p.0 true _ (h p.0 within) ∙ ap Some (sym (needed_here needed p n s))
       | inr d ↦ get_set marks p.0 n true d ∙ h n m ∙ ap Some (needed_other needed p n d)

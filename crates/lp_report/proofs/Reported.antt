@@ -1,19 +1,21 @@
 -- The numbers of the rows are those that the written meaning tells of a world for which they stand.
-use Rattle.std.proofs.Common.{◌≡◌, ◌∙◌, ℕ, zero, suc, Bool, true, false, List, [], ◌∷◌, ◌++◌, Option, Some, None, IsSome, length, map, refl, ap, sym, subst, if◌then◌else◌, nat_eq}
+use Rattle.std.proofs.Common.{◌≡◌, ◌∙◌, ℕ, zero, suc, Bool, true, false, ◌||◌, ◌<◌, List, [], ◌∷◌, ◌++◌, Option, Some, None, IsSome, length, map, refl, ap, sym, subst, if◌then◌else◌, nat_eq, unwrap_or, arith}
 use Rattle.std.specs.Prelude.{All, Contains, filter, slice_get}
+use Rattle.std.proofs.lemmas.Bool.{eqb-true}
+use Rattle.std.proofs.lemmas.List.Elements.{All-append, All-cons, All-nil, Contains-get_or}
 use Rattle.std.specs.List.{flat_map, list_any}
 use Rattle.lp_values.specs.declared.id.ProgId.{ProgId}
 use Rattle.lp_cells.specs.Cells.{Store}
 use Rattle.lp_code.specs.declared.program.RawProgram.{RawProgram}
 use Rattle.lp_swapfile.specs.Device.{Bytes}
 use Rattle.lp_language.specs.World as world
-use Rattle.lp_language.specs.World.{World, new_world, version_at}
-use Rattle.lp_meaning.specs.IdleAndKept.{IsKept, kept_below, kept_number, kept_versions, live_number}
+use Rattle.lp_language.specs.World.{World, new_world, no_version, version_at}
+use Rattle.lp_meaning.specs.IdleAndKept.{IsKept, by_child, by_object, kept_below, kept_number, kept_versions, live_number}
 use Rattle.lp_world.specs.declared.live.Live.{Live}
 use Rattle.lp_world.specs.declared.objects.Object.{Object}
 use Rattle.lp_world.specs.declared.versions.Version.{Version}
 use Rattle.lp_world.specs.Rows.{is_live_row, row_at}
-use Rattle.lp_world.specs.Stands.{AreKept, AreObjects, AreVersions, ObjectIs, Stands}
+use Rattle.lp_world.specs.Stands.{AreKept, AreObjects, AreVersions, IsVersion, ObjectIs, Stands}
 use Rattle.lp_report.specs.declared.report.Report.{Report}
 use Rattle.lp_report.specs.Marks.{is_needed}
 use Rattle.lp_report.specs.Reporting.{AreCounted, Reports, is_live_out, kept_here, kept_rows, live_version, live_versions, out_among, parents_in}
@@ -74,13 +76,27 @@ AreAllKept w needed = All (IsKept (bare w)) needed
 parents_here : (told : Option Bytes) (programs : List RawProgram) (rows : List (Option Version)) (w : World) (n : ℕ) → AreVersions told programs rows w.versions → (r : Option Version) → row_at rows n ≡ r → IsSome r
     → parents_in r ≡ (version_at w (record { 0 = n })).parents
 parents_here told programs rows w n h None e s = absurd s
-parents_here told programs rows w n h (Some v) e s = ?parents
+parents_here told programs rows w n h (Some v) e s =
+    let x : IsVersion told programs w.versions n v = h.each n v (row_there (slice_get rows n) e) in
+    x.parents ∙ sym (ap (λ o. (unwrap_or o no_version).parents) x.there)
+  where
+    row_there : (o : Option (Option Version)) → unwrap_or o None ≡ Some v → o ≡ Some (Some v)
+    row_there None q = absurd cc q
+    row_there (Some None) q = absurd cc q
+    row_there (Some (Some u)) q = ap Some q
 
 kept_needed : (w : World) (needed : List ProgId) (n : ℕ) → AreAllKept w needed → is_needed needed n ≡ true → IsKept (bare w) (record { 0 = n })
-kept_needed w needed n h e = ?kept_needed
+kept_needed w [] n h e = absurd cc e
+kept_needed w (v ∷ vs) n h e = step (nat_eq v.0 n) refl e
+  where
+    step : (b : Bool) → nat_eq v.0 n ≡ b → (b || is_needed vs n) ≡ true → IsKept (bare w) (record { 0 = n })
+    step true q t = subst (λ k. IsKept (bare w) (record { 0 = k })) (eqb-true v.0 n q) (h 0 v (omega arith))
+    step false q t = kept_needed w vs n (λ k d l. h (suc k) d (omega (arith, l))) t
 
 kept_more : (w : World) (needed : List ProgId) (n : ℕ) → AreAllKept w needed → IsKept (bare w) (record { 0 = n }) → AreAllKept w (needed ++ (version_at w (record { 0 = n })).parents)
-kept_more w needed n h k = ?kept_more
+kept_more w needed n h k =
+    let ps : List ProgId = (version_at w (record { 0 = n })).parents in
+    All-append (IsKept (bare w)) needed ps h (λ i d l. by_child (record { 0 = n }) _ k (Contains-get_or ps i d l))
 
 rows_kept : (told : Option Bytes) (programs : List RawProgram) (rows : List (Option Version)) (w : World) → AreVersions told programs rows w.versions → AreKept rows w.objects w.versions
     → (n : ℕ) (needed : List ProgId) → AreAllKept w needed → kept_rows rows n needed ≡ kept_below w n needed
@@ -95,8 +111,18 @@ rows_kept told programs rows w v k (suc n) needed h = step (is_needed needed n) 
         ap (λ vs. record { 0 = n } ∷ vs) (ap (λ ps. kept_rows rows n (needed ++ ps)) p ∙ rows_kept told programs rows w v k n (needed ++ (version_at w (record { 0 = n })).parents) (kept_more w needed n h here))
     step false e = rows_kept told programs rows w v k n needed h
 
+these_kept : (w : World) (xs : List world.Object) → ((n : ℕ) (x : world.Object) → slice_get xs n ≡ Some x → x.is_live ≡ true → IsKept (bare w) x.version) → AreAllKept w (map (λ x. x.version) (filter (λ x. x.is_live) xs))
+these_kept w [] f = All-nil (IsKept (bare w))
+these_kept w (x ∷ xs) f = step x.is_live refl
+  where
+    rest : AreAllKept w (map (λ x. x.version) (filter (λ x. x.is_live) xs))
+    rest = these_kept w xs (λ n. f (suc n))
+    step : (b : Bool) → x.is_live ≡ b → AreAllKept w (map (λ x. x.version) (if b then x ∷ filter (λ x. x.is_live) xs else filter (λ x. x.is_live) xs))
+    step true e = All-cons (IsKept (bare w)) x.version _ (f 0 x refl e) rest
+    step false e = rest
+
 live_kept : (w : World) → AreAllKept w (map (λ x. x.version) (filter (λ x. x.is_live) w.objects))
-live_kept w = ?live_kept
+live_kept w = these_kept w w.objects (λ n x g l. by_object n x g l)
 
 kept_is : (told : Option Bytes) (programs : List RawProgram) (live : Live) (w : World) → Stands told programs live w → kept_here live ≡ kept_versions w
 kept_is told programs live w s =
