@@ -1,4 +1,0 @@
-pub mod Marked
-pub mod Counting
-pub mod Left
-pub mod Reported
