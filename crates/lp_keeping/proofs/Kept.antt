@@ -9,7 +9,7 @@ use Rattle.lp_code.specs.declared.program.RawProgram.{RawProgram}
 use Rattle.lp_code.specs.declared.tables.Slot.{Slot}
 use Rattle.lp_swapfile.specs.Device.{Bytes}
 use Rattle.lp_swapfile.specs.Room.{AreTaken, Room}
-use Rattle.lp_language.specs.World.{World, new_world, version_at}
+use Rattle.lp_language.specs.World.{World, new_world, no_version, version_at}
 use Rattle.lp_meaning.specs.IdleAndKept.{IsKept, by_child, by_object}
 use Rattle.lp_world.specs.Closed.{IsClosed, IsFunctionThere, IsObjectClosed, IsProgramClosed, IsRowThere, IsSlotClosed, IsVersionClosed, extents_of, parts_in, parts_together, variables_in, variables_together}
 use Rattle.lp_world.specs.Rows.{row_at}
@@ -18,8 +18,6 @@ use Rattle.lp_world.specs.declared.live.Live.{Live}
 use Rattle.lp_world.specs.declared.objects.Object.{Object}
 use Rattle.lp_world.specs.declared.versions.ProgramState.TheVariants as programs_of
 use Rattle.lp_world.specs.declared.versions.Version.{Version}
-use Rattle.lp_keeping.specs.Reporting.{parents_in}
-use Rattle.lp_keeping.proofs.Reported.{parents_here}
 use Rattle.lp_keeping.specs.Needs as needs
 use Rattle.lp_keeping.specs.Needs.{HaveGone, IsNeeded, named_by, versions_of}
 
@@ -141,6 +139,23 @@ closed_left live new r h g t = record {
 }
 
 -- The world
+
+parents_in : Option Version → List ProgId
+parents_in None = []
+parents_in (Some v) = v.outline.parents
+
+parents_here : (told : Option Bytes) (programs : List RawProgram) (rows : List (Option Version)) (w : World) (n : ℕ) → AreVersions told programs rows w.versions → (r : Option Version) → row_at rows n ≡ r → IsSome r
+    → parents_in r ≡ (version_at w (record { 0 = n })).parents
+parents_here told programs rows w n h None e s = absurd s
+parents_here told programs rows w n h (Some v) e s =
+    let x : IsVersion told programs w.versions n v = h.each n v (row_there (slice_get rows n) e) in
+    x.parents ∙ sym (ap (λ o. (unwrap_or o no_version).parents) x.there)
+  where
+    row_there : (o : Option (Option Version)) → unwrap_or o None ≡ Some v → o ≡ Some (Some v)
+    row_there None q = absurd cc q
+    row_there (Some None) q = absurd cc q
+    row_there (Some (Some u)) q = ap Some q
+
 
 kept_needed : (told : Option Bytes) (programs : List RawProgram) (live : Live) (w : World) → Stands told programs live w → (p : ProgId) → IsKept (record (new_world [] 0 0) { objects = w.objects; versions = w.versions }) p → IsNeeded live.objects live.versions p
 kept_needed told programs live w s _ (by_object n x e l) = step (slice_get live.objects n) refl (subst (λ y. ObjectIs told live.cells w.cells n (slice_get live.objects n) y) e (s.objects n))
