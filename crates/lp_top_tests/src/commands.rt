@@ -135,6 +135,12 @@ fn is_shared(alloc: Global, more: &str, output: &str) -> Result<bool, AllocError
 #[test]
 fn shared_arrays(rt: HostRuntime) -> Result<(), Fail> {
     assert!(rt; is_shared(rt.alloc(), "end\n", "to 1 2\n7\n\nend\nreport 3 0 3 0\n")?);
-    assert!(rt; is_shared(rt.alloc(), "swap /a\nend\n", "to 1 2\n7\n\nend\nreport 3 1 3 1\n")?);
+    assert!(rt;
+        is_shared(
+            rt.alloc(),
+            "swap /a\nend\n",
+            "to 1 2\n7\n\nend\nreport 3 1 3 1\n"
+        )?
+    );
     Ok(())
 }
