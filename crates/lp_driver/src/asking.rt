@@ -25,11 +25,7 @@ pub(crate) fn ascii_of(alloc: Global, letters: &[char]) -> Result<Option<String>
 }
 
 /// Who asks where the driver does, for a `this_player()` and a `this_interactive()`. Takes no memory.
-pub(crate) fn asker_for(
-    alloc: Global,
-    player: Option<ObjId>,
-    interactive: Option<ObjId>,
-) -> Asker
+pub(crate) fn asker_for(alloc: Global, player: Option<ObjId>, interactive: Option<ObjId>) -> Asker
     ensures { IsDriver player interactive result }
 {
     Asker {

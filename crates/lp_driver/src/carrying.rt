@@ -196,16 +196,7 @@ pub(crate) fn carry<W: Truthful>(
         arguments,
     } = call;
     match asked {
-        Asked::Apply(o, name) => apply(
-            live,
-            swap,
-            stack,
-            o,
-            &name,
-            player,
-            interactive,
-            arguments,
-        ),
+        Asked::Apply(o, name) => apply(live, swap, stack, o, &name, player, interactive, arguments),
         Asked::Command(o, line) => carry_command(live, swap, stack, o, &line, player, interactive),
         Asked::Load(name) => load(live, swap, stack, &name, player, interactive),
     }

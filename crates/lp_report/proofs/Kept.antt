@@ -139,14 +139,18 @@ kept_same told programs live w (suc n) marks needed stands l m k =
   where
     Same : Type 0
     Same = (ms : List Bool) (ns : List ProgId) → n ≤ length ms → AreMarked ms ns → AllKept w ns → kept_rows live.versions n ms ≡ kept_below w n ns
+
     parents : List ProgId
     parents = (version_at w (record { 0 = n })).parents
+
     all : IsKept (told_of w) (record { 0 = n }) → AllKept w (needed ++ parents)
     all here v h = elim (in_either needed parents v h) [ inl a ↦ k v a | inr b ↦ by_child (record { 0 = n }) v here (of_list parents v b) ]
+
     more : Same → IsKept (told_of w) (record { 0 = n }) → kept_rows live.versions n (with_marks marks (parents_in (row_at live.versions n))) ≡ kept_below w n (needed ++ parents)
     more same here =
         ap (λ ps. kept_rows live.versions n (with_marks marks ps)) (parents_same told programs live w n stands here)
         ∙ same (with_marks marks parents) (needed ++ parents) (let e = marks_len marks parents in omega (arith, e, l)) (marked_more marks needed parents m) (all here)
+
     by : (b : Bool) → list_any (λ v. nat_eq v.0 n) needed ≡ b → is_marked marks n ≡ b → Same
         → (if is_marked marks n then record { 0 = n } ∷ kept_rows live.versions n (with_marks marks (parents_in (row_at live.versions n))) else kept_rows live.versions n marks)
         ≡ (if b then record { 0 = n } ∷ kept_below w n (needed ++ parents) else kept_below w n needed)
@@ -174,7 +178,7 @@ kept_of told programs live w marks stands e =
     let same = live_same live.objects w.objects (like_all told programs live w stands) in
     let len : length marks ≡ length live.versions = ap length e ∙ marks_len (replicate (length live.versions) false) needed ∙ length-replicate (length live.versions) false in
     kept_same told programs live w (length live.versions) marks needed stands (omega (arith, len)) (subst (λ m. AreMarked m needed) (sym e) (marked_more (replicate (length live.versions) false) [] needed (none_marked (length live.versions))))
-        (subst (AllKept w) (sym same) (live_kept w w.objects 0 (λ n x g. subst (λ m. slice_get w.objects m ≡ Some x) (omega arith) g)))
+    (subst (AllKept w) (sym same) (live_kept w w.objects 0 (λ n x g. subst (λ m. slice_get w.objects m ≡ Some x) (omega arith) g)))
     ∙ ap (λ n. kept_below w n needed) stands.versions.next ∙ ap (kept_below w (length w.versions)) same
 
 -- What was counted is so in each world for which the state stands.

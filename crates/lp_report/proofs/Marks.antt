@@ -52,6 +52,7 @@ mark_one marks p k l = by (nat_lt p.0 (length marks)) refl (nat_eq p.0 k) refl
   where
     not_same : k ≡ p.0 → nat_eq p.0 k ≡ false → ⊥
     not_same s f = let t = eq-eqb p.0 k (sym s) in cc
+
     by : (b : Bool) → nat_lt p.0 (length marks) ≡ b → (c : Bool) → nat_eq p.0 k ≡ c → get_or (if b then set marks p.0 true else marks) k false ≡ get_or marks k false || c
     by true e true f = subst (λ n. get_or (set marks n true) k false ≡ get_or marks k false || true) (sym (eqb-true p.0 k f)) (get_or-set_same marks k true false l ∙ sym (or-true (get_or marks k false)))
     by true e false f = get_or-set_other marks p.0 k true false (λ s. not_same s f) ∙ sym (or_false (get_or marks k false))

@@ -186,7 +186,16 @@ fn begin<S: Source, K: Sink, W: Truthful>(
         moment,
     } = opening;
     match start(alloc, store, seed, moment, swap) {
-        Ok((live, outs)) => begun(reader, input, out, swap, swap_time, asks_report, live, &outs),
+        Ok((live, outs)) => begun(
+            reader,
+            input,
+            out,
+            swap,
+            swap_time,
+            asks_report,
+            live,
+            &outs,
+        ),
         Err(StartFault::NoMaster { faults }) => Status::NoMaster {
             faults: Faults::from_vec(faults),
         },

@@ -9,11 +9,7 @@ type Row = (&'static str, &'static str, &'static str);
 
 const ROWS: [Row; 6] = [
     // Nothing is due.
-    (
-        HELLO,
-        "connect 1\ntick 1\nend\n",
-        "to 1 6\nHello\n\nend\n",
-    ),
+    (HELLO, "connect 1\ntick 1\nend\n", "to 1 6\nHello\n\nend\n"),
     // A heart beats each two seconds, and no more after an error.
     (
         "void create() { set_heart_beat(1); } void heart_beat() { write(\"beat\"); }",
