@@ -62,7 +62,12 @@ pub fn hold_in_hall(
     rows: &[Row],
 ) -> Result<(), Fail> {
     for row in rows {
-        assert!(rt; comes_to_in_hall(rt, alloc, player, row)?, "{:?} {}", row.0, row.3);
+        assert!(rt;
+            comes_to_in_hall(rt, alloc, player, row)?,
+            "{:?} {}",
+            row.0,
+            row.3
+        );
     }
     Ok(())
 }
