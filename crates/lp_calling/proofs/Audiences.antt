@@ -268,8 +268,7 @@ object_speaks live turn this e g b s h =
 pub says_in : (live live1 : Live) (turn : Turn) (o this place : ObjId) (text : List ℕ) (a : Audience) (stage : Stage) → Speaks o live turn this → LiesIn (Some place) live o → IsAudienceIn a live place (Some o) text
     → Advances (stages.TellEach a) live turn stage live1 turn → Advances (stages.Say this text) live turn stage live1 turn
 says_in live live1 turn o this place text a stage sp li i f e own g b by s h =
-    let t = f e own g b by s h in
-    (
+    let t = f e own g b by s h in (
       t.0,
       t.1,
       ap (λ p. and_then (say_in by p text (environment s.world.places p) s) (ended e)) (sp g b s h)

@@ -99,8 +99,8 @@ objects_behind k = drop (k.done + 1) k.objects.items
 
 -- the environment of an object is searched, where there is one
 abbrev pub search_around : Asker → List ℕ → Option ObjId → State → Course Value
-search_around by t None s = nobody s
-search_around by t (Some o) s = present_in by t (environment s.world.places o) s nobody
+search_around by t None = nobody
+search_around by t (Some o) = λ s. present_in by t (environment s.world.places o) s nobody
 
 -- some objects are searched, and then that environment
 abbrev pub searching : Search → List ObjId → Asker → State → Course Value

@@ -52,7 +52,12 @@ fn audience_in(
 }
 
 /// `tell_room` of a live object goes on as a job.
-fn begin_in(live: &Live, stack: &Vec<Value>, low: usize, place: ObjId) -> Result<Begun, CallingFault>
+fn begin_in(
+    live: &Live,
+    stack: &Vec<Value>,
+    low: usize,
+    place: ObjId,
+) -> Result<Begun, CallingFault>
     requires low { low ≤ length stack.now.items }
     requires place { (cells : Store) → Some place ≡ object_arg (map (operand (live_in live.now.objects) cells) (drop low stack.now.items)) 0 }
     ensures starts { IfOk result (λ r. (caller : _) → Starts r Efun.TellRoom caller live.now low stack.now.items stack.now.items) }

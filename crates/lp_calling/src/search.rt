@@ -271,12 +271,7 @@ fn id_name(alloc: Global) -> Result<Text, AllocError>
 }
 
 /// An object is asked for `id`, with the text on top.
-fn ask_id(
-    alloc: Global,
-    o: ObjId,
-    text: &Text,
-    stack: &mut Vec<Value>,
-) -> Result<Step, AllocError>
+fn ask_id(alloc: Global, o: ObjId, text: &Text, stack: &mut Vec<Value>) -> Result<Step, AllocError>
     ensures asks { IfOk result (λ r. (r ≡ S.Asks (Q.Other o (codes "id")) 1) × (stack.new.items ≡ stack.old.items ++ V.Str text.now ∷ [])) }
     ensures fit { OnOk result ((l : L) → IsFit l stack.old.items → IsFit l stack.new.items) }
     ensures there { IfOk result (λ r. (cells : Store) → IsStepThere cells r) }

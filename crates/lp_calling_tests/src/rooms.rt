@@ -36,18 +36,8 @@ const TOLD: [Row; 8] = [
         &[],
         "5!catch_tell('hi') and is stopped",
     ),
-    (
-        Efun::TellRoom,
-        &[One(Obj(4)), One(Str("hi"))],
-        &[],
-        "0",
-    ),
-    (
-        Efun::TellRoom,
-        &[One(Obj(0)), One(Str("hi"))],
-        &[],
-        "0",
-    ),
+    (Efun::TellRoom, &[One(Obj(4)), One(Str("hi"))], &[], "0"),
+    (Efun::TellRoom, &[One(Obj(0)), One(Str("hi"))], &[], "0"),
     (
         Efun::TellRoom,
         &[One(Obj(6)), One(Str("hi"))],
@@ -75,12 +65,7 @@ const SAID: [Row; 2] = [
         &TWO,
         "5!catch_tell('hi') 1!catch_tell('hi') 0",
     ),
-    (
-        Efun::Say,
-        &[One(Int(1))],
-        &[],
-        "*Bad argument 1 to say\n",
-    ),
+    (Efun::Say, &[One(Int(1))], &[], "*Bad argument 1 to say\n"),
 ];
 
 #[test]

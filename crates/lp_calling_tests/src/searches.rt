@@ -8,6 +8,7 @@ use lp_instr::efun::Efun;
 use std::test::Fail;
 
 const NO: Reply = Gives(One(Int(0)));
+
 const YES: Reply = Gives(One(Int(1)));
 
 /// By player 1.
@@ -80,12 +81,7 @@ const TEXTS: [Row; 9] = [
         &[NO, NO, NO],
         "5.id('x') 4.id('x') 1.id('x') 0",
     ),
-    (
-        Efun::Present,
-        &[One(Str("x")), One(Obj(2))],
-        &[],
-        "0",
-    ),
+    (Efun::Present, &[One(Str("x")), One(Obj(2))], &[], "0"),
     (
         Efun::Present,
         &[One(Str("x")), One(Int(1))],

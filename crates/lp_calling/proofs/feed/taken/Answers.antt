@@ -36,9 +36,10 @@ pub returns-in-Value-clause-takes : goal.returns-in-Value-clause-takes
 returns-in-Value-clause-takes c = absurd (subst (λ s. IsStageAsking s) c.in-Value.is c.requires.asking)
 
 pub returns-in-Say-clause-takes : goal.returns-in-Say-clause-takes
-returns-in-Say-clause-takes c =
-    subst (λ s. StageTakes s c.args.v (live_in c.args.objects.now) c.args.low c.args.stack.now.items stages.Zero c.args.stack.now.items) (sym c.in-Say.is)
-    (zero_takes (stages.Say c.in-Say.field-0 c.in-Say.field-1) c.args.v (live_in c.args.objects.now) c.args.low c.args.stack.now.items (λ e own by s. refl))
+returns-in-Say-clause-takes c = absurd (subst (λ s. IsStageAsking s) c.in-Say.is c.requires.asking)
+
+pub returns-in-Say-clause-less : goal.returns-in-Say-clause-less
+returns-in-Say-clause-less c = absurd (subst (λ s. IsStageAsking s) c.in-Say.is c.requires.asking)
 
 pub returns-in-TellEach-clause-takes : goal.returns-in-TellEach-clause-takes
 returns-in-TellEach-clause-takes c =

@@ -1,4 +1,4 @@
-use Rattle.std.proofs.Common.{subst, sym}
+use Rattle.std.proofs.Common.{◌∙◌, subst, sym}
 use Rattle.std.proofs.lemmas.Result.{IfOk-weaker}
 use Rattle.lp_step.specs.Steps.{KeepsVariables}
 use Rattle.lp_calling.proofs.Entering.{goes_entered}
@@ -14,6 +14,12 @@ returns-clause-goes c =
 
 pub returns-clause-variables : goal.returns-clause-variables
 returns-clause-variables c = subst (λ rows. KeepsVariables c.args.live.now.objects rows) (sym c.go.ensures.objects) c.enter_job.ensures.variables
+
+pub returns-clause-stay : goal.returns-clause-stay
+returns-clause-stay c = λ v h. c.go.ensures.stay v (c.enter_job.ensures.stay v h)
+
+pub returns-clause-names : goal.returns-clause-names
+returns-clause-names c = c.go.ensures.names ∙ c.enter_job.ensures.names
 
 pub returns-clause-waits : goal.returns-clause-waits
 returns-clause-waits c =
