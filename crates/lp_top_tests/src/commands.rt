@@ -1,146 +1,370 @@
-//! What no clause says of commands and call-outs: the bytes of worked examples.
-use crate::reports::ends;
-use crate::running::script;
-use std::alloc::{AllocError, Global};
+//! Commands of players, and the efun `command`, in whole replays.
+use crate::games::{Game, are_replayed};
 use std::test::Fail;
 
-/// A master, items, and the transcript that they give.
-type Row = (&'static str, &'static str, &'static str);
-
-const ROWS: [Row; 7] = [
-    // The latest action comes first, and one that answers 0 leaves the line to the next.
+/// Which actions a line tries, and with what.
+const ACTIONS: [Game; 7] = [
+    // The latest action comes first, and an answer 0 goes on to the next one.
     (
-        "object connect() { return this_object(); }
+        &[(
+            "/secure/master.c",
+            "object connect() { return this_object(); }
 int logon() { enable_commands();
   add_action(\"one\", \"say\"); add_action(\"two\", \"say\"); return 1; }
 int one(string s) { write(\"1\"); return 1; }
 int two(string s) { write(\"2\"); return 0; }
 ",
+        )],
         "connect 1\nline 1 6\nsay hi\nend\n",
         "to 1 2\n21\nend\n",
     ),
+    // So it is with actions for a front of a verb.
     (
-        "object connect() { return this_object(); }
+        &[(
+            "/secure/master.c",
+            "object connect() { return this_object(); }
 int logon() { enable_commands();
   add_action(\"one\", \"s\", 1); add_action(\"two\", \"s\", 1); return 1; }
 int one(string s) { write(\"1\"); return 1; }
 int two(string s) { write(\"2\"); return 0; }
 ",
+        )],
         "connect 1\nline 1 6\nsay hi\nend\n",
         "to 1 2\n21\nend\n",
     ),
+    // `query_verb()` is what was typed.
     (
-        "object connect() { return this_object(); }
+        &[(
+            "/secure/master.c",
+            "object connect() { return this_object(); }
 int logon() { enable_commands(); add_action(\"one\", \"s\", 1); return 1; }
 int one(string s) { write(query_verb()); return 1; }
 ",
+        )],
         "connect 1\nline 1 2\nsa\nend\n",
         "to 1 2\nsa\nend\n",
     ),
-    // A function waits for a line.
+    // A verb goes up to the first space; what follows that space is the argument, and 0 where none stands.
     (
-        "object connect() { return this_object(); }
-int logon() { write(\"Name: \"); input_to(\"got\", 1); return 1; }
-void got(string s) { write(\"Hi \" + s + \"\\n\"); }
+        &[(
+            "/secure/master.c",
+            "object connect() { return this_object(); }
+int logon() { enable_commands(); add_action(\"talk\", \"say\"); return 1; }
+int talk(string s) { write(sprintf(\"%O\\n\", s)); return 1; }
 ",
-        "connect 1\nline 1 2\nBo\nend\n",
-        "to 1 6\nName: \nhide 1\nshow 1\nto 1 6\nHi Bo\n\nend\n",
+        )],
+        "connect 1\nline 1 3\nsay\nline 1 4\nsay \nline 1 11\nsay  hi you\nline 1 7\nsays hi\nline 1 4\n say\nend\n",
+        "to 1 2\n0\n\nto 1 3\n\"\"\n\nto 1 10\n\" hi you\"\n\nto 1 6\nWhat?\n\nto 1 6\nWhat?\n\nend\n",
     ),
-    // Call-outs come at their tick, and one that is made in a tick comes at the next.
+    // A verb for a front is called for each word that it begins, and for no other.
     (
-        "object connect() { return this_object(); }
-int logon() { call_out(\"a\", 0); call_out(\"b\", 0); return 1; }
-void a() { tell_object(this_object(), \"a\"); call_out(\"c\", 0); }
-void b() { tell_object(this_object(), \"b\"); }
-void c() { tell_object(this_object(), \"c\"); }
+        &[(
+            "/secure/master.c",
+            "object connect() { return this_object(); }
+int logon() { enable_commands(); add_action(\"do\", \"go\", 1); return 1; }
+int do(string s) { write(query_verb() + \",\" + s + \"\\n\"); return 1; }
 ",
-        "connect 1\ntick 5\ntick 5\nend\n",
-        "to 1 2\nab\nto 1 1\nc\nend\n",
+        )],
+        "connect 1\nline 1 5\ngo up\nline 1 7\ngoto up\nline 1 4\ng up\nline 1 5\nGo up\nend\n",
+        "to 1 6\ngo,up\n\nto 1 8\ngoto,up\n\nto 1 6\nWhat?\n\nto 1 6\nWhat?\n\nend\n",
     ),
+    // An action is called whatever its modifiers are.
     (
-        "object connect() { return this_object(); }
-int logon() { call_out(\"a\", 0); return 1; }
-void a() { tell_object(this_object(), \"a\"); }
+        &[(
+            "/secure/master.c",
+            "object connect() { return this_object(); }
+int logon() { enable_commands(); add_action(\"a\", \"a\"); add_action(\"b\", \"b\"); return 1; }
+private int a(string s) { write(\"private\\n\"); return 1; }
+static int b(string s) { write(\"static\\n\"); return 1; }
 ",
-        "connect 1\ntick 0\ntick 0\nend\n",
-        "to 1 1\na\nend\n",
+        )],
+        "connect 1\nline 1 1\na\nline 1 1\nb\nend\n",
+        "to 1 8\nprivate\n\nto 1 7\nstatic\n\nend\n",
     ),
+    // An empty line does nothing, and who is not living has no actions.
     (
-        "void f() { }
-object connect() { return this_object(); }
-int logon() { call_out(\"f\", 10); write(find_call_out(\"f\") + \",\" + remove_call_out(\"f\") + \",\" + remove_call_out(\"f\")); return 1; }
+        &[(
+            "/secure/master.c",
+            "object connect() { return this_object(); }
+int logon() { write(add_action(\"a\", \"a\") + \"\\n\"); return 1; }
+int a(string s) { write(\"a\\n\"); return 1; }
 ",
-        "connect 1\nend\n",
-        "to 1 8\n10,10,-1\nend\n",
+        )],
+        "connect 1\nline 1 0\n\nline 1 1\na\nend\n",
+        "to 1 2\n0\n\nto 1 6\nWhat?\n\nend\n",
     ),
 ];
 
-// Whether a replay of a master and items has written this.
-fn is_run(alloc: Global, row: Row) -> Result<bool, AllocError> {
-    let (master, items, output) = row;
-    let text = script(alloc, master, items)?;
-    let well: (&[u64], &[u64], usize) = (&[], &[], 65536);
-    ends(
-        alloc,
-        &["replay"],
-        text.as_bytes(),
-        well,
-        0,
-        output.as_bytes(),
-    )
+#[test]
+fn actions_of_a_line(rt: HostRuntime) -> Result<(), Fail> {
+    are_replayed(&rt, rt.alloc(), &["replay"], &ACTIONS)
 }
+
+/// What a player is told where no action does a line.
+const FAILURES: [Game; 5] = [
+    // The text of the last `notify_fail` of this line, whichever action gave it; the next line begins with `What?` again.
+    (
+        &[(
+            "/secure/master.c",
+            "object connect() { return this_object(); }
+int logon() { enable_commands(); add_action(\"a\", \"x\"); add_action(\"b\", \"x\"); return 1; }
+int a(string s) { notify_fail(\"Not a.\\n\"); return 0; }
+int b(string s) { notify_fail(\"Not b.\\n\"); return 0; }
+",
+        )],
+        "connect 1\nline 1 1\nx\nline 1 1\ny\nend\n",
+        "to 1 7\nNot a.\n\nto 1 6\nWhat?\n\nend\n",
+    ),
+    // A text of a line that an action does is not told.
+    (
+        &[(
+            "/secure/master.c",
+            "object connect() { return this_object(); }
+int logon() { enable_commands(); add_action(\"a\", \"x\"); add_action(\"b\", \"x\"); return 1; }
+int a(string s) { return 1; }
+int b(string s) { notify_fail(\"Not b.\\n\"); return 0; }
+",
+        )],
+        "connect 1\nline 1 1\nx\nend\n",
+        "end\n",
+    ),
+    // Who is destructed by an action is told nothing, and no further action is tried.
+    (
+        &[
+            (
+                "/player.c",
+                "int logon() { enable_commands(); add_action(\"late\", \"die\"); add_action(\"die\", \"die\"); return 1; }
+int die(string s) { destruct(this_object()); return 0; }
+int late(string s) { \"/secure/master\"->note(); return 1; }
+",
+            ),
+            (
+                "/secure/master.c",
+                "object connect() { return clone_object(\"/player\"); }
+void note() { write(\"late\\n\"); }
+",
+            ),
+        ],
+        "connect 1\nline 1 3\ndie\nline 1 3\ndie\nend\n",
+        "close 1\nend\n",
+    ),
+    // After an error in an action its effects stay, the log and the player are told, and no further action is tried.
+    (
+        &[(
+            "/secure/master.c",
+            "object connect() { return this_object(); }
+int n;
+int logon() { enable_commands(); add_action(\"show\", \"bad\"); add_action(\"bad\", \"bad\"); add_action(\"show\", \"show\"); return 1; }
+int bad(string s) { n = 7; write(\"x\"); return 1 / 0; }
+int show(string s) { write(n); return 1; }
+",
+        )],
+        "connect 1\nline 1 3\nbad\nline 1 4\nshow\nend\n",
+        "to 1 1\nx\nlog 70\nerror: Division by zero [bad of /secure/master, object /secure/master]\nto 1 64\nYour sensitive mind notices a wrongness in the fabric of space.\n\nto 1 1\n7\nend\n",
+    ),
+    // A line has a budget of its own: after one that spent it the next one is carried out.
+    (
+        &[(
+            "/secure/master.c",
+            "object connect() { return this_object(); }
+int n;
+int logon() { enable_commands(); add_action(\"spin\", \"spin\"); add_action(\"show\", \"show\"); return 1; }
+int spin(string s) { while (1) n = 1; return 1; }
+int show(string s) { write(\"done\\n\"); return 1; }
+",
+        )],
+        "connect 1\nline 1 4\nspin\nline 1 4\nshow\nend\n",
+        "log 94\nerror: Too long evaluation. Execution aborted. [spin of /secure/master, object /secure/master]\nto 1 64\nYour sensitive mind notices a wrongness in the fabric of space.\n\nto 1 5\ndone\n\nend\n",
+    ),
+];
 
 #[test]
-fn commands(rt: HostRuntime) -> Result<(), Fail> {
-    for row in ROWS {
-        assert!(rt; is_run(rt.alloc(), row)?, "{}", row.0);
-    }
-    Ok(())
+fn lines_that_no_action_does(rt: HostRuntime) -> Result<(), Fail> {
+    are_replayed(&rt, rt.alloc(), &["replay"], &FAILURES)
 }
 
-/// An array that two objects hold: one of them is put out, and both see the change that follows.
-const SHARED: &str = "mudscript 1 0 0
-file /a.c 73
-int *v; void take(int *x) { v = x; } void show() { write(v[0] + \"\\n\"); }
+/// The efun `command`.
+const IN_COMMANDS: [Game; 5] = [
+    // Who calls it carries out the line as `this_player()`, who is as before afterwards.
+    (
+        &[
+            (
+                "/n.c",
+                "void live() { enable_commands(); add_action(\"x\", \"x\"); }
+int x(string s) { \"/secure/master\"->note(object_name(this_player())); return 1; }
+void act() { command(\"x\"); write(object_name(this_player()) + \"\\n\"); }
+",
+            ),
+            (
+                "/secure/master.c",
+                "object connect() { return this_object(); }
+int logon() { \"/n\"->live(); enable_commands(); add_action(\"go\", \"go\"); return 1; }
+int go(string s) { \"/n\"->act(); return 1; }
+void note(string s) { tell_object(this_object(), s + \"\\n\"); }
+",
+            ),
+        ],
+        "connect 1\nline 1 2\ngo\nend\n",
+        "to 1 18\n/n\n/secure/master\n\nend\n",
+    ),
+    // The verb and the text of `notify_fail` are those of the innermost command; it answers 1 where an action did the line, and 0 else.
+    (
+        &[(
+            "/secure/master.c",
+            "object connect() { return this_object(); }
+int logon() { enable_commands(); add_action(\"go\", \"go\"); add_action(\"in\", \"in\"); return 1; }
+int go(string s) {
+  notify_fail(\"Nowhere.\\n\");
+  write(query_verb() + command(\"in 5\") + query_verb() + command(\"out\") + \"\\n\");
+  return 0;
+}
+int in(string s) { notify_fail(\"Not in.\\n\"); write(\"<\" + query_verb() + s + \">\"); return 1; }
+",
+        )],
+        "connect 1\nline 1 2\ngo\nend\n",
+        "to 1 27\n<in5>What?\ngo1go0\nNowhere.\n\nend\n",
+    ),
+    // Who is not living carries out nothing.
+    (
+        &[(
+            "/secure/master.c",
+            "object connect() { return this_object(); }
+int logon() { write(command(\"x\") + \"\\n\"); return 1; }
+int x(string s) { write(\"x\"); return 1; }
+",
+        )],
+        "connect 1\nend\n",
+        "to 1 2\n0\n\nend\n",
+    ),
+    // An error in a command goes through it to who called it; the command that ran is over.
+    (
+        &[(
+            "/secure/master.c",
+            "object connect() { return this_object(); }
+int logon() { enable_commands(); add_action(\"go\", \"go\"); add_action(\"bad\", \"bad\"); return 1; }
+int go(string s) { write(catch(command(\"bad\")) + query_verb() + \"\\n\"); return 1; }
+int bad(string s) { return 1 / 0; }
+",
+        )],
+        "connect 1\nline 1 2\ngo\nend\n",
+        "to 1 21\n*Division by zero\ngo\n\nend\n",
+    ),
+    // What it costs is paid by the budget of the line.
+    (
+        &[(
+            "/secure/master.c",
+            "object connect() { return this_object(); }
+int n;
+int logon() { enable_commands(); add_action(\"again\", \"again\"); return 1; }
+int again(string s) { n++; write(\".\"); if (n < 5) command(\"again\"); return 1; }
+",
+        )],
+        "connect 1\nline 1 5\nagain\nend\n",
+        "to 1 5\n.....\nend\n",
+    ),
+];
 
-file /b.c 75
-int *v; void make() { v = ({1}); \"/a\"->take(v); } void put() { v[0] = 7; }
+#[test]
+fn commands_in_commands(rt: HostRuntime) -> Result<(), Fail> {
+    are_replayed(&rt, rt.alloc(), &["replay"], &IN_COMMANDS)
+}
 
-file /secure/master.c 184
+/// Lines for which a function waits.
+const INPUTS: [Game; 3] = [
+    // The function takes the line, and a hidden input is shown again.
+    (
+        &[(
+            "/secure/master.c",
+            "object connect() { return this_object(); }
+int logon() { write(\"Name: \"); input_to(\"got\", 1); return 1; }
+void got(string s) { write(\"Hi \" + s + \"\\n\"); }
+",
+        )],
+        "connect 1\nline 1 2\nBo\nend\n",
+        "to 1 6\nName: \nhide 1\nshow 1\nto 1 6\nHi Bo\n\nend\n",
+    ),
+    // It takes the line before the actions do, once, with the kept arguments.
+    (
+        &[(
+            "/secure/master.c",
+            "object connect() { return this_object(); }
+int logon() { enable_commands(); add_action(\"bo\", \"Bo\"); input_to(\"got\", 0, 4, \"x\"); return 1; }
+int bo(string s) { write(\"action\\n\"); return 1; }
+void got(string s, int n, string t) { write(s + n + t + \"\\n\"); }
+",
+        )],
+        "connect 1\nline 1 2\nBo\nline 1 2\nBo\nend\n",
+        "to 1 5\nBo4x\n\nto 1 7\naction\n\nend\n",
+    ),
+    // It takes an empty line too; and a function may wait for the next line again.
+    (
+        &[(
+            "/secure/master.c",
+            "object connect() { return this_object(); }
+int logon() { input_to(\"got\"); return 1; }
+void got(string s) { write(\"[\" + s + \"]\\n\"); input_to(\"last\", 1); }
+void last(string s) { write(\"{\" + s + \"}\\n\"); }
+",
+        )],
+        "connect 1\nline 1 0\n\nline 1 3\na b\nend\n",
+        "to 1 3\n[]\n\nhide 1\nshow 1\nto 1 6\n{a b}\n\nend\n",
+    ),
+];
+
+#[test]
+fn lines_that_are_awaited(rt: HostRuntime) -> Result<(), Fail> {
+    are_replayed(&rt, rt.alloc(), &["replay"], &INPUTS)
+}
+
+/// Files with new texts between commands.
+const RELOADS: [Game; 2] = [
+    // An object goes on with its program, and a new clone has the new one.
+    (
+        &[
+            (
+                "/c.c",
+                "string v() { return \"old\"; }
+",
+            ),
+            (
+                "/secure/master.c",
+                "object x;
 object connect() { return this_object(); }
-int logon() { \"/b\"->make(); enable_commands(); add_action(\"go\", \"go\"); return 1; }
-int go(string s) { \"/b\"->put(); \"/a\"->show(); return 1; }
-
-start
-connect 1
-swap /a
-line 1 2
-go
-";
-
-// Whether a replay of that with more items has written this.
-fn is_shared(alloc: Global, more: &str, output: &str) -> Result<bool, AllocError> {
-    let text = format!(in alloc; "{SHARED}{more}")?;
-    let well: (&[u64], &[u64], usize) = (&[], &[], 65536);
-    ends(
-        alloc,
-        &["replay", "--report"],
-        text.as_bytes(),
-        well,
-        0,
-        output.as_bytes(),
-    )
-}
+int logon() { x = clone_object(\"/c\"); enable_commands(); add_action(\"go\", \"go\"); return 1; }
+int go(string s) { write(x->v() + clone_object(\"/c\")->v() + \"\\n\"); return 1; }
+",
+            ),
+        ],
+        "connect 1\nreload /c.c 29\nstring v() { return \"new\"; }\n\nline 1 2\ngo\nend\n",
+        "to 1 7\noldnew\n\nend\n",
+    ),
+    // So does a file that inherits the one with a new text.
+    (
+        &[
+            (
+                "/k.c",
+                "inherit \"/p\";
+",
+            ),
+            (
+                "/p.c",
+                "string v() { return \"p1\"; }
+",
+            ),
+            (
+                "/secure/master.c",
+                "object connect() { return this_object(); }
+int logon() { load_object(\"/k\"); enable_commands(); add_action(\"go\", \"go\"); return 1; }
+int go(string s) { write(\"/k\"->v() + \"/p\"->v() + \"\\n\"); return 1; }
+",
+            ),
+        ],
+        "connect 1\nreload /p.c 28\nstring v() { return \"p2\"; }\n\nline 1 2\ngo\nend\n",
+        "to 1 5\np1p2\n\nend\n",
+    ),
+];
 
 #[test]
-fn shared_arrays(rt: HostRuntime) -> Result<(), Fail> {
-    assert!(rt; is_shared(rt.alloc(), "end\n", "to 1 2\n7\n\nend\nreport 3 0 3 0\n")?);
-    assert!(rt;
-        is_shared(
-            rt.alloc(),
-            "swap /a\nend\n",
-            "to 1 2\n7\n\nend\nreport 3 1 3 1\n"
-        )?
-    );
-    Ok(())
+fn commands_after_reloads(rt: HostRuntime) -> Result<(), Fail> {
+    are_replayed(&rt, rt.alloc(), &["replay"], &RELOADS)
 }

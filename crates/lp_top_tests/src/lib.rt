@@ -36,4 +36,8 @@ mod games;
 #[cfg(test)]
 mod moments;
 #[cfg(test)]
+mod moves;
+#[cfg(test)]
+mod storing;
+#[cfg(test)]
 mod swapping;

@@ -1,6 +1,45 @@
 //! What happens at ticks, in whole replays.
 use crate::games::{Game, are_replayed};
+use crate::reports::Files;
 use std::test::Fail;
+
+/// A player who gives a name, a room, and two who growl.
+pub(crate) const SMALL_GAME: Files = &[
+    (
+        "/mob.c",
+        "void create() { set_heart_beat(1); }
+void heart_beat() {
+  if (environment()) tell_room(environment(), object_name() + \" growls.\\n\");
+}
+",
+    ),
+    (
+        "/player.c",
+        "string name;
+int logon() { write(\"Name: \"); input_to(\"named\"); return 1; }
+void named(string s) {
+  name = s; enable_commands();
+  move_object(this_object(), \"/room\");
+  write(\"Welcome, \" + name + \".\\n\");
+}
+",
+    ),
+    (
+        "/room.c",
+        "void create() {
+  move_object(clone_object(\"/mob\"), this_object());
+  move_object(clone_object(\"/mob\"), this_object());
+}
+void init() { add_action(\"look\", \"look\"); }
+int look(string s) { write(\"A room.\\n\"); return 1; }
+",
+    ),
+    (
+        "/secure/master.c",
+        "object connect() { return clone_object(\"/player\"); }
+",
+    ),
+];
 
 /// Call-outs.
 const CALL_OUTS: [Game; 9] = [
@@ -297,4 +336,19 @@ void note(string s) { tell_object(this_object(), s); }
 #[test]
 fn resets_and_clean_ups_at_ticks(rt: HostRuntime) -> Result<(), Fail> {
     are_replayed(&rt, rt.alloc(), &["replay"], &WATCHES)
+}
+
+/// A small game.
+const MUDLIB: [Game; 1] = [
+    // A player who gives a name, looks and is growled at.
+    (
+        SMALL_GAME,
+        "connect 1\nline 1 2\nBo\nline 1 4\nlook\ntick 2\nline 1 5\ndance\ngone 1\nend\n",
+        "to 1 6\nName: \nto 1 13\nWelcome, Bo.\n\nto 1 8\nA room.\n\nto 1 30\n/mob#2 growls.\n/mob#3 growls.\n\nto 1 6\nWhat?\n\nend\n",
+    ),
+];
+
+#[test]
+fn a_game_with_ticks(rt: HostRuntime) -> Result<(), Fail> {
+    are_replayed(&rt, rt.alloc(), &["replay"], &MUDLIB)
 }

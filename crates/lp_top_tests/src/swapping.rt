@@ -1,5 +1,6 @@
 //! Objects and programs that go out to the swap file, in whole replays: nobody in the game can tell.
 use crate::games::{Game, are_replayed};
+use crate::moments::SMALL_GAME;
 use crate::reports::Files;
 use std::test::Fail;
 
@@ -94,12 +95,18 @@ fn what_a_swap_names(rt: HostRuntime) -> Result<(), Fail> {
 }
 
 /// What is idle goes out after a tick.
-const IDLE: [Game; 2] = [
+const IDLE: [Game; 3] = [
     // An array that two objects have.
     (
         SHARED,
         "connect 1\nswap /a\nline 1 2\ngo\nswap /a\nline 1 2\ngo\nend\n",
         "to 1 2\n7\n\nto 1 2\n7\n\nend\n",
+    ),
+    // A small game.
+    (
+        SMALL_GAME,
+        "connect 1\nline 1 2\nBo\nline 1 4\nlook\ntick 2\nline 1 5\ndance\ngone 1\nend\n",
+        "to 1 6\nName: \nto 1 13\nWelcome, Bo.\n\nto 1 8\nA room.\n\nto 1 30\n/mob#2 growls.\n/mob#3 growls.\n\nto 1 6\nWhat?\n\nend\n",
     ),
     // An array in itself.
     (

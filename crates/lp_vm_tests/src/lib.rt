@@ -26,6 +26,8 @@ mod modifiers;
 mod names;
 #[cfg(test)]
 mod outside;
+#[cfg(test)]
+mod placing;
 pub mod playing;
 pub mod present;
 #[cfg(test)]
