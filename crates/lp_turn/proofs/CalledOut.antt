@@ -52,7 +52,7 @@ calls_as (n ∷ ns) s = by (numbered s.world.call_outs n) refl (calls_as ns s)
   where
     by : (q : Option CallOut) → numbered s.world.call_outs n ≡ q → calls_numbered ns s ≡ by_first s (first_waiting s.world.call_outs ns)
         → (elim q [ Some c ↦ and_then (driver_apply None None c.object c.function c.arguments (record s { world = without_due s.world n })) (λ d s. calls_numbered ns s) | None ↦ calls_numbered ns s ])
-            ≡ by_first s (elim q [ Some c ↦ Some (c, ns) | None ↦ first_waiting s.world.call_outs ns ])
+        ≡ by_first s (elim q [ Some c ↦ Some (c, ns) | None ↦ first_waiting s.world.call_outs ns ])
     by None e k = k
     by (Some c) e k = ap (λ m. calling_out c ns (record s { world = without_due s.world m })) (sym (found_number s.world.call_outs n c e))
 

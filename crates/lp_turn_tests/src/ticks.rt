@@ -154,19 +154,17 @@ fn play_removed(live: &mut Live, log: &mut String) -> Result<(), Fail>
     three_call_outs(live)?;
     let going = tick(live, 1010)?;
     let going = play(live, log, going, gave(0))?;
-    remove(live, 0, "second")?;
+    remove(live, 1);
     play(live, log, going, gave(0))?;
     Ok(())
 }
 
 /// A call-out is removed.
-fn remove(live: &mut Live, o: u64, fun: &str) -> Result<(), Fail>
+fn remove(live: &mut Live, number: u64)
     requires { IsClosed live.old }
-    ensures { OnOk result (IsClosed live.new) }
+    ensures { IsClosed live.new }
 {
-    let fun = Text::from_str(live.alloc, fun)?;
-    live.timers.remove(ObjId(o), &fun);
-    Ok(())
+    live.timers.take(number);
 }
 
 #[test]

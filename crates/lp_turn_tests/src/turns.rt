@@ -17,8 +17,11 @@ use std::test::Fail;
 /// The function of the master for which a turn asks for a load.
 fn load_awaited(step: Step) -> Option<MasterFunction> {
     match step {
-        Step::Asks(call, Waiting::Load(f)) => if is_load(&call) { Some(f) } else { None },
-        _ => None,
+        Step::Asks(call, waiting) => match waiting {
+            Waiting::Load(f) => if is_load(&call) { Some(f) } else { None },
+            _ => None,
+        },
+        Step::Ends => None,
     }
 }
 
