@@ -16,7 +16,8 @@ pub trait Truthful: SwapFile {
     /// Whether the file tells what it holds. Of what is out in one that does not tell, nothing stands, so nothing is to go out
     /// there. Takes no memory.
     fn tells(&self) -> bool
-        ensures { IsTrue result → IsTold (Self.content self.now) };
+        ensures told { IsTrue result → IsTold (Self.content self.now) }
+        ensures silent { IsTold (Self.content self.now) → IsTrue result };
 }
 
 impl Truthful for DiskSwap {

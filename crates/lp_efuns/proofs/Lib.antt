@@ -11,4 +11,3 @@ pub mod Commanded
 pub mod Connected
 pub mod Handed
 pub mod Enabled
-pub mod Behind

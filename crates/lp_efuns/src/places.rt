@@ -5,7 +5,6 @@ ghost use Rattle.lp_cells.specs.Cells.{Store};
 ghost use Rattle.lp_ops.specs.Effects.{IsEffectThere};
 ghost use Rattle.lp_language.specs.World.{World};
 ghost use Rattle.lp_meaning.specs.WorldEfuns.{first_of, next_beside, object_values};
-ghost use Rattle.lp_places.specs.Places.{next_in};
 ghost use Rattle.lp_places.specs.Stands.{Stands as Place};
 ghost use Rattle.lp_world.specs.Closed.{IsClosed};
 ghost use Rattle.lp_efuns.specs.Deeds.{Does, Looks};
@@ -88,26 +87,11 @@ pub(crate) fn first_inventory(
     }
 }
 
-/// The object behind another one among some.
-fn next_in(objects: &[ObjId], ob: ObjId) -> Option<ObjId>
-    ensures { result ≡ next_in ob objects.now }
-{
-    for i in 0..objects.len() {
-        if objects[i] == ob {
-            return first_of(&objects[i + 1..]);
-        }
-    }
-    None
-}
-
-/// The object behind another one in the inventory of its environment. Costs how many stand there before it.
+/// The object behind another one in the inventory of its environment.
 fn next_beside(places: &Places, ob: ObjId) -> Option<ObjId>
     ensures { (w : World) → Place places.now w.places w.shadows → result ≡ next_beside w ob }
 {
-    match places.environment(ob) {
-        Some(e) => next_in(places.inventory(e), ob),
-        None => None,
-    }
+    places.next(ob)
 }
 
 /// `next_inventory`: what stands behind an object in the inventory of its environment.

@@ -101,9 +101,9 @@ text_is told programs live s this code vs h c e f =
     ∙ ap (λ xs. saved_text (living s) (cells_of s) (map (named_value vs) xs)) (sym (saved_same (heritage_of s.world this) code f))
     ∙ ap (λ l. saved_text l (cells_of s) ps) (sym (live_same told programs live s.world h))
     ∙ sym (spelled.saved_same (live_in live.objects) live.cells (cells_of s) c.cells
-      (λ d t. ap (λ o. unwrap_or (as_items o) []) (sym (items_same live.cells (cells_of s) d h.cells t)))
-      (λ d t. ap (λ o. unwrap_or (as_pairs o) []) (sym (pairs_same live.cells (cells_of s) d h.cells t)))
-      ps (named_there live.cells vs (saved_in code) (values_there live this vs c e)))
+    (λ d t. ap (λ o. unwrap_or (as_items o) []) (sym (items_same live.cells (cells_of s) d h.cells t)))
+    (λ d t. ap (λ o. unwrap_or (as_pairs o) []) (sym (pairs_same live.cells (cells_of s) d h.cells t)))
+    ps (named_there live.cells vs (saved_in code) (values_there live this vs c e)))
 
 module _ (live live1 : Live) (this : ObjId) (code : RawProgram) (vs : List Value) (path : List ℕ) (c : Scene) (closed : IsClosed live) (has : variables_at live.objects this ≡ Some vs) (me : c.this ≡ this) where
   -- what was read of the variables of this object becomes the file
@@ -175,15 +175,15 @@ module _ (live live1 : Live) (this : ObjId) (code : RawProgram) (vs : List Value
       let moved : Stands told programs (record live { cells = live.cells ++ t.0 }) w = with_other_cells told programs live s.world (live.cells ++ t.0) whole h (part_with_more live.cells (cells_of s) t.0 h.cells) (own_with_more live.cells (cells_of s) t.0) in
       let here : Stands told programs (record live { cells = new }) w = subst (λ (a : Cells). Stands told programs (record live { cells = a }) w) (sym t.1) moved in
       let after : Stands told programs live1 (with_object w this (with_variables (object_at s.world this) us)) =
-          subst (λ (l : Live). Stands told programs l (with_object w this (with_variables (object_at s.world this) us))) (sym q) (stands_become (record live { cells = new }) this row vs us there resident told programs w here) in
+      subst (λ (l : Live). Stands told programs l (with_object w this (with_variables (object_at s.world this) us))) (sym q) (stands_become (record live { cells = new }) this row vs us there resident told programs w here) in
       let values : with_values (object_at s.world this).variables (saved_of s.world this) given ≡ us =
-          ap (λ xs. with_values xs (saved_of s.world this) given) (world_has live this row vs vs there resident told programs s.world h)
-          ∙ ap (λ xs. with_values vs xs given) (sym (saved_same (heritage_of s.world this) code f)) ∙ sym (ap (λ ps. with_places vs ps given) placed ∙ places_are vs (saved_in code) given) in
+      ap (λ xs. with_values xs (saved_of s.world this) given) (world_has live this row vs vs there resident told programs s.world h)
+      ∙ ap (λ xs. with_values vs xs given) (sym (saved_same (heritage_of s.world this) code f)) ∙ sym (ap (λ ps. with_places vs ps given) placed ∙ places_are vs (saved_in code) given) in
       let end : World = with_object w this (with_variables (object_at s.world this) us) in
       let course : restoring c (Some path) s ≡ gives (Int (pos 1)) (with_world s end) =
-          reading_is told programs s bytes (Values given whole) h f e t.2
-          ∙ ap (λ (p : ObjId). gives (Int (pos 1)) (with_world s (with_object w p (with_variables (object_at s.world p) (with_values (object_at s.world p).variables (saved_of s.world p) given))))) me
-          ∙ ap (λ xs. gives (Int (pos 1)) (with_world s (with_object w this (with_variables (object_at s.world this) xs)))) values in
+      reading_is told programs s bytes (Values given whole) h f e t.2
+      ∙ ap (λ (p : ObjId). gives (Int (pos 1)) (with_world s (with_object w p (with_variables (object_at s.world p) (with_values (object_at s.world p).variables (saved_of s.world p) given))))) me
+      ∙ ap (λ xs. gives (Int (pos 1)) (with_world s (with_object w this (with_variables (object_at s.world this) xs)))) values in
       subst (EndsWith (outcomes.Value (Int (pos 1))) (Follows told programs live1 s)) (sym course)
       (refl, record { stands = after; rest = refl; versions = refl; shadows = refl; lives = lives_become s.world whole this us })
 

@@ -133,7 +133,13 @@ fn restore_from(
 {
     let places = saved_places(live.alloc, code.tables.vars.as_slice())?;
     let names = saved_names(live.alloc, code.tables.vars.as_slice())?;
-    match read_given(live.alloc, &live.store, &mut live.cells, path, names.as_slice()) {
+    match read_given(
+        live.alloc,
+        &live.store,
+        &mut live.cells,
+        path,
+        names.as_slice(),
+    ) {
         Ok(Some(given)) => {
             put_all(&mut live.objects, this, places.as_slice(), given);
             Ok(Outcome::Value(Value::Int(1)))

@@ -47,12 +47,7 @@ pub(crate) fn saved_places(alloc: Global, rows: &[VarRow]) -> Result<Vec<usize>,
 }
 
 /// The name of a row is put behind others, where its variable is saved.
-fn add_name(
-    alloc: Global,
-    names: &mut Vec<Text>,
-    i: usize,
-    row: &VarRow,
-) -> Result<(), AllocError>
+fn add_name(alloc: Global, names: &mut Vec<Text>, i: usize, row: &VarRow) -> Result<(), AllocError>
     ensures { OnOk result ((rest : List Row) → names.new.items ++ map (λ x. x.name) (saved_rows (i + 1) rest) ≡ names.old.items ++ map (λ x. x.name) (saved_rows i (row.now ∷ rest))) }
 {
     if is_unsaved(row.mods) {

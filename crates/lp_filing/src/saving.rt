@@ -61,7 +61,12 @@ fn too_nested(alloc: Global) -> Result<Outcome, AllocError>
 }
 
 /// The saved variables of an object become a file.
-fn save_to(live: &mut Live, this: ObjId, code: &RawProgram, path: &str) -> Result<Outcome, AllocError>
+fn save_to(
+    live: &mut Live,
+    this: ObjId,
+    code: &RawProgram,
+    path: &str,
+) -> Result<Outcome, AllocError>
     requires closed { IsClosed live.old }
     requires variables { IsSome (variables_at live.old.objects this) }
     ensures comes { IfOk result (λ d. (c : Scene) → c.this ≡ this → ComesWith code.now this (saving c (Some path.now)) live.old d live.new) }

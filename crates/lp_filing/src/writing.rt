@@ -82,7 +82,11 @@ fn done_value(is_done: bool) -> Value
     ensures value { result ≡ V.Int (pos (if is_done then 1 else 0)) }
     ensures there { (cells : Store) → IsThere cells result }
 {
-    if is_done { Value::Int(1) } else { Value::Int(0) }
+    if is_done {
+        Value::Int(1)
+    } else {
+        Value::Int(0)
+    }
 }
 
 /// Removes a file: 1, or 0 where none is there or leave was refused, and then nothing changes. The path of a file that was removed is

@@ -1,6 +1,7 @@
 //! Laws of the written meaning on what lasts over a question: no number of a call-out is used again, and a call-out that waits does
 //! not change.
 #![tactic(auto)]
+
 ghost use Rattle.lp_lasting_laws.specs.Lasting.{CallOutsLast};
 ghost use Rattle.lp_lasting_laws.specs.Numbers.{NumbersAreEnough};
 

@@ -54,8 +54,8 @@ action_comes holder this vs live a fun verb f ef ev el first next g turn b s h =
     let xs : List Opened = opened_args s vs in (
       refl,
       subst (λ t. P t (text_arg xs 1) (is_flag (int_arg xs 2))) (ef (living s) (cells_of s))
-      (subst (λ u. P fun u (is_flag (int_arg xs 2))) (ev (living s) (cells_of s))
-      (subst (λ k. P fun verb k) (el (living s) (cells_of s)) (at_sentence g live turn b s a holder this fun verb f first next h))),
+          (subst (λ u. P fun u (is_flag (int_arg xs 2))) (ev (living s) (cells_of s))
+          (subst (λ k. P fun verb k) (el (living s) (cells_of s)) (at_sentence g live turn b s a holder this fun verb f first next h))),
     )
 
 -- a function waits for a line
@@ -72,8 +72,8 @@ waits k this vs live f x ef ex g turn b s h =
     let xs : List Opened = opened_args s vs in (
       refl,
       subst (λ f. At g (awaiting live (hidden k f) x) turn b (told (hidden k (is_flag (int_arg xs 1))) (with_world s (with_waiting s.world k this (text_arg xs 0) (is_flag (int_arg xs 1)) (drop 2 vs))))) (sym (ef (living s) (cells_of s)))
-      (at_waiting g live turn b s (hidden k (is_flag (int_arg xs 1))) k this (text_arg xs 0) (is_flag (int_arg xs 1)) (drop 2 vs) x
-      (ex (living s) (cells_of s) ∙ ap (λ f. record { connection = k; object = this; function = text_arg xs 0; hides = f; arguments = drop 2 vs }) (ef (living s) (cells_of s))) h),
+          (at_waiting g live turn b s (hidden k (is_flag (int_arg xs 1))) k this (text_arg xs 0) (is_flag (int_arg xs 1)) (drop 2 vs) x
+          (ex (living s) (cells_of s) ∙ ap (λ f. record { connection = k; object = this; function = text_arg xs 0; hides = f; arguments = drop 2 vs }) (ef (living s) (cells_of s))) h),
     )
 
 pub line_waits : (k : ℕ) (this : ObjId) (vs : List Value) (live live1 : Live) (f : Bool) (x : Waiting) (c : Connecting) → ((l : ObjId → Bool) (cells : Store) → f ≡ is_flag (int_arg (map (operand l cells) vs) 1)) → IsWaiting k this f vs x

@@ -46,7 +46,11 @@ fn holder(live: &Live, player: Option<ObjId>, this: ObjId) -> Option<ObjId>
     ensures { (g : Setting) (turn : T) (budget : ℕ) (s : State) → At g live.now turn budget s → result ≡ holder_for s.world this player }
 {
     match player {
-        Some(p) => if may_hold(live, p, this) { Some(p) } else { None },
+        Some(p) => if may_hold(live, p, this) {
+            Some(p)
+        } else {
+            None
+        },
         None => None,
     }
 }

@@ -32,7 +32,11 @@ fn unless_awaited(live: &Live, number: Option<u32>) -> Option<u32>
     ensures { (g : Setting) (turn : T) (budget : ℕ) (s : State) → At g live.now turn budget s → result ≡ unless_awaited s.world number }
 {
     match number {
-        Some(k) => if live.connections.is_awaited(k) { None } else { Some(k) },
+        Some(k) => if live.connections.is_awaited(k) {
+            None
+        } else {
+            Some(k)
+        },
         None => None,
     }
 }

@@ -87,7 +87,10 @@ pub(crate) fn call_out(
 {
     let function = text_shared(live.alloc, args, 0)?;
     let kept = kept_behind(live.alloc, args)?;
-    match live.timers.call_out(this, &function, live.clock + seconds, kept) {
+    match live
+        .timers
+        .call_out(this, &function, live.clock + seconds, kept)
+    {
         Ok(_) => Ok(Did::Value(Value::Int(0))),
         Err(e) => too_many(live.alloc, e),
     }

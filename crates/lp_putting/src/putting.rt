@@ -41,12 +41,7 @@ pub fn planned(
 }
 
 /// What is planned is carried out.
-fn carry_out(
-    live: &mut Live,
-    plan: Plan,
-    this: ObjId,
-    args: &[Value],
-) -> Result<Did, AllocError>
+fn carry_out(live: &mut Live, plan: Plan, this: ObjId, args: &[Value]) -> Result<Did, AllocError>
     requires fit { IsFitPlan plan }
     requires closed { IsClosed live.old }
     requires there { All (IsThere live.old.cells) args.now }

@@ -41,8 +41,8 @@ ArePutOut (x ∷ xs) l d l' d' = (m : Live) × (e : Device) × IsPutOut x l d m 
 
 -- They are put out where the device says that it tells what it holds; of what is out in another, nothing stands, so there nothing is done.
 abbrev pub ArePutWhereTold : List Owner → Live → Device → Live → Device → Type 0
-ArePutWhereTold os l d l' d' = (IsTold d.told × ArePutOut os l d l' d') ⊎ ((l' ≡ l) × (d' ≡ d))
+ArePutWhereTold os l d l' d' = (IsTold d.told × ArePutOut os l d l' d') ⊎ ((IsTold d.told → ⊥) × (l' ≡ l) × (d' ≡ d))
 
 -- The same of what is idle, with how many went and were kept.
 abbrev pub AreIdlePut : List Owner → Live → Device → Live → Device → Idled → Type 0
-AreIdlePut os l d l' d' n = (IsTold d.told × ArePut os l d none_yet l' d' n) ⊎ ((l' ≡ l) × (d' ≡ d) × (n ≡ none_yet))
+AreIdlePut os l d l' d' n = (IsTold d.told × ArePut os l d none_yet l' d' n) ⊎ ((IsTold d.told → ⊥) × (l' ≡ l) × (d' ≡ d) × (n ≡ none_yet))

@@ -1,5 +1,5 @@
 //! Versions of programs, by their numbers.
-ghost use Rattle.std.specs.Prelude.{◌≡◌, ◌∷◌, ◌++◌, [], IfOk, IsSome, List, OnErr, OnOk, Option, Some, length, slice_set, ℕ};
+ghost use Rattle.std.specs.Prelude.{◌≡◌, ◌∷◌, ◌++◌, [], IfOk, IsSome, List, None, OnErr, OnOk, Option, Some, length, slice_set, ℕ};
 ghost use Rattle.std.specs.Option.{option_copied};
 ghost use Rattle.lp_world.specs.Additions.{IsVersionAdded, IsVersionOf};
 ghost use Rattle.lp_world.specs.Rows.{row_at, version_aged, version_path, version_state, version_with_state};
@@ -248,6 +248,15 @@ impl VersionTable {
         let version = version_of(alloc, latest, path, program)?;
         self.rows.push(Some(version))?;
         Ok(ProgId(number))
+    }
+
+    /// Nothing stays of a version with this number, where one was made. Its number is not given out again. Takes no memory.
+    pub fn forget(&mut self, p: ProgId)
+        ensures { self.new ≡ slice_set self.old p.0 None }
+    {
+        if (p.0 as usize) < self.rows.len() {
+            self.rows[p.0 as usize] = None;
+        }
     }
 
     /// The version that was added last is gone, and its number is the next one again. Takes no memory.
