@@ -6,6 +6,8 @@
 #[cfg(test)]
 mod checks;
 #[cfg(test)]
+mod device;
+#[cfg(test)]
 mod families;
 #[cfg(test)]
 mod makes;
@@ -19,10 +21,6 @@ mod runs;
 mod scripts;
 #[cfg(test)]
 mod simuls;
-#[cfg(test)]
-mod swaps;
-#[cfg(test)]
-mod ticks;
 #[cfg(test)]
 mod words;
 

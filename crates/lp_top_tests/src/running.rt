@@ -1,6 +1,6 @@
 //! Runs of the driver over devices in memory.
+use crate::device::NoSwap;
 use lp_io::{MemSink, MemSource, Octets};
-use lp_memory_file::MemoryFile;
 use lp_top::{Status, code, run};
 use lp_tree::fault::FaultKind;
 use std::alloc::{AllocError, Global};
@@ -93,7 +93,7 @@ fn ran_with(
     input: &mut MemSource,
     out: &mut MemSink,
 ) -> Result<Outcome, AllocError> {
-    let mut swap = MemoryFile::new(alloc);
+    let mut swap = NoSwap::new();
     let status = run(alloc, words, input, out, &mut swap);
     outcome_of(alloc, &status, input, out)
 }

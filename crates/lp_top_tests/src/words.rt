@@ -62,7 +62,7 @@ const SIMUL: [Words; 15] = [
 ];
 
 /// Words in another order, and the option of another command.
-const OTHERS: [Words; 17] = [
+const OTHERS: [Words; 13] = [
     &["--simul", "/s.c", "check"],
     &["check", "x", "--simul", "/s.c"],
     &["check", "--Simul", "/s.c"],
@@ -77,11 +77,6 @@ const OTHERS: [Words; 17] = [
     &["replay", "--swap-time=1", "--swap-time=1"],
     &["check", "--swap-time", "1"],
     &["replay", "900"],
-    // the option for a report, cut, twice or with a value
-    &["replay", "--rep"],
-    &["replay", "--report", "--report"],
-    &["replay", "--report=1"],
-    &["replay", "--report", "1"],
 ];
 
 /// Words of a workload that is none: values that are missing or too many, or that are not spelled as

@@ -1,7 +1,7 @@
 use Rattle.std.proofs.Common.{subst}
-use Rattle.lp_driver.specs.Tidying.{IsTidied}
+use Rattle.lp_driver.specs.Tidying.{IsTidied, TurnTells}
 use Rattle.lp_driver.proofs.Rested.{turned_on}
-use Rattle.lp_driver.proofs.Telling.{behind_memory, behind_ok, turn_tells}
+use Rattle.lp_driver.proofs.Telling.{behind_memory, behind_ok, read_exit, turn_tells}
 use Rattle.lp_driver.proofs.driver.turn.Goals as goal
 
 pub returns-in-Ok-clause-turns : goal.returns-in-Ok-clause-turns
@@ -29,4 +29,6 @@ pub returns-in-Err-clause-tells : goal.returns-in-Err-clause-tells
 returns-in-Err-clause-tells g c = behind_memory c.in_ok-outs.ensures.tells c.tidy.ensures.reads
 
 pub returns-in_err-outs-clause-tells : goal.returns-in_err-outs-clause-tells
-returns-in_err-outs-clause-tells g c = turn_tells c.in_err-outs.ensures.tells
+returns-in_err-outs-clause-tells g c =
+    read_exit (TurnTells (g.W.SwapFile.content c.carry_turn.new.swap) (g.W.SwapFile.last c.carry_turn.new.swap) (g.W.SwapFile.read_faults c.args.swap.now) (g.W.SwapFile.read_faults c.carry_turn.new.swap) (g.W.SwapFile.is_truthful c.args.swap.now) (g.W.SwapFile.is_truthful c.carry_turn.new.swap) (g.W.SwapFile.is_honest c.args.swap.now) (g.W.SwapFile.is_honest c.carry_turn.new.swap) c.carry_turn.new.live)
+    c.from_residual.result c.in_err-outs.field-0.0 c.from_residual.ensures.1 (turn_tells c.in_err-outs.ensures.tells)
