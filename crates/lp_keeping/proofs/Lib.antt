@@ -1,4 +1,4 @@
 pub mod Marked
-pub mod Settling
+pub mod Noting
 pub mod Dropped
 pub mod Kept

@@ -1,7 +1,7 @@
 use Rattle.std.proofs.Common.{◌≡◌, ◌-◌, List, length}
 use Rattle.lp_values.specs.declared.id.ProgId.{ProgId}
 use Rattle.lp_keeping.specs.Marks.{AreMarks}
-use Rattle.lp_keeping.proofs.Settling.{AreReached, count}
+use Rattle.lp_keeping.proofs.Noting.{AreReached, count}
 use Rattle.lp_keeping.proofs.settling.settle.Given as goal
 
 abbrev pub invariant-passes : goal.invariant-passes
