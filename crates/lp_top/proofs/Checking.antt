@@ -1,5 +1,5 @@
 -- Reading the files of a script that is checked, and its report.
-use Rattle.std.proofs.Common.{subst, ◌≡◌, ◌∙◌, ◌≤◌, ◌⊎◌, inl, inr, ℕ, List, [], ◌∷◌, ◌++◌, length, take, false, Option, Some, refl, sym, ap, arith}
+use Rattle.std.proofs.Common.{Bool, subst, ◌≡◌, ◌∙◌, ◌≤◌, ◌⊎◌, inl, inr, ℕ, List, [], ◌∷◌, ◌++◌, length, take, false, Option, Some, refl, sym, ap, arith}
 use Rattle.std.specs.Prelude.{Ok}
 use Rattle.std.proofs.lemmas.List.{append-nil, take_all}
 use Rattle.lp_io.specs.Told.{after_adding}
