@@ -4,12 +4,8 @@
 #![tactic(auto)]
 
 #[cfg(test)]
-mod objects;
-#[cfg(test)]
 mod playing;
 #[cfg(test)]
 mod starts;
-#[cfg(test)]
-mod ticks;
 #[cfg(test)]
 mod turns;
