@@ -229,7 +229,7 @@ no_call_starts caller live n stack0 stack1 t f =
 
 -- the further arguments lie on top
 pub call_asks : (e : Efun) (o : ObjId) (name : List ℕ) (below n : ℕ) (stack : List Value) (live : Live) (turn : Turn) (budget : ℕ) → n ≡ length (drop 2 (drop below stack))
-    → StageGoes (steps.Asks (questions.Other o name) n) e (stages.Call o name) below live turn stack budget live stack budget
+    → StageGoes (steps.Asks (questions.Other o name) n) e (stages.Call o name) below live turn stack budget live turn stack budget
 call_asks e o name below n stack live turn budget c low own q k =
     let same : drop below stack ≡ own = ap (drop below) q ∙ drop_at low own below k in
     record {

@@ -114,7 +114,7 @@ no_load_starts caller live n stack0 stack1 name t m u o =
 
 -- nothing lies on top of the job's own values
 pub load_asks : (e : Efun) (name : List ℕ) (below : ℕ) (stack : List Value) (live : Live) (turn : Turn) (budget : ℕ) → below ≤ length stack
-    → StageGoes (steps.Asks (questions.Load name) 0) e (stages.Load name) below live turn stack budget live stack budget
+    → StageGoes (steps.Asks (questions.Load name) 0) e (stages.Load name) below live turn stack budget live turn stack budget
 load_asks e name below stack live turn budget le low own q k = record {
   own = own;
   arguments = [];
@@ -128,7 +128,7 @@ load_asks e name below stack live turn budget le low own q k = record {
 }
 
 pub target_asks : (e : Efun) (name fun : List ℕ) (below : ℕ) (stack : List Value) (live : Live) (turn : Turn) (budget : ℕ) → below ≤ length stack
-    → StageGoes (steps.Asks (questions.Load name) 0) e (stages.Target name fun) below live turn stack budget live stack budget
+    → StageGoes (steps.Asks (questions.Load name) 0) e (stages.Target name fun) below live turn stack budget live turn stack budget
 target_asks e name fun below stack live turn budget le low own q k = record {
   own = own;
   arguments = [];

@@ -171,7 +171,7 @@ next_item r own l d =
 pub item_asks : (e : Efun) (r : Round) (below n : ℕ) (stack0 stack1 : List Value) (live : Live) (turn : Turn) (budget : ℕ) → below + (r.arguments + r.count) ≤ length stack0 → r.done < r.count
     → live_in live.objects r.object ≡ true → n ≡ 1 + (r.arguments - 3)
     → stack1 ≡ stack0 ++ (take 1 (drop (below + (r.arguments + r.done)) stack0) ++ take (r.arguments - 3) (drop (below + 3) stack0))
-    → StageGoes (steps.Asks (questions.Other r.object r.function) n) e (stages.Items r) below live turn stack0 budget live stack1 budget
+    → StageGoes (steps.Asks (questions.Other r.object r.function) n) e (stages.Items r) below live turn stack0 budget live turn stack1 budget
 item_asks e r below n stack0 stack1 live turn budget room d l c t low own q k =
     let inside : r.arguments + r.count ≤ length own = left_size r low own stack0 below q k room in
     let next = next_item r own inside d in
@@ -199,7 +199,7 @@ item_asks e r below n stack0 stack1 live turn budget room d l c t low own q k =
 
 pub item_ends : (e : Efun) (r : Round) (below : ℕ) (stack0 stack1 : List Value) (live : Live) (turn : Turn) (budget : ℕ) → below + (r.arguments + r.count) ≤ length stack0 → r.done < r.count
     → live_in live.objects r.object ≡ false → stack1 ≡ take below stack0
-    → StageGoes (steps.Ends (answers.Error (plain BadTarget))) e (stages.Items r) below live turn stack0 budget live stack1 budget
+    → StageGoes (steps.Ends (answers.Error (plain BadTarget))) e (stages.Items r) below live turn stack0 budget live turn stack1 budget
 item_ends e r below stack0 stack1 live turn budget room d l t low own q k =
     let next = next_item r own (left_size r low own stack0 below q k room) d in
     record {
@@ -223,7 +223,7 @@ pub items_end : (e : Efun) (r : Round) (below : ℕ) (stack0 stack1 : List Value
     → r.count ≤ r.done → stack1 ≡ take below stack0 → v ≡ values.Arr (record { 0 = length live.cells })
     → part ≡ with_cell live.cells (content.Array (drop (below + (r.arguments + r.count)) stack0)) → IsThere part v
     → Finishes e (live_in live.objects) part (did.Value v) old a new
-    → StageGoes (steps.Ends a) e (stages.Items r) below live turn stack0 old (record live { cells = part }) stack1 new
+    → StageGoes (steps.Ends a) e (stages.Items r) below live turn stack0 old (record live { cells = part }) turn stack1 new
 items_end e r below stack0 stack1 live part turn old new v a room d t is made there f low own q k =
     let inside : r.arguments + r.count ≤ length own = left_size r low own stack0 below q k room in
     let size : length (take r.count (drop r.arguments own)) ≡ r.count = length-take-le r.count (drop r.arguments own) (omega (arith, length-drop r.arguments own)) in

@@ -28,6 +28,7 @@ use Rattle.lp_efuns.specs.Subjects.{number_of}
 use Rattle.lp_efuns.specs.Turns.{At, Setting}
 use Rattle.lp_efuns.proofs.Looking.{connection_same, object_same}
 use Rattle.lp_calling.specs.declared.job.Begun.TheVariants as begun
+use Rattle.lp_calling.specs.declared.job.Applied.TheVariants as applies
 use Rattle.lp_calling.specs.declared.job.Question.TheVariants as questions
 use Rattle.lp_calling.specs.declared.job.Stage.{Stage}
 use Rattle.lp_calling.specs.declared.job.Stage.TheVariants as stages
@@ -78,9 +79,9 @@ closed_told live os h = record {
 }
 
 -- what ends with 0 in another state ends so here
-pub ends_as : (r : Step) (e : Efun) (stage : Stage) (below : ℕ) (live0 live1 : Live) (turn : Turn) (stack0 stack1 : List Value) (b0 b1 : ℕ) → StageGoes r e stages.Zero below live1 turn stack0 b0 live1 stack1 b1
+pub ends_as : (r : Step) (e : Efun) (stage : Stage) (below : ℕ) (live0 live1 : Live) (turn : Turn) (stack0 stack1 : List Value) (b0 b1 : ℕ) → StageGoes r e stages.Zero below live1 turn stack0 b0 live1 turn stack1 b1
     → ((own : List Value) (g : Setting) (by : Asker) (s : State) → At g live0 turn b0 s → (t : State) × Settled s.world g live1 turn b0 t × (stage_course e stage own by s ≡ ended e zero_value t))
-    → StageGoes r e stage below live0 turn stack0 b0 live1 stack1 b1
+    → StageGoes r e stage below live0 turn stack0 b0 live1 turn stack1 b1
 ends_as (steps.Ends a) e stage below live0 live1 turn stack0 stack1 b0 b1 z f low own q k =
     let i = z low own q k in record {
       stack = i.stack;
@@ -122,7 +123,7 @@ connection_told e o text live live1 turn b k l c q own g by s h = (
 )
 
 pub tell_asks : (e : Efun) (o : ObjId) (text : List ℕ) (below : ℕ) (stack0 stack1 : List Value) (live : Live) (turn : Turn) (budget : ℕ) → below ≤ length stack0 → live_in live.objects o ≡ true → None ≡ number_of live o
-    → stack1 ≡ stack0 ++ values.Str text ∷ [] → StageGoes (steps.Asks (questions.CatchTell o) 1) e (stages.Tell o text) below live turn stack0 budget live stack1 budget
+    → stack1 ≡ stack0 ++ values.Str text ∷ [] → StageGoes (steps.Asks (questions.Apply o applies.CatchTell) 1) e (stages.Tell o text) below live turn stack0 budget live turn stack1 budget
 tell_asks e o text below stack0 stack1 live turn budget le l c t low own q k = record {
   own = own;
   arguments = values.Str text ∷ [];
@@ -165,7 +166,7 @@ logged by (Some q) t s e = by_live (is_live s.world q) refl e
 
 -- what goes on as telling does
 pub writes_as : (r : Step) (e : Efun) (o : ObjId) (t : List ℕ) (below : ℕ) (live0 live1 : Live) (turn : Turn) (stack0 stack1 : List Value) (b0 b1 : ℕ) → Some o ≡ reader (live_in live0.objects) turn.player
-    → StageGoes r e (stages.Tell o t) below live0 turn stack0 b0 live1 stack1 b1 → StageGoes r e (stages.Write t) below live0 turn stack0 b0 live1 stack1 b1
+    → StageGoes r e (stages.Tell o t) below live0 turn stack0 b0 live1 turn stack1 b1 → StageGoes r e (stages.Write t) below live0 turn stack0 b0 live1 turn stack1 b1
 writes_as (steps.Ends a) e o t below live0 live1 turn stack0 stack1 b0 b1 is z low own q k =
     let i = z low own q k in
     let p = reader_is (live_in live0.objects) turn.player o is in

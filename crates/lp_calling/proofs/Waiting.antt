@@ -25,7 +25,7 @@ low_on stages.Zero low n h = h
 low_on (stages.Error kind) low n h = h
 
 -- by how it goes on from what lies on the stack
-pub waits_so : (r : Step) (job0 job1 : Job) (live0 live1 : Live) (turn : Turn) (stack0 stack1 : List Value) (b0 b1 : ℕ) → IsJobOn job0 stack0 → Goes r job0 live0 turn stack0 b0 job1 live1 stack1 b1 → Waits r job1 stack1
+pub waits_so : (r : Step) (job0 job1 : Job) (live0 live1 : Live) (turn : Turn) (stack0 stack1 : List Value) (b0 b1 : ℕ) → IsJobOn job0 stack0 → Goes r job0 live0 turn stack0 b0 job1 live1 turn stack1 b1 → Waits r job1 stack1
 waits_so (steps.Ends a) job0 job1 live0 live1 turn stack0 stack1 b0 b1 on go = tt
 waits_so (steps.Asks q n) job0 job1 live0 live1 turn stack0 stack1 b0 b1 on go =
     let i = go (take job0.low stack0) (drop job0.low stack0) (sym (take-append-drop job0.low stack0)) (length-take-le job0.low stack0 (low_on job0.stage job0.low (length stack0) on)) in

@@ -32,6 +32,9 @@ is_calling efuns.Map = true
 is_calling efuns.TellObject = true
 is_calling efuns.Write = true
 is_calling efuns.Printf = true
+is_calling efuns.TellRoom = true
+is_calling efuns.Say = true
+is_calling efuns.Present = true
 is_calling _ = false
 
 -- The live state stands for a state, whose world settles from this one.

@@ -11,6 +11,7 @@ ghost use Rattle.lp_step.specs.Steps.{IsFit};
 ghost use Rattle.lp_efuns.specs.Names.{AreNamed};
 ghost use Rattle.lp_calling.specs.Beginning.{Begins, IsBegunReady, IsBegunThere, Starts, is_calling};
 
+use crate::audience::{begin_room, begin_say};
 use crate::call::begin_call;
 use crate::ends::{begin_bad, begin_end};
 use crate::items::begin_items;
@@ -18,6 +19,7 @@ use crate::job::{Begun, CallingFault};
 use crate::laying::above;
 use crate::load::begin_load;
 use crate::messages::{begin_printf, begin_tell, begin_write};
+use crate::search::begin_present;
 use lp_cells::cells::Cells;
 use lp_efuns::answer::Answer;
 use lp_efuns::caller::Caller;
@@ -29,7 +31,8 @@ use lp_values::value::Value;
 use lp_world::live::Live;
 use lp_world::objects::ObjectTable;
 
-/// Whether an efun is carried out by a job: `call_other`, `load_object`, `filter`, `map`, `tell_object`, `write` and `printf` are.
+/// Whether an efun is carried out by a job: `call_other`, `load_object`, `filter`, `map`, `tell_object`, `write`, `printf`, `tell_room`,
+/// `say` and `present` are.
 pub fn is_calling(efun: Efun) -> bool
     ensures { result ≡ is_calling efun }
 {
@@ -40,7 +43,10 @@ pub fn is_calling(efun: Efun) -> bool
         | Efun::Map
         | Efun::TellObject
         | Efun::Write
-        | Efun::Printf => true,
+        | Efun::Printf
+        | Efun::TellRoom
+        | Efun::Say
+        | Efun::Present => true,
         _ => false,
     }
 }
@@ -70,6 +76,9 @@ fn start(
         Efun::TellObject => begin_tell(live, stack, low),
         Efun::Write => begin_write(live, stack, low),
         Efun::Printf => begin_printf(live, stack, low),
+        Efun::TellRoom => begin_room(live, stack, low),
+        Efun::Say => begin_say(live, caller, stack, low),
+        Efun::Present => begin_present(live, caller, stack, low),
         _ => unreachable!(),
     }
 }
