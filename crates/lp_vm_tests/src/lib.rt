@@ -9,6 +9,8 @@ mod after;
 #[cfg(test)]
 mod budgets;
 #[cfg(test)]
+mod commands;
+#[cfg(test)]
 mod crossing;
 pub mod device;
 #[cfg(test)]
