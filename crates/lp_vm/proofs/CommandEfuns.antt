@@ -4,11 +4,9 @@ use Rattle.std.proofs.Math.Nat.{le_trans}
 use Rattle.lp_values.specs.declared.id.ObjId.{ObjId}
 use Rattle.lp_values.specs.declared.value.Value.{Value}
 use Rattle.lp_code.specs.declared.program.RawProgram.{RawProgram}
-use Rattle.lp_events.specs.declared.out.Out.{Out}
 use Rattle.lp_instr.specs.declared.efun.Efun.TheVariants as efuns
 use Rattle.lp_swapfile.specs.Device.{Bytes}
 use Rattle.lp_language.specs.Course.{Ask, CanAnswer, Command, End, Gives, Over, State, Stops, after, and_then, end_of_outcome, outcome_of}
-use Rattle.lp_meaning.specs.Askers as meaning
 use Rattle.lp_meaning.specs.Askers.{asker_of, question, state_of, with_player_back}
 use Rattle.lp_meaning.specs.Closing.{Ends}
 use Rattle.lp_meaning.specs.FrontEnd.{FrontEnd}
@@ -35,7 +33,7 @@ use Rattle.lp_commanding.specs.declared.job.CommandBegun.TheVariants as begun
 use Rattle.lp_commanding.specs.Efuns.{HasCommanded, commanded}
 use Rattle.lp_commanding.specs.Going.{IsStillAt}
 use Rattle.lp_vm.specs.declared.request.Request.TheVariants as requests
-use Rattle.lp_vm.specs.Answering.{CanServe, IsAsked, IsSameAsker, Serves}
+use Rattle.lp_vm.specs.Answering.{CanServe, IsAsked, Serves}
 use Rattle.lp_vm.specs.CommandEfun.{BeginsAt, EndsAs, with_player}
 use Rattle.lp_vm.specs.Commanding.{AsksCommand, CanObey, Obeys}
 use Rattle.lp_vm.specs.Cycle.{Answers}

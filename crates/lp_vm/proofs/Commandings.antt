@@ -9,7 +9,6 @@ use Rattle.lp_cells.specs.Cells.{IsThere}
 use Rattle.lp_code.specs.declared.program.RawProgram.{RawProgram}
 use Rattle.lp_events.specs.declared.out.Out.{Out}
 use Rattle.lp_swapfile.specs.Device.{Bytes}
-use Rattle.lp_language.specs.World.{World}
 use Rattle.lp_language.specs.Course.{Apply, Ask, CanAnswer, Command, Course, End, Gives, Over, State, Stops, after, end_of_outcome, in_any_case, outcome_of}
 use Rattle.lp_meaning.specs.Askers as meaning
 use Rattle.lp_meaning.specs.Askers.{asker_of, question, state_of}
@@ -37,21 +36,20 @@ use Rattle.lp_commanding.specs.declared.job.Question.{Question}
 use Rattle.lp_commanding.specs.declared.job.Question.TheVariants as questions
 use Rattle.lp_commanding.specs.Beginning.{Begins}
 use Rattle.lp_commanding.specs.Going.{HasAsked, HasStopped, IsStillAt}
-use Rattle.lp_commanding.specs.Jobs.{IsAsking, asked_of, behind, course_of, object_of, question_course, questions_left, rest_of}
+use Rattle.lp_commanding.specs.Jobs.{asked_of, behind, course_of, object_of, question_course, questions_left, rest_of}
 use Rattle.lp_reaching.specs.declared.reached.Reached.{Reached}
 use Rattle.lp_reaching.specs.Reaching.{Applies, CanApply, FindsApplied, IsInMemory, ReachesIf}
 use Rattle.lp_vm.specs.declared.request.Request.TheVariants as requests
 use Rattle.lp_vm.specs.Answering.{CanServe, IsAsked, IsSameAsker, Serves}
-use Rattle.lp_vm.specs.Commanding.{AsksCommand, CanCarryOut, CanObey, CarriedOut, CarriesOut, CommandAsks, CommandContinues, CommandIsMeant, CommandTurned, CommandsOn, FeedsCommand, IsOnBehalf, Obeys, name_asked}
+use Rattle.lp_vm.specs.Commanding.{AsksCommand, CanCarryOut, CanObey, CarriesOut, CommandAsks, CommandContinues, CommandTurned, CommandsOn, FeedsCommand, IsOnBehalf, Obeys, name_asked}
 use Rattle.lp_vm.specs.Cycle.{Answers}
-use Rattle.lp_vm.specs.Growing.{Grows}
 use Rattle.lp_vm.specs.Working.{WorkedTo}
 use Rattle.lp_vm.proofs.Answered.{setting}
 use Rattle.lp_vm.proofs.Carried.{world_settled}
 use Rattle.lp_vm.proofs.Clones.{value_outcome}
 use Rattle.lp_vm.proofs.Grown.{grows_same, grows_trans, outcome_grown}
 use Rattle.lp_vm.proofs.Makings.{end_state, value_end}
-use Rattle.lp_vm.proofs.Startings.{same_asker, same_later}
+use Rattle.lp_vm.proofs.Startings.{same_later}
 use Rattle.lp_vm.proofs.Turning.{world_reached}
 
 -- Who asks

@@ -1,12 +1,9 @@
 use Rattle.std.proofs.Common.{All, refl, subst, sym}
 use Rattle.lp_cells.specs.Cells.{IsThere}
-use Rattle.lp_commanding.specs.declared.job.Step.TheVariants as steps
 use Rattle.lp_commanding.specs.Going.{Goes, IsAskedThere, IsStepThere}
 use Rattle.lp_step.specs.Steps.{IsFit}
 use Rattle.lp_run.proofs.Together.{home_later}
-use Rattle.lp_vm.specs.Answering.{IsSameAsker}
 use Rattle.lp_vm.proofs.Commandings.{command_asks, command_ends, command_reach}
-use Rattle.lp_vm.proofs.Workings.{if_ok_both}
 use Rattle.lp_vm.proofs.commanding.step_command.Goals as goal
 
 pub reach_asked-requires-clause-object : goal.reach_asked-requires-clause-object
