@@ -10,7 +10,7 @@ use Rattle.lp_values.specs.declared.value.Value.{Value}
 use Rattle.lp_code.specs.declared.program.RawProgram.{RawProgram}
 use Rattle.lp_events.specs.declared.out.Out.{Out}
 use Rattle.lp_swapfile.specs.Device.{Bytes}
-use Rattle.lp_language.specs.Course.{Ask, CanAnswer, Course, Over, End, Gives, Outcome, Scene, State, Stops, after, end_of_outcome, in_any_case, outcome_of}
+use Rattle.lp_language.specs.Course.{Ask, CanAnswer, Course, Over, End, Gives, Outcome, Scene, State, Stops, after, in_any_case, outcome_of}
 use Rattle.lp_meaning.specs.Askers as meaning
 use Rattle.lp_meaning.specs.Askers.{question}
 use Rattle.lp_meaning.specs.Closing.{Ends, Has}
@@ -29,7 +29,7 @@ use Rattle.lp_calling.specs.declared.job.Question.{Question}
 use Rattle.lp_calling.specs.declared.job.Question.TheVariants as questions
 use Rattle.lp_calling.specs.declared.job.Step.TheVariants as goes_to
 use Rattle.lp_calling.specs.Beginning.{Settled}
-use Rattle.lp_calling.specs.Going.{Goes, HasAsked, HasStopped, HasTaken, Takes}
+use Rattle.lp_calling.specs.Going.{Goes, HasAsked, HasStopped, HasTaken}
 use Rattle.lp_calling.specs.Jobs.{IsAsking, IsJobOn, behind as job_behind, course_of, player_back, questions_left, rest_of}
 use Rattle.lp_calling.specs.Questions.{IsAskedWith, asked_of, question_course}
 use Rattle.lp_targets.specs.Callees.{IsWorldOf}
@@ -37,7 +37,6 @@ use Rattle.lp_asking.specs.declared.asker.Asker.{Asker}
 use Rattle.lp_asking.specs.declared.ending.Ending.{Ending}
 use Rattle.lp_asking.specs.declared.ending.Ending.TheVariants as endings
 use Rattle.lp_asking.specs.declared.ending.Place.{Place}
-use Rattle.lp_asking.specs.declared.ending.Stop.{Stop}
 use Rattle.lp_asking.specs.Asking.{loading_of}
 use Rattle.lp_asking.specs.Endings.{IsEndingThere, plain_end}
 use Rattle.lp_asking.proofs.Courses.{over_ends}
@@ -51,7 +50,6 @@ use Rattle.lp_vm.specs.declared.working.Stepped.TheVariants as steps
 use Rattle.lp_vm.specs.Answering.{CanServe, IsAsked, IsSameAsker, Serves}
 use Rattle.lp_vm.specs.Cycle.{Answers, Works}
 use Rattle.lp_vm.specs.Efuns.{ending_of}
-use Rattle.lp_vm.specs.Going.{IsOutcome}
 use Rattle.lp_vm.specs.Growing.{Grows}
 use Rattle.lp_vm.specs.Jobs.{AsksFor, Feeds, IsStepThere, StepsTo, WorkAsks, WorkLoads, asker_back}
 use Rattle.lp_vm.specs.Loaded.{loaded_ending}
