@@ -68,13 +68,22 @@ pub fn put_player(asker: &mut Asker, player: Option<ObjId>) -> Option<ObjId>
     was
 }
 
-/// `command` ends as its line was carried out: with the value once its price is paid, or with the stop.
-pub fn end_command_efun(live: &Live, ending: Ending, budget: &mut u64) -> Ending
+/// `command` ends as its line was carried out, with this `this_player()` put back: with the value once its price is paid, or with the
+/// stop.
+pub fn end_command_efun(
+    live: &Live,
+    asker: &mut Asker,
+    player: Option<ObjId>,
+    ending: Ending,
+    budget: &mut u64,
+) -> Ending
     requires there { IsEndingThere live.now.cells ending }
+    ensures back { asker.new ≡ with_player player asker.old }
     ensures ends { EndsAs ending live.now budget.old result budget.new }
     ensures there { IsEndingThere live.now.cells result }
     ensures spends { budget.new ≤ budget.old }
 {
+    asker.turn.player = player;
     match ending {
         Ending::Value(v) => ending_of(end_efun(live, v, budget)),
         Ending::Stopped(s) => Ending::Stopped(s),

@@ -526,8 +526,7 @@ fn call_command<W: Truthful>(
                 line.as_slice(),
                 budget,
             )?;
-            put_player(asker, player);
-            Ok(end_command_efun(live, ending, budget))
+            Ok(end_command_efun(live, asker, player, ending, budget))
         }
     }
 }

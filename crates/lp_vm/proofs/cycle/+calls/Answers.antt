@@ -754,6 +754,6 @@ call_command-returns-in_ok-ending-in-Runs-clause-answers g t c =
     let obeys : Obeys (Some c.args.at.this) c.in-Runs.holder c.in-Runs.line (g.W.SwapFile.content c.args.swap.now) c.args.live.now c.begin_command_efun.new.stack.items (with_player (Some c.in-Runs.holder) c.args.asker.now) c.begin_command_efun.new.budget (g.W.SwapFile.content c.obey.new.swap) c.obey.new.live c.obey.new.stack.items c.obey.new.asker c.obey.new.budget c.in_ok-ending-in-Runs.ending =
     subst (λ a. Obeys (Some c.args.at.this) c.in-Runs.holder c.in-Runs.line (g.W.SwapFile.content c.args.swap.now) c.args.live.now c.begin_command_efun.new.stack.items a c.begin_command_efun.new.budget (g.W.SwapFile.content c.obey.new.swap) c.obey.new.live c.obey.new.stack.items c.obey.new.asker c.obey.new.budget c.in_ok-ending-in-Runs.ending) c.put_player.ensures.put
     (subst (λ n. Obeys (Some c.args.at.this) c.in-Runs.holder n (g.W.SwapFile.content c.args.swap.now) c.args.live.now c.begin_command_efun.new.stack.items c.put_player.new.asker c.begin_command_efun.new.budget (g.W.SwapFile.content c.obey.new.swap) c.obey.new.live c.obey.new.stack.items c.obey.new.asker c.obey.new.budget c.in_ok-ending-in-Runs.ending) c.as_slice.ensures c.in_ok-ending-in-Runs.ensures.obeys) in
-    subst (λ a. Answers (requests.Efun c.args.at efuns.Command) c.args.args (g.W.SwapFile.content c.args.swap.now) c.args.live.now c.args.stack.now.items c.args.asker.now c.args.budget.now (g.W.SwapFile.content c.obey.new.swap) c.obey.new.live c.obey.new.stack.items a c.end_command_efun.new.budget c.end_command_efun.result) (sym (c.put_player-2.ensures.put ∙ ap (λ p. with_player p c.obey.new.asker) c.put_player.ensures.was))
+    subst (λ a. Answers (requests.Efun c.args.at efuns.Command) c.args.args (g.W.SwapFile.content c.args.swap.now) c.args.live.now c.args.stack.now.items c.args.asker.now c.args.budget.now (g.W.SwapFile.content c.obey.new.swap) c.obey.new.live c.obey.new.stack.items a c.end_command_efun.new.budget c.end_command_efun.result) (sym (c.end_command_efun.ensures.back ∙ ap (λ p. with_player p c.obey.new.asker) c.put_player.ensures.was))
     (command_answers c.args.at c.args.args c.args.live.now c.args.stack.now.items c.begin_command_efun.new.stack.items c.args.asker.now c.args.budget.now c.begin_command_efun.new.budget c.in-Runs.holder c.in-Runs.line begins (g.W.SwapFile.content c.args.swap.now) (g.W.SwapFile.content c.obey.new.swap) c.obey.new.live c.obey.new.stack.items c.obey.new.asker c.obey.new.budget c.end_command_efun.new.budget c.in_ok-ending-in-Runs.ending c.end_command_efun.result
     obeys c.end_command_efun.ensures.ends c.in_ok-answer.ensures.spends c.end_command_efun.ensures.spends c.end_command_efun.ensures.there)
