@@ -70,10 +70,10 @@ what_ends front a o c cs false q os h = subst (λ l. Answers means (IsTold front
 what_ends front a o c cs true (Some k) os h = subst (λ l. Answers means (IsTold front) (what_course a o c cs true (Some k)) (what_end a l)) (sym h) course.ends
 what_ends front a o c cs true None os h = absurd h
 
-what_has : (front : FrontEnd) (o : ObjId) (c : ℕ) (cs : List ℕ) (player : Option ObjId) (xs : List Value) (s : State) (os : List Out) → matching s.world.sentences o (verb_of (c ∷ cs)) ≡ [] → SaysBy (is_live s.world o) (connection_of s.world o) os
-    → Has front (asked_in (Command o (c ∷ cs)) player xs s) (outcome_of (what_end (asked_in (Command o (c ∷ cs)) player xs s) os))
-what_has front o c cs player xs s os m h =
-    let a = asked_in (Command o (c ∷ cs)) player xs s in
+what_has : (front : FrontEnd) (o : ObjId) (c : ℕ) (cs : List ℕ) (player interactive : Option ObjId) (xs : List Value) (s : State) (os : List Out) → matching s.world.sentences o (verb_of (c ∷ cs)) ≡ [] → SaysBy (is_live s.world o) (connection_of s.world o) os
+    → Has front (asked_in (Command o (c ∷ cs)) player interactive xs s) (outcome_of (what_end (asked_in (Command o (c ∷ cs)) player interactive xs s) os))
+what_has front o c cs player interactive xs s os m h =
+    let a = asked_in (Command o (c ∷ cs)) player interactive xs s in
     course.meant refl
     (subst (λ l. Answers means (IsTold front) (command_course a o c cs l) (what_end a os)) (sym m) (what_ends front a o c cs (is_live s.world o) (connection_of s.world o) os h)) refl
 
@@ -93,22 +93,22 @@ rests_said g programs before live0 live1 s t os h e w o =
     })
 
 -- THE COMMAND is carried out.
-what_carried : (o : ObjId) (c : ℕ) (cs : List ℕ) (player : Option ObjId) (xs : List Value) (g : Option Bytes) (live0 live1 : Live) → HasNoAction live0 o (c ∷ cs) → HasSaid o live0 live1
-    → CarriesOut (Command o (c ∷ cs)) player xs g live0 g live1 (call_ends.Ended (endings.Value zero_value))
-what_carried o c cs player xs g live0 live1 none said front real programs before s h =
-    let a = asked_in (Command o (c ∷ cs)) player xs s in
+what_carried : (o : ObjId) (c : ℕ) (cs : List ℕ) (player interactive : Option ObjId) (xs : List Value) (g : Option Bytes) (live0 live1 : Live) → HasNoAction live0 o (c ∷ cs) → HasSaid o live0 live1
+    → CarriesOut (Command o (c ∷ cs)) player interactive xs g live0 g live1 (call_ends.Ended (endings.Value zero_value))
+what_carried o c cs player interactive xs g live0 live1 none said front real programs before s h =
+    let a = asked_in (Command o (c ∷ cs)) player interactive xs s in
     record {
       outcome = outcome_of (what_end a said.said);
-      has = what_has front o c cs player xs s said.said (none g programs s.world h.world.stands) (said.says g programs s.world h.world.stands);
+      has = what_has front o c cs player interactive xs s said.said (none g programs s.world h.world.stands) (said.says g programs s.world h.world.stands);
       programs = programs;
       rests = rests_said g programs before live0 live1 s _ said.said h said.after refl refl;
       ended = refl;
     }
 
-pub line_carried : (o : ObjId) (line : List ℕ) (player : Option ObjId) (xs : List Value) (g : Option Bytes) (live0 live1 : Live) → eqb (length line) 0 ≡ false → HasNoAction live0 o line → HasSaid o live0 live1
-    → CarriesOut (Command o line) player xs g live0 g live1 (call_ends.Ended (endings.Value zero_value))
-line_carried o [] player xs g live0 live1 e none said = let no : true ≡ false = e in absurd cc
-line_carried o (c ∷ cs) player xs g live0 live1 e none said = what_carried o c cs player xs g live0 live1 none said
+pub line_carried : (o : ObjId) (line : List ℕ) (player interactive : Option ObjId) (xs : List Value) (g : Option Bytes) (live0 live1 : Live) → eqb (length line) 0 ≡ false → HasNoAction live0 o line → HasSaid o live0 live1
+    → CarriesOut (Command o line) player interactive xs g live0 g live1 (call_ends.Ended (endings.Value zero_value))
+line_carried o [] player interactive xs g live0 live1 e none said = let no : true ≡ false = e in absurd cc
+line_carried o (c ∷ cs) player interactive xs g live0 live1 e none said = what_carried o c cs player interactive xs g live0 live1 none said
 
 -- What is told on the live state.
 

@@ -1,7 +1,9 @@
 pub mod Telling
 pub mod Calls
 pub mod Turns
+pub mod Ticks
 pub mod Starts
 pub mod Rested
+pub mod Tidied
 pub mod Known
 pub mod Commands

@@ -19,6 +19,7 @@ use Rattle.lp_targets.specs.Brought.{Brings, IsFaultOf}
 use Rattle.lp_vm.specs.declared.fault.VmFault.{VmFault}
 use Rattle.lp_vm.specs.Causes.{IsReadless, Tells, read_fault, read_of}
 use Rattle.lp_vm.specs.Faults.{fault_of}
+use Rattle.lp_driver.specs.Tidying.{ReadsNothing, TurnTells}
 
 -- Nothing was read.
 pub tells_nothing : (told : Option Bytes) (last : Last) (reads writes : ℕ) (true0 honest0 : Type 0) (live : Live) → Tells told last reads reads writes writes true0 true0 honest0 honest0 live (Ok tt)
@@ -82,3 +83,17 @@ tells_fault {A = A} {told1 = told1} {last = last} {reads0 = reads0} {reads1 = re
 pub read_exit : {A : Type 0} (P : Result (Unit {0}) EnterFault → Type 0) (r : Result A VmFault) (f : VmFault) → IsErrAnd r (λ g. g ≡ f) → P (Err (read_fault f)) → P (read_of r)
 read_exit P (Ok x) f e h = absurd e
 read_exit P (Err g) f e h = subst (λ z. P (Err (read_fault z))) (sym e) h
+
+-- a turn that was carried out, or was not
+pub turn_tells : {told : Option Bytes} {last : Last} {reads0 reads1 writes0 writes1 : ℕ} {true0 true1 honest0 honest1 : Type 0} {live : Live} {r : Result (Unit {0}) EnterFault} → Tells told last reads0 reads1 writes0 writes1 true0 true1 honest0 honest1 live r
+    → TurnTells told last reads0 reads1 true0 true1 honest0 honest1 live r
+turn_tells h = record { cause = h.cause; faults = h.faults; truthful = h.truthful; honest = h.honest }
+
+-- and what goes out behind it
+pub behind_ok : {told1 told2 : Option Bytes} {last1 last2 : Last} {reads0 reads1 reads2 writes0 writes1 : ℕ} {true0 true1 true2 honest0 honest1 honest2 : Type 0} {live1 live2 : Live}
+    → Tells told1 last1 reads0 reads1 writes0 writes1 true0 true1 honest0 honest1 live1 (Ok tt) → ReadsNothing reads1 reads2 true1 true2 honest1 honest2 → TurnTells told2 last2 reads0 reads2 true0 true2 honest0 honest2 live2 (Ok tt)
+behind_ok h k = record { cause = tt; faults = k.faults ∙ h.faults; truthful = λ t. h.truthful (k.truthful t); honest = λ z. ((h.honest (k.honest z)).0, λ t. tt) }
+
+pub behind_memory : {told1 told2 : Option Bytes} {last1 last2 : Last} {reads0 reads1 reads2 writes0 writes1 : ℕ} {true0 true1 true2 honest0 honest1 honest2 : Type 0} {live1 live2 : Live}
+    → Tells told1 last1 reads0 reads1 writes0 writes1 true0 true1 honest0 honest1 live1 (Ok tt) → ReadsNothing reads1 reads2 true1 true2 honest1 honest2 → TurnTells told2 last2 reads0 reads2 true0 true2 honest0 honest2 live2 (Err enter_faults.NoMemory)
+behind_memory h k = record { cause = tt; faults = k.faults ∙ h.faults; truthful = λ t. h.truthful (k.truthful t); honest = λ z. ((h.honest (k.honest z)).0, λ t. tt) }

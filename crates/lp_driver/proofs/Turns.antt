@@ -1,5 +1,5 @@
 -- Turns that go on to their ends.
-use Rattle.std.proofs.Common.{◌∷◌, [], Option, refl, sym, subst}
+use Rattle.std.proofs.Common.{◌∷◌, ◌<◌, ◌≤◌, [], ℕ, suc, arith, List, Option, refl, sym, subst}
 use Rattle.lp_swapfile.specs.Device.{Bytes}
 use Rattle.lp_language.specs.Course.{Ask, Asks, Course, End, Gives, Outcome, State, after}
 use Rattle.lp_meaning.specs.Closing.{Ends, Has}
@@ -7,9 +7,13 @@ use Rattle.lp_meaning.specs.EventTurns.{begun, done}
 use Rattle.lp_meaning.specs.FrontEnd.{FrontEnd}
 use Rattle.lp_meaning.specs.NothingLost.{OutcomesCanBe}
 use Rattle.lp_front_end.specs.FrontEnds.{ThereIsOne}
+use Rattle.lp_code.specs.declared.program.RawProgram.{RawProgram}
+use Rattle.lp_events.specs.declared.out.Out.{Out}
 use Rattle.lp_world.specs.declared.live.Live.{Live}
 use Rattle.lp_turn.specs.Calls.{question_of, state_behind}
-use Rattle.lp_turn.specs.Going.{BeginsAs, BeginsWith, Takes}
+use Rattle.lp_turn.specs.Going.{BeginsAs, BeginsWith, Goes, Takes}
+use Rattle.lp_turn.specs.Left.{AsksFewer, calls_behind, calls_left}
+use Rattle.lp_turn.specs.Resting.{Rests}
 use Rattle.lp_turn.specs.Turns.{going_course, waiting_course}
 use Rattle.lp_turn.specs.declared.job.Call.{Call}
 use Rattle.lp_turn.specs.declared.job.CallEnd.{CallEnd}
@@ -18,7 +22,7 @@ use Rattle.lp_turn.specs.declared.job.Step.{Step}
 use Rattle.lp_turn.specs.declared.job.Step.TheVariants as steps
 use Rattle.lp_turn.specs.declared.job.Waiting.{Waiting}
 use Rattle.lp_driver.specs.Carrying.{Carries, RestsForOne}
-use Rattle.lp_driver.specs.Turning.{IsStepAskedThere, TurnEnds, TurnGoes, asking_course}
+use Rattle.lp_driver.specs.Turning.{IsStepAskedThere, StepStands, TurnContinues, TurnEnds, TurnGoes, TurnSteps, asking_course}
 
 -- a course that asks ends as what is left behind an outcome of the question
 pub ended_asks : {A : Type 0} (front : FrontEnd) (a : Ask) (k : Outcome → Course A) (o : Outcome) (e : End A) → OutcomesCanBe → Has front a o → Ends front (k o) e → Ends front (Asks a k) e
@@ -41,14 +45,58 @@ asked_goes call waiting end going told0 told1 told2 live0 live1 live2 can carrie
 pub goes_rests : (turn : State → Course (Unit {0})) (going : Going) (told0 told1 : Option Bytes) (live0 live1 : Live) → ThereIsOne → TurnGoes turn told0 live0 told1 live1 going → RestsForOne told0 live0 → RestsForOne told1 live1
 goes_rests turn going told0 told1 live0 live1 one goes h = let r = goes one.0 one.1 h.programs h.before h.state h.rests in record { programs = r.programs; before = h.before; state = r.state; rests = r.rests }
 
--- A turn asks, goes on behind that, and ends.
-pub turn_asked : (turn : State → Course (Unit {0})) (call : Call) (waiting : Waiting) (going : Going) (told0 told1 told2 : Option Bytes) (live0 live1 live2 live3 : Live) → BeginsWith turn live0 live1 (steps.Asks call waiting)
-    → TurnGoes (asking_course call waiting) told0 live1 told1 live2 going → TurnEnds (going_course going) told1 live2 told2 live3 → TurnEnds turn told0 live0 told2 live3
-turn_asked turn call waiting going told0 told1 told2 live0 live1 live2 live3 begins goes ended front real programs before s h =
-    let a = begins told0 programs before s h in
-    let g = goes front real programs before a.state a.rests in
-    let z = ended front real g.programs before g.state g.rests in
-    record { programs = z.programs; state = z.state; rests = z.rests; ends = subst (λ c. Ends front c (Gives tt z.state)) (sym a.course) (g.back (Gives tt z.state) z.ends) }
+-- It goes on to its next step.
+pub turn_stepped : (turn : State → Course (Unit {0})) (going : Going) (r : Step) (told0 told1 : Option Bytes) (live0 live1 live2 : Live) → TurnGoes turn told0 live0 told1 live1 going → Goes r going live1 live2 → TurnSteps turn told0 live0 told1 live2 r
+turn_stepped turn going (steps.Asks call waiting) told0 told1 live0 live1 live2 goes steps front real programs before s h =
+    let g = goes front real programs before s h in
+    let l = steps told1 g.programs before g.state g.rests in
+    record { programs = g.programs; state = l.state; rests = l.rests; back = λ e x. g.back e (subst (λ c. Ends front c e) (sym l.course) x) }
+turn_stepped turn going steps.Ends told0 told1 live0 live1 live2 goes steps front real programs before s h =
+    let g = goes front real programs before s h in
+    let l = steps told1 g.programs before g.state g.rests in
+    record { programs = g.programs; state = l.state; rests = l.rests; ends = g.back (Gives tt l.state) (subst (λ c. Ends front c (Gives tt l.state)) (sym l.course) ([], refl, tt)) }
+
+-- What ends what is left, ends the whole.
+pub step_back : (front : FrontEnd) (told : Option Bytes) (before : List Out) (live : Live) (r : Step) (c d : Course (Unit {0})) → StepStands front told before live r c → ((e : End (Unit {0})) → Ends front c e → Ends front d e) → StepStands front told before live r d
+step_back front told before live (steps.Asks call waiting) c d h f = record { programs = h.programs; state = h.state; rests = h.rests; back = λ e x. f e (h.back e x) }
+step_back front told before live steps.Ends c d h f = record { programs = h.programs; state = h.state; rests = h.rests; ends = f (Gives tt h.state) h.ends }
+
+-- one step after another
+pub continues_on : (first : Step) (call : Call) (waiting : Waiting) (more : Step) (told0 told1 told2 : Option Bytes) (live0 live1 live2 : Live) → TurnContinues first told0 live0 told1 live1 (steps.Asks call waiting)
+    → TurnSteps (asking_course call waiting) told1 live1 told2 live2 more → TurnContinues first told0 live0 told2 live2 more
+continues_on first call waiting more told0 told1 told2 live0 live1 live2 so stepped front real before c h =
+    let x = so front real before c h in step_back front told2 before live2 more (asking_course call waiting x.state) c (stepped front real x.programs before x.state x.rests) x.back
+
+pub continues_same : (r : Step) (told : Option Bytes) (live : Live) → TurnContinues r told live told live r
+continues_same r told live front real before c h = h
+
+-- the first step of a turn that has begun
+begun_stands : (front : FrontEnd) (turn : State → Course (Unit {0})) (told : Option Bytes) (programs : List RawProgram) (before : List Out) (live0 live1 : Live) (r : Step) (s : State) → BeginsWith turn live0 live1 r → Rests told programs before live0 s → StepStands front told before live1 r (turn s)
+begun_stands front turn told programs before live0 live1 (steps.Asks call waiting) s begins h =
+    let l = begins told programs before s h in record { programs = programs; state = l.state; rests = l.rests; back = λ e x. subst (λ c. Ends front c e) (sym l.course) x }
+begun_stands front turn told programs before live0 live1 steps.Ends s begins h =
+    let l = begins told programs before s h in record { programs = programs; state = l.state; rests = l.rests; ends = subst (λ c. Ends front c (Gives tt l.state)) (sym l.course) ([], refl, tt) }
+
+-- A turn begins, goes on, and ends.
+pub step_ends : (turn : State → Course (Unit {0})) (r : Step) (told0 told1 : Option Bytes) (live0 live1 live2 : Live) → BeginsWith turn live0 live1 r → TurnContinues r told0 live1 told1 live2 steps.Ends → TurnEnds turn told0 live0 told1 live2
+step_ends turn r told0 told1 live0 live1 live2 begins so front real programs before s h = so front real before (turn s) (begun_stands front turn told0 programs before live0 live1 r s begins h)
+
+-- then the state stands for one of the meaning's still
+pub ended_rests : (turn : State → Course (Unit {0})) (told0 told1 : Option Bytes) (live0 live1 : Live) → ThereIsOne → TurnEnds turn told0 live0 told1 live1 → RestsForOne told0 live0 → RestsForOne told1 live1
+ended_rests turn told0 told1 live0 live1 one ended h = let r = ended one.0 one.1 h.programs h.before h.state h.rests in record { programs = r.programs; before = h.before; state = r.state; rests = r.rests }
+
+-- fewer calls are left
+pub fewer_on : (r : Step) (going : Going) (waiting : Waiting) → AsksFewer r (calls_left going) → calls_left going ≤ calls_behind waiting → AsksFewer r (calls_behind waiting)
+fewer_on (steps.Asks call w) going waiting a l = omega (arith, a, l)
+fewer_on steps.Ends going waiting a l = tt
+
+abbrev pub calls_of_step : Step → ℕ
+calls_of_step (steps.Asks call waiting) = suc (calls_behind waiting)
+calls_of_step steps.Ends = 0
+
+pub fewer_calls : (r : Step) (waiting : Waiting) → AsksFewer r (calls_behind waiting) → calls_of_step r < suc (calls_behind waiting)
+fewer_calls (steps.Asks call w) waiting a = omega (arith, a)
+fewer_calls steps.Ends waiting a = omega arith
 
 -- it is over
 pub turn_over : (turn : State → Course (Unit {0})) (told : Option Bytes) (live0 live1 : Live) → BeginsWith turn live0 live1 steps.Ends → TurnEnds turn told live0 told live1
@@ -78,8 +126,3 @@ step_rests turn steps.Ends told live0 live1 begins h = let a = begins told h.pro
 pub step_there : (turn : State → Course (Unit {0})) (step : Step) (told : Option Bytes) (live0 live1 : Live) → BeginsWith turn live0 live1 step → RestsForOne told live0 → IsStepAskedThere live1.objects step
 step_there turn (steps.Asks call waiting) told live0 live1 begins h = (begins told h.programs h.before h.state h.rests).there
 step_there turn steps.Ends told live0 live1 begins h = tt
-
--- the same for each turn that began so
-pub each_asked : (call : Call) (waiting : Waiting) (going : Going) (told0 told1 told2 : Option Bytes) (live1 live2 live3 : Live) → TurnGoes (asking_course call waiting) told0 live1 told1 live2 going → TurnEnds (going_course going) told1 live2 told2 live3
-    → (turn : State → Course (Unit {0})) (before : Live) → BeginsWith turn before live1 (steps.Asks call waiting) → TurnEnds turn told0 before told2 live3
-each_asked call waiting going told0 told1 told2 live1 live2 live3 goes ended turn live0 begins = turn_asked turn call waiting going told0 told1 told2 live0 live1 live2 live3 begins goes ended

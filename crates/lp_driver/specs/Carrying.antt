@@ -25,31 +25,31 @@ pub record RestsForOne (told : Option Bytes) (live : Live) : Type 0 where
   pub state : State
   pub rests : Rests told programs before live state
 
--- Who asks is the driver, for a `this_player()`, which is `this_interactive()` too: there are no commands, loads and callers.
-pub record IsDriver (o : Option ObjId) (asker : Asker) : Type 0 where
+-- Who asks is the driver, for a `this_player()` and a `this_interactive()`: there are no commands, loads and callers.
+pub record IsDriver (o i : Option ObjId) (asker : Asker) : Type 0 where
   pub player : asker.turn.player ≡ o
   pub commands : asker.turn.commands.items ≡ []
-  pub interactive : asker.interactive ≡ o
+  pub interactive : asker.interactive ≡ i
   pub loads : asker.loads.items ≡ []
   pub callers : asker.callers.items ≡ []
   pub depth : asker.depth ≡ 0
 
 -- what the driver asks in a state
-abbrev pub asked_in : Asked → Option ObjId → List Value → State → Ask
-asked_in what player xs s = question what xs (driver player) (begun player s)
+abbrev pub asked_in : Asked → Option ObjId → Option ObjId → List Value → State → Ask
+asked_in what player interactive xs s = question what xs (driver interactive) (begun player s)
 
 -- A call ended as one of its question's outcomes says, and the live state stands for the state behind it.
-pub record Carried (front : FrontEnd) (what : Asked) (player : Option ObjId) (xs : List Value) (told : Option Bytes) (before : List Out) (live : Live) (end : CallEnd) (s : State) : Type 0 where
+pub record Carried (front : FrontEnd) (what : Asked) (player interactive : Option ObjId) (xs : List Value) (told : Option Bytes) (before : List Out) (live : Live) (end : CallEnd) (s : State) : Type 0 where
   pub outcome : Outcome
-  pub has : Has front (asked_in what player xs s) outcome
+  pub has : Has front (asked_in what player interactive xs s) outcome
   pub programs : List RawProgram
   pub rests : Rests told programs before live (after (begun player s) outcome)
   pub ended : IsEndOf programs outcome.world end outcome.answer
 
 -- IT IS CARRIED OUT as it means: from each state for which the live state stands.
-abbrev pub CarriesOut : Asked → Option ObjId → List Value → Option Bytes → Live → Option Bytes → Live → CallEnd → Type 0
-CarriesOut what player xs told0 live0 told1 live1 end =
-    (front : FrontEnd) (real : IsFrontEnd front) (programs : List RawProgram) (before : List Out) (s : State) → Rests told0 programs before live0 s → Carried front what player xs told1 before live1 end s
+abbrev pub CarriesOut : Asked → Option ObjId → Option ObjId → List Value → Option Bytes → Live → Option Bytes → Live → CallEnd → Type 0
+CarriesOut what player interactive xs told0 live0 told1 live1 end =
+    (front : FrontEnd) (real : IsFrontEnd front) (programs : List RawProgram) (before : List Out) (s : State) → Rests told0 programs before live0 s → Carried front what player interactive xs told1 before live1 end s
 
 abbrev pub Carries : Call → Option Bytes → Live → Option Bytes → Live → CallEnd → Type 0
-Carries call told0 live0 told1 live1 end = CarriesOut (asked_of call.asked) call.player call.arguments.items told0 live0 told1 live1 end
+Carries call told0 live0 told1 live1 end = CarriesOut (asked_of call.asked) call.player call.interactive call.arguments.items told0 live0 told1 live1 end

@@ -60,12 +60,6 @@ IsNoMasterOf started.Begins e = ⊥
 IsNoMasterOf (started.NoMaster fs) (faults.NoMaster gs) = gs ≡ fs
 IsNoMasterOf (started.NoMaster fs) (faults.Stopped e) = ⊥
 
--- the start began so: its outputs were taken
-pub record HasBegun (end : Started) (before live : Live) (outs : List Out) : Type 0 where
-  pub begins : end ≡ started.Begins
-  pub outs_are : outs ≡ before.outputs
-  pub only : live ≡ record before { outputs = [] }
-
 -- what a start answered, as far as the reads go
 abbrev pub start_answer : {A : Type 0} → Result A StartFault → Result (Unit {0}) EnterFault
 start_answer (Ok x) = Ok tt

@@ -4,3 +4,4 @@ pub mod Turning
 pub mod Starting
 pub mod Knowing
 pub mod Driving
+pub mod Tidying

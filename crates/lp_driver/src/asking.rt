@@ -24,16 +24,16 @@ pub(crate) fn ascii_of(alloc: Global, letters: &[char]) -> Result<Option<String>
     Ok(Some(text))
 }
 
-/// Who asks where the driver does, for a `this_player()`. Takes no memory.
-pub(crate) fn asker_for(alloc: Global, player: Option<ObjId>) -> Asker
-    ensures { IsDriver player result }
+/// Who asks where the driver does, for a `this_player()` and a `this_interactive()`. Takes no memory.
+pub(crate) fn asker_for(alloc: Global, player: Option<ObjId>, interactive: Option<ObjId>) -> Asker
+    ensures { IsDriver player interactive result }
 {
     Asker {
         turn: Turn {
             player,
             commands: Vec::new(alloc),
         },
-        interactive: player,
+        interactive,
         loads: Vec::new(alloc),
         callers: Vec::new(alloc),
         depth: 0,

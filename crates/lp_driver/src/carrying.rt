@@ -39,6 +39,7 @@ fn apply_named<W: Truthful>(
     o: ObjId,
     name: &str,
     player: Option<ObjId>,
+    interactive: Option<ObjId>,
     arguments: Vec<Value>,
 ) -> Result<CallEnd, VmFault>
     requires closed { IsClosed live.old }
@@ -46,7 +47,7 @@ fn apply_named<W: Truthful>(
     requires rests { RestsForOne (W.content swap.old) live.old }
     requires object { IsSome (row_at live.old.objects o.0) }
     requires values { All (IsThere live.old.cells) arguments.items }
-    ensures carries { IfOk result (λ e. CarriesOut (course.Apply o name.now) player arguments.items (W.content swap.old) live.old (W.content swap.new) live.new e) }
+    ensures carries { IfOk result (λ e. CarriesOut (course.Apply o name.now) player interactive arguments.items (W.content swap.old) live.old (W.content swap.new) live.new e) }
     ensures there { IfOk result (λ e. IsCallEndThere live.new.cells e) }
     ensures closed { OnOk result (IsClosed live.new) }
     ensures empty { OnOk result (stack.new.items ≡ []) }
@@ -57,7 +58,7 @@ fn apply_named<W: Truthful>(
     law_there_is_one();
     let alloc = live.alloc;
     let args = lay(stack, arguments)?;
-    let mut asker = asker_for(alloc, player);
+    let mut asker = asker_for(alloc, player, interactive);
     let mut budget = FULL_BUDGET;
     let ending = call(
         alloc,
@@ -85,6 +86,7 @@ fn apply<W: Truthful>(
     o: ObjId,
     name: &Text,
     player: Option<ObjId>,
+    interactive: Option<ObjId>,
     arguments: Vec<Value>,
 ) -> Result<CallEnd, VmFault>
     requires closed { IsClosed live.old }
@@ -92,7 +94,7 @@ fn apply<W: Truthful>(
     requires rests { RestsForOne (W.content swap.old) live.old }
     requires object { IsSome (row_at live.old.objects o.0) }
     requires values { All (IsThere live.old.cells) arguments.items }
-    ensures carries { IfOk result (λ e. CarriesOut (course.Apply o name.now) player arguments.items (W.content swap.old) live.old (W.content swap.new) live.new e) }
+    ensures carries { IfOk result (λ e. CarriesOut (course.Apply o name.now) player interactive arguments.items (W.content swap.old) live.old (W.content swap.new) live.new e) }
     ensures there { IfOk result (λ e. IsCallEndThere live.new.cells e) }
     ensures closed { OnOk result (IsClosed live.new) }
     ensures empty { OnOk result (stack.new.items ≡ []) }
@@ -101,7 +103,16 @@ fn apply<W: Truthful>(
         (W.is_truthful swap.old) (W.is_truthful swap.new) (W.is_honest swap.old) (W.is_honest swap.new) live.new (read_of result) }
 {
     match ascii_of(live.alloc, name.as_slice())? {
-        Some(text) => apply_named(live, swap, stack, o, text.as_str(), player, arguments),
+        Some(text) => apply_named(
+            live,
+            swap,
+            stack,
+            o,
+            text.as_str(),
+            player,
+            interactive,
+            arguments,
+        ),
         None => Err(VmFault::NotYet),
     }
 }
@@ -125,11 +136,12 @@ fn load<W: Truthful>(
     stack: &mut Vec<Value>,
     name: &Text,
     player: Option<ObjId>,
+    interactive: Option<ObjId>,
 ) -> Result<CallEnd, VmFault>
     requires closed { IsClosed live.old }
     requires empty { stack.old.items ≡ [] }
     requires rests { RestsForOne (W.content swap.old) live.old }
-    ensures carries { IfOk result (λ e. (xs : List V) → CarriesOut (course.Load name.now course.Wanted) player xs (W.content swap.old) live.old (W.content swap.new) live.new e) }
+    ensures carries { IfOk result (λ e. (xs : List V) → CarriesOut (course.Load name.now course.Wanted) player interactive xs (W.content swap.old) live.old (W.content swap.new) live.new e) }
     ensures there { IfOk result (λ e. IsCallEndThere live.new.cells e) }
     ensures closed { OnOk result (IsClosed live.new) }
     ensures empty { OnOk result (stack.new.items ≡ []) }
@@ -139,7 +151,7 @@ fn load<W: Truthful>(
 {
     law_there_is_one();
     let alloc = live.alloc;
-    let mut asker = asker_for(alloc, player);
+    let mut asker = asker_for(alloc, player, interactive);
     let mut budget = FULL_BUDGET;
     let answer = load_object(
         alloc,
@@ -180,11 +192,12 @@ pub(crate) fn carry<W: Truthful>(
     let Call {
         asked,
         player,
+        interactive,
         arguments,
     } = call;
     match asked {
-        Asked::Apply(o, name) => apply(live, swap, stack, o, &name, player, arguments),
+        Asked::Apply(o, name) => apply(live, swap, stack, o, &name, player, interactive, arguments),
         Asked::Command(o, line) => command(live, swap, o, &line),
-        Asked::Load(name) => load(live, swap, stack, &name, player),
+        Asked::Load(name) => load(live, swap, stack, &name, player, interactive),
     }
 }

@@ -109,7 +109,7 @@ pub(crate) fn command<W: Truthful>(
 ) -> Result<CallEnd, VmFault>
     requires closed { IsClosed live.old }
     requires rests { RestsForOne (W.content swap.old) live.old }
-    ensures carries { IfOk result (λ e. (player : Option O) (xs : List V) → CarriesOut (course.Command o line.now) player xs (W.content swap.old) live.old (W.content swap.new) live.new e) }
+    ensures carries { IfOk result (λ e. (player interactive : Option O) (xs : List V) → CarriesOut (course.Command o line.now) player interactive xs (W.content swap.old) live.old (W.content swap.new) live.new e) }
     ensures there { IfOk result (λ e. IsCallEndThere live.new.cells e) }
     ensures closed { OnOk result (IsClosed live.new) }
     ensures rests { OnOk result (RestsForOne (W.content swap.new) live.new) }

@@ -1,13 +1,17 @@
 //! The driver: its start, and its turns.
 ghost use Rattle.std.specs.Prelude.{◌≡◌, ◌≤◌, ◌^◌, [], IfErr, IfOk, List, OnOk};
+ghost use Rattle.lp_objects.specs.Stands.{died_in};
 ghost use Rattle.lp_first.specs.First.{HasFiles};
 ghost use Rattle.lp_language.specs.World.{File, World};
 ghost use Rattle.lp_world.specs.Closed.{IsClosed};
 ghost use Rattle.lp_vm.specs.Causes.{Tells, read_of};
-ghost use Rattle.lp_driver.specs.Driving.{HasBegun, HasNoMasterIf, IsAtRest, IsNoMasterOf, StartTells, StartsAs, TurnsAs, start_answer};
+ghost use Rattle.lp_driver.specs.Driving.{HasNoMasterIf, IsAtRest, IsNoMasterOf, StartTells, StartsAs, TurnsAs, start_answer};
+ghost use Rattle.lp_driver.specs.Tidying.{HasBegun, HasTidied, TurnTells};
+ghost use Rattle.lp_driver.specs.Turning.{MayCome};
 
 use crate::events::carry_out;
 use crate::starting::{Started, run_start};
+use crate::tidying::{end_turn, tidy};
 use lp_asking::truth::Truthful;
 use lp_events::event::Event;
 use lp_events::out::Outs;
@@ -18,7 +22,6 @@ use lp_tree::fault::Fault;
 use lp_vm::fault::VmFault;
 use lp_world::live::Live;
 use std::alloc::Global;
-use std::mem;
 
 /// Why the driver did not start.
 #[derive(Drop)]
@@ -32,26 +35,16 @@ pub enum StartFault {
     Stopped(VmFault),
 }
 
-/// Takes the outputs of a turn. Takes no memory.
-fn take_outputs(live: &mut Live) -> Outs
-    requires closed { IsClosed live.old }
-    ensures outs { result ≡ live.old.outputs }
-    ensures only { live.new ≡ record live.old { outputs = [] } }
-    ensures closed { IsClosed live.new }
-{
-    mem::replace(&mut live.outputs, Outs::new(live.alloc))
-}
-
-/// One turn carries out one event, and gives its outputs. A swap changes nothing.
+/// The turn of an event is carried out, and is over.
 ///
 /// # Errors
-/// `NoMemory`, also where the swap file gave other bytes of the same digest; `Swap` where it failed or gave bytes of another
-/// digest; `NotYet` where something is asked that is not carried out yet, at each tick among others. Nothing is said of the state
-/// then.
-pub fn turn<W: Truthful>(live: &mut Live, swap: &mut W, event: &Event) -> Result<Outs, VmFault>
+/// As `turn`.
+fn carry_turn<W: Truthful>(live: &mut Live, swap: &mut W, event: &Event) -> Result<Outs, VmFault>
+    requires may { MayCome event.now }
     requires closed { IsClosed live.old }
     requires rest { (w : World) × IsAtRest (W.content swap.old) live.old w }
     ensures turns { IfOk result (λ outs. TurnsAs event.now (W.content swap.old) live.old (W.content swap.new) live.new outs) }
+    ensures forgotten { OnOk result (died_in live.new.names ≡ []) }
     ensures closed { OnOk result (IsClosed live.new) }
     ensures rest { OnOk result ((w : World) × IsAtRest (W.content swap.new) live.new w) }
     ensures tells { Tells (W.content swap.new) (W.last swap.new) (W.read_faults swap.old) (W.read_faults swap.new) (W.write_faults swap.old) (W.write_faults swap.new)
@@ -60,7 +53,41 @@ pub fn turn<W: Truthful>(live: &mut Live, swap: &mut W, event: &Event) -> Result
     law_there_is_one();
     let mut stack = Vec::new(live.alloc);
     carry_out(live, swap, &mut stack, event)?;
-    Ok(take_outputs(live))
+    Ok(end_turn(live))
+}
+
+/// One turn carries out one event, and gives its outputs. The moment of a tick is at most 10^12 seconds. Behind it what ended is forgotten; and where the swap file tells what it
+/// holds, what is to go out goes out: behind a tick what is live and in memory and had no entry for `swap_time` seconds (0 means
+/// never), objects by serial and then versions by number; for a swap item the live object of its name, and then its version. Each goes out
+/// or stays for a cause, and the live state stands for the same world.
+///
+/// # Errors
+/// `NoMemory`, also where the swap file gave other bytes of the same digest; `Swap` where it failed or gave bytes of another
+/// digest; `NotYet` where something is asked that is not carried out yet. Nothing is said of the state then.
+pub fn turn<W: Truthful>(
+    live: &mut Live,
+    swap: &mut W,
+    swap_time: u64,
+    event: &Event,
+) -> Result<Outs, VmFault>
+    requires may { MayCome event.now }
+    requires closed { IsClosed live.old }
+    requires rest { (w : World) × IsAtRest (W.content swap.old) live.old w }
+    ensures turns { IfOk result (λ outs. TurnsAs event.now (W.content swap.old) live.old (W.content swap.new) live.new outs) }
+    ensures tidies { OnOk result (HasTidied swap_time event.now (W.content swap.old) (W.write_faults swap.old) live.old (W.content swap.new) (W.write_faults swap.new) live.new) }
+    ensures closed { OnOk result (IsClosed live.new) }
+    ensures rest { OnOk result ((w : World) × IsAtRest (W.content swap.new) live.new w) }
+    ensures tells { TurnTells (W.content swap.new) (W.last swap.new) (W.read_faults swap.old) (W.read_faults swap.new)
+        (W.is_truthful swap.old) (W.is_truthful swap.new) (W.is_honest swap.old) (W.is_honest swap.new) live.new (read_of result) }
+{
+    let outs = carry_turn(live, swap, event)?;
+    match tidy(live, swap, swap_time, event) {
+        Ok(()) => Ok(outs),
+        Err(_) => {
+            drop(outs);
+            Err(VmFault::NoMemory)
+        }
+    }
 }
 
 /// How a start ended: with the live state and its outputs, or with a fault.
@@ -72,7 +99,7 @@ fn finish(mut live: Live, end: Started) -> Result<(Live, Outs), StartFault>
 {
     match end {
         Started::Begins => {
-            let outs = take_outputs(&mut live);
+            let outs = end_turn(&mut live);
             Ok((live, outs))
         }
         Started::NoMaster(faults) => Err(StartFault::NoMaster { faults }),

@@ -5,8 +5,9 @@ ghost use Rattle.lp_meaning.specs.Ticks.{turn};
 ghost use Rattle.lp_world.specs.Closed.{IsClosed};
 ghost use Rattle.lp_vm.specs.Causes.{Tells, read_of};
 ghost use Rattle.lp_driver.specs.Carrying.{RestsForOne};
-ghost use Rattle.lp_driver.specs.Turning.{TurnEnds};
+ghost use Rattle.lp_driver.specs.Turning.{MayCome, TurnEnds};
 
+use crate::ticking::tick;
 use crate::turning::{run_step, run_turn};
 use lp_asking::truth::Truthful;
 use lp_events::event::Event;
@@ -101,14 +102,14 @@ fn reload<W: Truthful>(
 ///
 /// # Errors
 /// `NoMemory`, also where the swap file gave other bytes of the same digest; `Swap` where it failed or gave bytes of another
-/// digest; `NotYet` where something is asked that is not carried out yet, at each tick among others. Nothing is said of the state
-/// then.
+/// digest; `NotYet` where something is asked that is not carried out yet. Nothing is said of the state then.
 pub(crate) fn carry_out<W: Truthful>(
     live: &mut Live,
     swap: &mut W,
     stack: &mut Vec<Value>,
     event: &Event,
 ) -> Result<(), VmFault>
+    requires may { MayCome event.now }
     requires closed { IsClosed live.old }
     requires empty { stack.old.items ≡ [] }
     requires rests { RestsForOne (W.content swap.old) live.old }
@@ -122,7 +123,7 @@ pub(crate) fn carry_out<W: Truthful>(
         Event::Connect(number) => connect(live, swap, stack, *number),
         Event::Line(number, bytes) => line(live, swap, stack, *number, bytes.as_slice()),
         Event::Gone(number) => gone(live, swap, stack, *number),
-        Event::Tick(_) => Err(VmFault::NotYet),
+        Event::Tick(moment) => tick(live, swap, stack, *moment),
         Event::Reload(path, bytes) => reload(live, swap, path.as_str(), bytes.as_slice()),
         Event::Swap(_) => Ok(()),
     }

@@ -10,6 +10,7 @@ mod commanding;
 pub mod driver;
 mod events;
 mod knowing;
-pub mod putting;
 pub mod starting;
+mod ticking;
+mod tidying;
 mod turning;

@@ -86,36 +86,36 @@ none-of : (r : Reading) (opening : Opening) (fs : List Fault) (a : IsAtStart r o
 none-of r opening fs a m front real = of-items r opening a (λ seed moment. MakesNoMaster front (world_files a.files) seed moment fs) (m front (world_files a.files) real a.noted.files)
 
 -- there is no master
-pub replays-none : (b : List ℕ) (r : Reading) (told from : Option (List ℕ)) (opening : Opening) (fs : List Fault) (a : IsAtStart r opening) → Reads b r told → has_none opening.store opening.seed opening.moment fs → Replays b (ends.NoMaster fs) from from
-replays-none b r told from opening fs a h m = record {
+pub replays-none : (report : Bool) (b : List ℕ) (r : Reading) (told from : Option (List ℕ)) (opening : Opening) (fs : List Fault) (a : IsAtStart r opening) → Reads b r told → has_none opening.store opening.seed opening.moment fs → Replays report b (ends.NoMaster fs) from from
+replays-none report b r told from opening fs a h m = record {
   read = a.files;
   ends = (held b r told opening a h, a.not_started, none-of r opening fs a m);
   wrote = λ old e. ([], nothing-more from old e, refl);
 }
 
 -- the start was not carried out
-pub replays-unstarted : (b : List ℕ) (r : Reading) (told from : Option (List ℕ)) (opening : Opening) (e : VmFault) (at : ℕ) (a : IsAtStart r opening) → Reads b r told → at ≡ r.at → Replays b (stop_status at e) from from
-replays-unstarted b r told from opening faults.NoMemory at a h p = record {
+pub replays-unstarted : (report : Bool) (b : List ℕ) (r : Reading) (told from : Option (List ℕ)) (opening : Opening) (e : VmFault) (at : ℕ) (a : IsAtStart r opening) → Reads b r told → at ≡ r.at → Replays report b (stop_status at e) from from
+replays-unstarted report b r told from opening faults.NoMemory at a h p = record {
   read = a.files;
   ends = holds-front b a.files (items.Start ∷ []) (held b r told opening a h);
   wrote = λ old e. ([], nothing-more from old e, before a.not_started);
 }
-replays-unstarted b r told from opening (faults.Swap cause) at a h p =
+replays-unstarted report b r told from opening (faults.Swap cause) at a h p =
     let k = held b r told opening a h in
     record {
       read = a.files;
       ends = (holds-front b a.files (items.Start ∷ []) k, record { item = items.Start; begins = k; turns = refl });
       wrote = λ old e. ([], nothing-more from old e, before a.not_started);
     }
-replays-unstarted b r told from opening faults.NotYet at a h p = record {
+replays-unstarted report b r told from opening faults.NotYet at a h p = record {
   read = a.files;
   ends = inr (record { stops = record { item = items.Start; begins = held b r told opening a h; turns = refl }; place = p ∙ a.place });
   wrote = λ old e. ([], nothing-more from old e, before a.not_started);
 }
 
 -- reading ended before `start`
-pub replays-early : (b : List ℕ) (from : Option (List ℕ)) (s : Status) (xs : List Item) → has_started xs ≡ false → Ends b xs s → IsReadingEnd s → Replays b s from from
-replays-early b from s xs n e k = record { read = xs; ends = e; wrote = λ old f. ([], nothing-more from old f, wrote-reading b xs [] s k (before n)) }
+pub replays-early : (report : Bool) (b : List ℕ) (from : Option (List ℕ)) (s : Status) (xs : List Item) → has_started xs ≡ false → Ends b xs s → IsReadingEnd s → Replays report b s from from
+replays-early report b from s xs n e k = record { read = xs; ends = e; wrote = λ old f. ([], nothing-more from old f, wrote-reading report b xs [] s k (before n)) }
 
 abbrev is_done : Status → Bool
 is_done ends.Done = true

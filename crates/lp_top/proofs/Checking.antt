@@ -1,5 +1,5 @@
 -- Reading the files of a script that is checked, and its report.
-use Rattle.std.proofs.Common.{subst, ◌≡◌, ◌∙◌, ◌≤◌, ◌⊎◌, inl, inr, ℕ, List, [], ◌∷◌, ◌++◌, length, take, false, Option, Some, refl, sym, ap, arith}
+use Rattle.std.proofs.Common.{Bool, subst, ◌≡◌, ◌∙◌, ◌≤◌, ◌⊎◌, inl, inr, ℕ, List, [], ◌∷◌, ◌++◌, length, take, false, Option, Some, refl, sym, ap, arith}
 use Rattle.std.specs.Prelude.{Ok}
 use Rattle.std.proofs.lemmas.List.{append-nil, take_all}
 use Rattle.lp_io.specs.Told.{after_adding}
@@ -76,8 +76,8 @@ checks_no_memory simul b before sources h = wrote_none simul b before ends.NoMem
 pub checks_unread : (simul : Option (List ℕ)) (b : List ℕ) (told : Option (List ℕ)) → Checks simul b ends.NoMemory told told
 checks_unread simul b told = wrote_none simul b told ends.NoMemory [] (record { others = take longest_input b; spelled = refl; fit = tt }) (λ piece e. e)
 
-pub replays_unread : (b : List ℕ) (told : Option (List ℕ)) → Replays b ends.NoMemory told told
-replays_unread b told = record {
+pub replays_unread : (report : Bool) (b : List ℕ) (told : Option (List ℕ)) → Replays report b ends.NoMemory told told
+replays_unread report b told = record {
   read = [];
   ends = record { others = take longest_input b; spelled = refl; fit = tt };
   wrote = λ old f. ([], added_none told old f, none_begun refl);

@@ -10,7 +10,7 @@ use Rattle.lp_events.specs.declared.event.Event.TheVariants.{Connect, Line, Gone
 use Rattle.lp_events.specs.declared.item.Item.{Item}
 use Rattle.lp_events.specs.declared.item.Item.TheVariants as items
 use Rattle.lp_events.specs.declared.out.Out.{Out}
-use Rattle.lp_events.specs.Script.{beginning, after_items, after_item, after_event, AllFit, Fits, Context, Stage, Beginning, Filing, Running, Over, files_of, seed_of, events_of, spellings, IsScript, longest_input}
+use Rattle.lp_events.specs.Script.{beginning, after_items, after_item, after_event, AllFit, Fits, FitsEvent, Context, Stage, Beginning, Filing, Running, Over, files_of, seed_of, events_of, spellings, IsScript, longest_input}
 use Rattle.lp_events.specs.Transcript.{block, blocks}
 use Rattle.lp_language.specs.World.{File, World}
 use Rattle.lp_meaning.specs.FrontEnd.{FrontEnd}
@@ -18,6 +18,7 @@ use Rattle.lp_meaning.specs.Closing.{Run, RunsFrom, Turns, over, then}
 use Rattle.lp_front_end.specs.FrontEnds.{IsFrontEnd}
 use Rattle.lp_world.specs.declared.live.Live.{Live}
 use Rattle.lp_driver.specs.Driving.{TurnsAs}
+use Rattle.lp_driver.specs.Turning.{MayCome}
 use Rattle.lp_script.specs.Reader.{Reading, GoesOn, HasGiven, IsAfter, IsInput, Reads}
 use Rattle.lp_script.specs.declared.phase.Phase.TheVariants.{Giving}
 use Rattle.lp_script.specs.declared.phase.Phase.TheVariants as phases
@@ -25,7 +26,8 @@ use Rattle.lp_script.specs.declared.phase.Ending.TheVariants.{Whole}
 use Rattle.lp_top.specs.declared.status.Status.{Status}
 use Rattle.lp_top.specs.declared.status.Status.TheVariants as ends
 use Rattle.lp_top.specs.Items.{Holds, StopsAt, IsRunOf, Blocks, started, has_started, has_turn, moment_of, world_files}
-use Rattle.lp_top.specs.Replay.{AreOf, IsDone, IsGoing, HasRun, IsRunning, EndsReading, IsReadingEnd, Wrote, Replays, Interrupts, Finishes, IsReplayEnd}
+use Rattle.lp_top.specs.Reports.{IsBehind, IsBehindState, IsLastReport}
+use Rattle.lp_top.specs.Replay.{AreOf, Concludes, IsDone, IsGoing, HasRun, IsRunning, EndsReading, IsReadingEnd, Wrote, Replays, Interrupts, Finishes, IsReplayEnd}
 use Rattle.lp_top.proofs.Reading.{begins_with, at_phase, cut_is, spellings-append}
 use Rattle.lp_top.proofs.Filing.{world_files-same, last-fits, seed-same, moment-same, is_head}
 
@@ -167,6 +169,18 @@ first-fits c items.End e i f = absurd cc
 pub first-not-late : (r : Reading) (xs : List Item) (x : Item) → has_started xs ≡ true → is_first x ≡ true → HasGiven r (xs ++ x ∷ []) → ⊥
 first-not-late r xs x h i v = let w = last-fits beginning xs x v.fit in first-fits (after_items beginning xs) x (late-started beginning xs h w.1) i w.0
 
+-- an event of a script may come
+event-may : (c : Context) (e : Event) → FitsEvent c e → MayCome e
+event-may c (Connect k) f = tt
+event-may c (Line k bytes) f = tt
+event-may c (Gone k) f = tt
+event-may c (Tick t) f = let l : t ≤ 1000000000000 = f.1 in omega (arith, l)
+event-may c (Reload path bytes) f = tt
+event-may c (Swap name) f = tt
+
+pub may-come : (r : Reading) (xs : List Item) (e : Event) → HasGiven r (xs ++ items.Event e ∷ []) → MayCome e
+may-come r xs e v = let w = last-fits beginning xs (items.Event e) v.fit in event-may (after_items beginning xs) e w.0.1
+
 -- what was told before, and is told now
 told-now : (from now : Option (List ℕ)) (piece old : List ℕ) → now ≡ after_adding from piece → from ≡ Some old → now ≡ Some (old ++ piece)
 told-now from now piece old e f = e ∙ ap (λ o. after_adding o piece) f
@@ -191,23 +205,23 @@ by_read : (r : Reading) (told : Option Bytes) (live : Live) (xs ys : List Item) 
 by_read r told live xs ys outputs g (inl e) = subst (λ zs. Blocks zs (blocks outputs)) (sym e) (blocks-running r told live xs outputs g)
 by_read r told live xs ys outputs g (inr e) = subst (λ zs. Blocks zs (blocks outputs)) (sym e) (blocks-ended r told live xs outputs g)
 
-pub wrote-reading : (b : List ℕ) (ys : List Item) (piece : List ℕ) (s : Status) → IsReadingEnd s → Blocks ys piece → Wrote b ys piece s
-wrote-reading b ys piece (ends.BadScript at) k p = p
-wrote-reading b ys piece ends.TooLarge k p = p
-wrote-reading b ys piece ends.InputFault k p = p
-wrote-reading b ys piece ends.NoMemory k p = p
-wrote-reading b ys piece ends.Done k p = absurd k
-wrote-reading b ys piece ends.BadWords k p = absurd k
-wrote-reading b ys piece (ends.NoMaster fs) k p = absurd k
-wrote-reading b ys piece ends.OutputFault k p = absurd k
-wrote-reading b ys piece (ends.SwapFault cause) k p = absurd k
+pub wrote-reading : (report : Bool) (b : List ℕ) (ys : List Item) (piece : List ℕ) (s : Status) → IsReadingEnd s → Blocks ys piece → Wrote report b ys piece s
+wrote-reading report b ys piece (ends.BadScript at) k p = p
+wrote-reading report b ys piece ends.TooLarge k p = p
+wrote-reading report b ys piece ends.InputFault k p = p
+wrote-reading report b ys piece ends.NoMemory k p = p
+wrote-reading report b ys piece ends.Done k p = absurd k
+wrote-reading report b ys piece ends.BadWords k p = absurd k
+wrote-reading report b ys piece (ends.NoMaster fs) k p = absurd k
+wrote-reading report b ys piece ends.OutputFault k p = absurd k
+wrote-reading report b ys piece (ends.SwapFault cause) k p = absurd k
 
 -- reading ended the replay
-pub replays-reading : (b : List ℕ) (r : Reading) (told : Option Bytes) (live : Live) (from now : Option (List ℕ)) (s : Status) (h : IsRunning r told live from now) → EndsReading b h.read s → IsReadingEnd s → Replays b s from now
-replays-reading b r told live from now s h e k = record {
+pub replays-reading : (report : Bool) (b : List ℕ) (r : Reading) (told : Option Bytes) (live : Live) (from now : Option (List ℕ)) (s : Status) (h : IsRunning r told live from now) → EndsReading b h.read s → IsReadingEnd s → Replays report b s from now
+replays-reading report b r told live from now s h e k = record {
   read = e.read;
   ends = e.ends;
-  wrote = λ old f. (blocks h.outputs, told-now from now (blocks h.outputs) old h.written f, wrote-reading b e.read (blocks h.outputs) s k (by_read r told live h.read e.read h.outputs h.going e.same));
+  wrote = λ old f. (blocks h.outputs, told-now from now (blocks h.outputs) old h.written f, wrote-reading report b e.read (blocks h.outputs) s k (by_read r told live h.read e.read h.outputs h.going e.same));
 }
 
 front-fits : (c : Context) (xs ys : List Item) → AllFit c (xs ++ ys) → AllFit c xs
@@ -226,25 +240,25 @@ stops : (b : List ℕ) (xs : List Item) (x : Item) → Holds b (xs ++ x ∷ []) 
 stops b xs x h t = record { item = x; begins = h; turns = t }
 
 -- the turn of an item was not carried out whole
-pub replays-interrupted : (b : List ℕ) (xs : List Item) (x : Item) (done : List ℕ) (turned : List Out → Type 0) (at : ℕ) (from now next : Option (List ℕ)) (s : Status)
+pub replays-interrupted : (report : Bool) (b : List ℕ) (xs : List Item) (x : Item) (done : List ℕ) (turned : List Out → Type 0) (at : ℕ) (from now next : Option (List ℕ)) (s : Status)
     → Holds b (xs ++ x ∷ []) → has_turn x ≡ true → Blocks xs done → ((outs : List Out) → turned outs → Blocks (xs ++ x ∷ []) (done ++ block outs)) → at ≡ length (spellings xs) → now ≡ after_adding from done
-    → Interrupts turned at now next s → Replays b s from next
-replays-interrupted b xs x done turned at from now next ends.NoMemory h t bs more place w i = record {
+    → Interrupts turned at now next s → Replays report b s from next
+replays-interrupted report b xs x done turned at from now next ends.NoMemory h t bs more place w i = record {
   read = xs;
   ends = holds-front b xs (x ∷ []) h;
   wrote = λ old f. (done, i ∙ told-now from now done old w f, bs);
 }
-replays-interrupted b xs x done turned at from now next (ends.SwapFault cause) h t bs more place w i = record {
+replays-interrupted report b xs x done turned at from now next (ends.SwapFault cause) h t bs more place w i = record {
   read = xs;
   ends = (holds-front b xs (x ∷ []) h, stops b xs x h t);
   wrote = λ old f. (done, i ∙ told-now from now done old w f, bs);
 }
-replays-interrupted b xs x done turned at from now next (ends.BadScript n) h t bs more place w i = record {
+replays-interrupted report b xs x done turned at from now next (ends.BadScript n) h t bs more place w i = record {
   read = xs;
   ends = inr (record { stops = stops b xs x h t; place = i.1 ∙ place });
   wrote = λ old f. (done, i.0 ∙ told-now from now done old w f, bs);
 }
-replays-interrupted b xs x done turned at from now next ends.OutputFault h t bs more place w (outs, u, cut) =
+replays-interrupted report b xs x done turned at from now next ends.OutputFault h t bs more place w (outs, u, cut) =
     let k : List ℕ = block outs in
     record {
       read = xs ++ x ∷ [];
@@ -255,11 +269,11 @@ replays-interrupted b xs x done turned at from now next ends.OutputFault h t bs 
         (done ++ k, more outs u, inl (drop cut.0 k, ap (λ z. done ++ z) (sym (take-append-drop cut.0 k)) ∙ sym (append_assoc done (take cut.0 k) (drop cut.0 k)))),
       );
     }
-replays-interrupted b xs x done turned at from now next ends.Done h t bs more place w i = absurd i
-replays-interrupted b xs x done turned at from now next ends.BadWords h t bs more place w i = absurd i
-replays-interrupted b xs x done turned at from now next (ends.NoMaster fs) h t bs more place w i = absurd i
-replays-interrupted b xs x done turned at from now next ends.TooLarge h t bs more place w i = absurd i
-replays-interrupted b xs x done turned at from now next ends.InputFault h t bs more place w i = absurd i
+replays-interrupted report b xs x done turned at from now next ends.Done h t bs more place w i = absurd i
+replays-interrupted report b xs x done turned at from now next ends.BadWords h t bs more place w i = absurd i
+replays-interrupted report b xs x done turned at from now next (ends.NoMaster fs) h t bs more place w i = absurd i
+replays-interrupted report b xs x done turned at from now next ends.TooLarge h t bs more place w i = absurd i
+replays-interrupted report b xs x done turned at from now next ends.InputFault h t bs more place w i = absurd i
 
 -- the blocks with that of one event more
 blocks-event : (r : Reading) (told told1 : Option Bytes) (live live1 : Live) (xs : List Item) (outputs : List (List Out)) (e : Event) (outs : List Out) → IsGoing r told live xs outputs → TurnsAs e told live told1 live1 outs
@@ -269,10 +283,10 @@ blocks-event r told told1 live live1 xs outputs e outs g t =
     (started (outputs ++ outs ∷ []) (started-push xs (items.Event e) g.started) (λ front real. let h = has_run-more front real xs outputs told told1 live live1 e outs (g.runs front real) t in (h.last, h.run)))
 
 -- an event was not carried out whole
-pub replays-stopped : (b : List ℕ) (r new : Reading) (told : Option Bytes) (live : Live) (next_told from now next : Option (List ℕ)) (s : Status) (e : Event) (at : ℕ) (h : IsRunning r told live from now)
-    → Reads b new next_told → HasGiven new (h.read ++ items.Event e ∷ []) → IsAfter (Ok (items.Event e)) new.phase → at ≡ r.cut → Interrupts (AreOf e told live) at now next s → Replays b s from next
-replays-stopped b r new told live next_told from now next s e at h n v p place i =
-    replays-interrupted b h.read (items.Event e) (blocks h.outputs) (AreOf e told live) at from now next s
+pub replays-stopped : (report : Bool) (b : List ℕ) (r new : Reading) (told : Option Bytes) (live : Live) (next_told from now next : Option (List ℕ)) (s : Status) (e : Event) (at : ℕ) (h : IsRunning r told live from now)
+    → Reads b new next_told → HasGiven new (h.read ++ items.Event e ∷ []) → IsAfter (Ok (items.Event e)) new.phase → at ≡ r.cut → Interrupts (AreOf e told live) at now next s → Replays report b s from next
+replays-stopped report b r new told live next_told from now next s e at h n v p place i =
+    replays-interrupted report b h.read (items.Event e) (blocks h.outputs) (AreOf e told live) at from now next s
     (begins_with b new next_told (h.read ++ items.Event e ∷ []) n (subst GoesOn (sym p) tt) v) refl
     (blocks-running r told live h.read h.outputs h.going) (λ outs u. blocks-event r told u.0 live u.1 h.read h.outputs e outs h.going u.2)
     (place ∙ cut_is r h.read h.going.given) h.written i
@@ -281,45 +295,81 @@ replays-stopped b r new told live next_told from now next s e at h n v p place i
 script-holds : (b : List ℕ) (xs : List Item) → IsScript b xs → length b ≤ longest_input → Holds b xs
 script-holds b xs s l = record { others = []; spelled = take_all longest_input b l ∙ s.spelled ∙ sym (append-nil _); fit = s.fit }
 
--- the end was read, and the line at the end written, or a front of it
-pub replays-finished : (b : List ℕ) (r : Reading) (told : Option Bytes) (live : Live) (from now next : Option (List ℕ)) (s : Status) (h : IsRunning r told live from now) → IsScript b (h.read ++ items.End ∷ []) × (length b ≤ longest_input) → Finishes (codes "end\n") now next s → Replays b s from next
-replays-finished b r told live from now next ends.Done h t i =
+-- the numbers of the state are those of the run
+behind-run : (report : Bool) (r : Reading) (told : Option Bytes) (live : Live) (xs : List Item) (outputs : List (List Out)) (more : List ℕ) → IsGoing r told live xs outputs → IsBehindState report live more → IsBehind report (xs ++ items.End ∷ []) more
+behind-run false r told live xs outputs more g h = h
+behind-run true r told live xs outputs more g h = (h.0, record { outputs = outputs; told = told; state = live; runs = by }, h.2)
+  where
+    by : (front : FrontEnd) → IsFrontEnd front → IsLastReport front (xs ++ items.End ∷ []) outputs told live h.0
+    by front real =
+        let u = g.runs front real in
+        record {
+          last = u.last;
+          run = run-behind front xs items.End (events_of xs) outputs u.last refl refl (append-nil (events_of xs)) u.run;
+          rest = u.rest;
+          numbers = h.1 told u.rest.programs u.last u.rest.world.stands;
+        }
+
+-- the end was read, and the lines at the end written, or a front of them
+finished-done : (report : Bool) (b : List ℕ) (r : Reading) (told : Option Bytes) (live : Live) (from now next : Option (List ℕ)) (s : Status) (more : List ℕ) (h : IsRunning r told live from now) → IsScript b (h.read ++ items.End ∷ []) × (length b ≤ longest_input)
+    → IsBehindState report live more → Finishes (codes "end\n" ++ more) now next s → Replays report b s from next
+finished-done report b r told live from now next ends.Done more h t k i =
     let whole = run-ended h.read h.outputs (run-of r told live h.read h.outputs h.going) in
     record {
       read = h.read ++ items.End ∷ [];
       ends = (t.0, t.1, (h.outputs, whole));
       wrote = λ old f. (
-        blocks h.outputs ++ codes "end\n",
-        told-now from next (blocks h.outputs ++ codes "end\n") old (added-more from now (blocks h.outputs) (codes "end\n") next h.written i) f,
-        (h.outputs, whole, refl),
+        blocks h.outputs ++ (codes "end\n" ++ more),
+        told-now from next (blocks h.outputs ++ (codes "end\n" ++ more)) old (added-more from now (blocks h.outputs) (codes "end\n" ++ more) next h.written i) f,
+        (h.outputs, whole, (more, behind-run report r told live h.read h.outputs more h.going k, sym (append_assoc (blocks h.outputs) (codes "end\n") more))),
       );
     }
-replays-finished b r told live from now next ends.OutputFault h t i =
+finished-done report b r told live from now next ends.OutputFault more h t k i =
     let xs = h.read ++ items.End ∷ [] in
+    let last = codes "end\n" ++ more in
     record {
       read = xs;
       ends = script-holds b xs t.0 t.1;
       wrote = λ old f. (
         blocks h.outputs ++ i.0,
         told-now from next (blocks h.outputs ++ i.0) old (added-more from now (blocks h.outputs) i.0 next h.written i.2) f,
-        (blocks h.outputs, blocks-ended r told live h.read h.outputs h.going, inr (t.0, (i.1.0, ap (λ x. blocks h.outputs ++ x) i.1.1 ∙ sym (append_assoc (blocks h.outputs) i.0 i.1.0)))),
+        (
+          blocks h.outputs,
+          blocks-ended r told live h.read h.outputs h.going,
+          inr (t.0, (more, behind-run report r told live h.read h.outputs more h.going k, (i.1.0, append_assoc (blocks h.outputs) (codes "end\n") more ∙ ap (λ x. blocks h.outputs ++ x) i.1.1 ∙ sym (append_assoc (blocks h.outputs) i.0 i.1.0)))),
+        ),
       );
     }
-replays-finished b r told live from now next ends.BadWords h t i = absurd i
-replays-finished b r told live from now next (ends.BadScript at) h t i = absurd i
-replays-finished b r told live from now next (ends.NoMaster fs) h t i = absurd i
-replays-finished b r told live from now next ends.TooLarge h t i = absurd i
-replays-finished b r told live from now next ends.InputFault h t i = absurd i
-replays-finished b r told live from now next (ends.SwapFault cause) h t i = absurd i
-replays-finished b r told live from now next ends.NoMemory h t i = absurd i
+finished-done report b r told live from now next ends.BadWords more h t k i = absurd i
+finished-done report b r told live from now next (ends.BadScript at) more h t k i = absurd i
+finished-done report b r told live from now next (ends.NoMaster fs) more h t k i = absurd i
+finished-done report b r told live from now next ends.TooLarge more h t k i = absurd i
+finished-done report b r told live from now next ends.InputFault more h t k i = absurd i
+finished-done report b r told live from now next (ends.SwapFault cause) more h t k i = absurd i
+finished-done report b r told live from now next ends.NoMemory more h t k i = absurd i
+
+-- there was no memory for them
+finished-none : (report : Bool) (b : List ℕ) (r : Reading) (told : Option Bytes) (live : Live) (from now : Option (List ℕ)) (h : IsRunning r told live from now) → IsScript b (h.read ++ items.End ∷ []) × (length b ≤ longest_input) → Replays report b ends.NoMemory from now
+finished-none report b r told live from now h t =
+    let xs = h.read ++ items.End ∷ [] in
+    record {
+      read = xs;
+      ends = script-holds b xs t.0 t.1;
+      wrote = λ old f. (blocks h.outputs, told-now from now (blocks h.outputs) old h.written f, blocks-ended r told live h.read h.outputs h.going);
+    }
+
+pub replays-finished : (report : Bool) (b : List ℕ) (r : Reading) (told : Option Bytes) (live : Live) (from now next : Option (List ℕ)) (s : Status) (h : IsRunning r told live from now) → IsScript b (h.read ++ items.End ∷ []) × (length b ≤ longest_input) → Concludes report live now next s
+    → Replays report b s from next
+replays-finished report b r told live from now next s h t (inl k) = finished-done report b r told live from now next s k.0 h t k.1 k.2
+replays-finished report b r told live from now next s h t (inr k) = subst (λ x. Replays report b x from next) (sym k.0) (subst (λ x. Replays report b ends.NoMemory from x) (sym k.1) (finished-none report b r told live from now h t))
 
 -- only the block of the start is written yet
 pub running-start : (r : Reading) (told : Option Bytes) (live : Live) (from now : Option (List ℕ)) (xs : List Item) (outs : List Out) → IsGoing r told live xs (outs ∷ []) → now ≡ after_adding from (block outs) → IsRunning r told live from now
 running-start r told live from now xs outs g e = record { read = xs; outputs = outs ∷ []; going = g; written = e ∙ ap (after_adding from) (sym (append-nil (block outs))) }
 
 -- the block of the start was cut
-pub replays-cut : (b : List ℕ) (r : Reading) (told : Option Bytes) (live : Live) (told_input from next : Option (List ℕ)) (xs : List Item) (outs : List Out) → Reads b r told_input → IsGoing r told live xs (outs ∷ []) → IsCut from next (block outs) → Replays b ends.OutputFault from next
-replays-cut b r told live told_input from next xs outs h g cut =
+pub replays-cut : (report : Bool) (b : List ℕ) (r : Reading) (told : Option Bytes) (live : Live) (told_input from next : Option (List ℕ)) (xs : List Item) (outs : List Out) → Reads b r told_input → IsGoing r told live xs (outs ∷ []) → IsCut from next (block outs) → Replays report b ends.OutputFault from next
+replays-cut report b r told live told_input from next xs outs h g cut =
     let k : List ℕ = block outs in
     record {
       read = xs;
@@ -343,9 +393,13 @@ pub kind-interrupted : (turned : List Out → Type 0) (at : ℕ) (now next : Opt
 kind-interrupted turned at now next ends.BadWords i = absurd i
 kind-interrupted turned at now next s i = tt
 
-pub kind-finished : (now next : Option (List ℕ)) (s : Status) → Finishes (codes "end\n") now next s → IsReplayEnd s
-kind-finished now next ends.BadWords i = absurd i
-kind-finished now next s i = tt
+kind-finish : (last : List ℕ) (now next : Option (List ℕ)) (s : Status) → Finishes last now next s → IsReplayEnd s
+kind-finish last now next ends.BadWords i = absurd i
+kind-finish last now next s i = tt
+
+pub kind-finished : (report : Bool) (live : Live) (now next : Option (List ℕ)) (s : Status) → Concludes report live now next s → IsReplayEnd s
+kind-finished report live now next s (inl k) = kind-finish (codes "end\n" ++ k.0) now next s k.2
+kind-finished report live now next s (inr k) = subst IsReplayEnd (sym k.0) tt
 
 pub goes-running : (r : Reading) (told : Option Bytes) (live : Live) (from now : Option (List ℕ)) → IsRunning r told live from now → GoesOn r.phase
 goes-running r told live from now h = subst GoesOn (sym h.going.phase) tt

@@ -3,6 +3,7 @@ pub mod Reading
 pub mod Filing
 pub mod Going
 pub mod Beginning
+pub mod Concluding
 pub mod Completeness
 pub mod Swapping
 pub mod Counting

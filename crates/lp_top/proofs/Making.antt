@@ -9,7 +9,7 @@ use Rattle.lp_top.specs.declared.words.Command.TheVariants.{Check, Make, Replay}
 use Rattle.lp_top.specs.declared.status.Status.{Status}
 use Rattle.lp_top.specs.declared.status.Status.TheVariants as ends
 use Rattle.lp_top.specs.Make.{IsMakeEnd, Makes}
-use Rattle.lp_top.specs.Replay.{IsFrontOf}
+use Rattle.lp_top.specs.Replay.{IsFrontOf, Replays}
 
 -- the script was written
 pub makes_whole : (count seed : ℕ) (before after : Option (List ℕ)) → after ≡ after_adding before (spellings (workload count seed)) → Makes count seed ends.Done before after
@@ -62,12 +62,19 @@ makes_named o a b count seed s before after e f h =
 
 abbrev is_make : Command → Bool
 is_make (Make count seed) = true
-is_make (Replay swap_time) = false
+is_make (Replay swap_time report) = false
 is_make (Check simul) = false
 
+same_report : {a c : ℕ} {r q : Bool} → Replay a r ≡ Replay c q → r ≡ q
+same_report e = cc
+
+-- words name one replay at most
+pub replays_named : (o : Option Command) (a c : ℕ) (r q : Bool) (b : List ℕ) (s : Status) (before after : Option (List ℕ)) → o ≡ Some (Replay a r) → o ≡ Some (Replay c q) → Replays r b s before after → Replays q b s before after
+replays_named o a c r q b s before after e f h = subst (λ x. Replays x b s before after) (same_report (some_same (sym e ∙ f))) h
+
 -- words that name another command, or none, name no workload
-pub not_replay : (o : Option Command) (swap_time count seed : ℕ) → o ≡ Some (Replay swap_time) → o ≡ Some (Make count seed) → ⊥
-not_replay o swap_time count seed e f = let h = ap is_make (some_same (sym e ∙ f)) in absurd cc
+pub not_replay : (o : Option Command) (swap_time : ℕ) (report : Bool) (count seed : ℕ) → o ≡ Some (Replay swap_time report) → o ≡ Some (Make count seed) → ⊥
+not_replay o swap_time report count seed e f = let h = ap is_make (some_same (sym e ∙ f)) in absurd cc
 
 pub not_check : (o : Option Command) (simul : Option (List ℕ)) (count seed : ℕ) → o ≡ Some (Check simul) → o ≡ Some (Make count seed) → ⊥
 not_check o simul count seed e f = let h = ap is_make (some_same (sym e ∙ f)) in absurd cc

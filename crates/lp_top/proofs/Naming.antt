@@ -1,5 +1,5 @@
 -- Which command words name.
-use Rattle.std.proofs.Common.{◌≡◌, ◌∙◌, ℕ, List, [], ◌∷◌, true, false, Option, Some, None, sym, ap, refl, map, String, string_bytes, slice_get, codes, if◌then◌else◌}
+use Rattle.std.proofs.Common.{◌≡◌, ◌∙◌, ℕ, List, [], ◌∷◌, Bool, true, false, Option, Some, None, sym, ap, refl, map, String, string_bytes, slice_get, codes, if◌then◌else◌}
 use Rattle.std.specs.Prelude.{Result, Ok, Err, IfOk}
 use Rattle.std.specs.List.{list_all}
 use Rattle.std.specs.declared.alloc.Global.{Global}
@@ -14,7 +14,7 @@ use Rattle.lp_top.specs.declared.words.Command.{Command}
 use Rattle.lp_top.specs.declared.words.CommandName.{CommandName}
 use Rattle.lp_top.specs.declared.words.CommandName.TheVariants as name
 use Rattle.lp_top.specs.declared.words.WordsFault.{WordsFault}
-use Rattle.lp_top.specs.Words.{command_named, is_free_word, line_of, has_some, fault_in_line, value_in, make_with, with_values, taken_with, command_with, command_in}
+use Rattle.lp_top.specs.Words.{command_named, is_free_word, line_of, has_some, fault_in_line, value_in, is_set, make_with, replay_with, with_values, taken_with, command_with, command_in}
 
 -- a kind among some is one
 pub some_kind : (k : ErrorKind) (ks : Kinds) → IsAmong k ks → has_some ks ≡ true
@@ -57,6 +57,12 @@ with_refused ws n e = ap (λ b. if b then taken_with n (map string_bytes ws) els
 
 pub with_free : (ws : List (String Global)) (n : CommandName) → list_all (λ w. is_free_word (string_bytes w)) ws ≡ true → command_with (Some n) (map string_bytes ws) ≡ taken_with n (map string_bytes ws)
 with_free ws n e = ap (λ b. if b then taken_with n (map string_bytes ws) else None) (list_all-map is_free_word string_bytes ws ∙ e)
+
+-- a replay with the values that clap has
+pub replay_read : (words : List (List ℕ)) (time report : Option (List ℕ)) (asked : Bool) → time ≡ value_in name.Replay (codes "swap-time") words → report ≡ value_in name.Replay (codes "report") words → asked ≡ is_set report
+    → with_values name.Replay words ≡ replay_with time asked
+replay_read words time report asked t r a =
+    sym (ap (λ v. replay_with v asked) t ∙ ap (λ b. replay_with (value_in name.Replay (codes "swap-time") words) b) (a ∙ ap is_set r))
 
 -- a workload with the values that clap has
 make_read : (n : CommandName) (words : List (List ℕ)) (count seed : Option (List ℕ)) → n ≡ name.Make → fault_in_line name.Make words ≡ false → count ≡ value_in name.Make (codes "count") words → seed ≡ value_in name.Make (codes "seed") words

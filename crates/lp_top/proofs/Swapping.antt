@@ -1,11 +1,13 @@
 -- What the swap file did, step by step.
-use Rattle.std.proofs.Common.{subst, ◌≡◌, ℕ, List, Bool, true, false, Option, refl}
-use Rattle.std.specs.Prelude.{Ok, Err}
+use Rattle.std.proofs.Common.{subst, ap, inl, inr, ◌≡◌, ℕ, List, Bool, true, false, Option, refl}
+use Rattle.std.specs.Prelude.{Ok, Err, Result}
 use Rattle.lp_swapfile.specs.Counts.{Counts, Rose}
 use Rattle.lp_swapfile.specs.Device.{Bytes, Last}
+use Rattle.lp_residence.specs.declared.answers.EnterFault.{EnterFault}
 use Rattle.lp_residence.specs.declared.answers.SwapCause.{SwapCause}
 use Rattle.lp_residence.specs.declared.answers.SwapCause.TheVariants.{Read, Changed}
 use Rattle.lp_world.specs.declared.live.Live.{Live}
+use Rattle.lp_driver.specs.Tidying.{TurnTells}
 use Rattle.lp_vm.specs.Causes.{Tells, read_fault}
 use Rattle.lp_vm.specs.declared.fault.VmFault.{VmFault}
 use Rattle.lp_vm.specs.declared.fault.VmFault.TheVariants as faults
@@ -13,7 +15,7 @@ use Rattle.lp_top.specs.declared.status.Status.{Status}
 use Rattle.lp_top.specs.declared.status.Status.TheVariants as ends
 use Rattle.lp_top.specs.Check.{IsCheckEnd}
 use Rattle.lp_top.specs.Make.{IsMakeEnd}
-use Rattle.lp_top.specs.Replay.{Finishes, IsReadingEnd}
+use Rattle.lp_top.specs.Replay.{Concludes, Finishes, IsReadingEnd}
 use Rattle.lp_top.specs.Causes.{SwapTells, IsHonestEnd, is_read_end, stop_status}
 
 abbrev pub is_swap : Status → Bool
@@ -54,15 +56,19 @@ pub calm-tells : (s : Status) (told : Option Bytes) (last : Last) (r0 r1 : ℕ) 
 calm-tells s told last r0 r1 t0 t1 h0 h1 e a = then-tells s told told last last r0 r1 r1 t0 t1 t1 h0 h1 h1 a (still-tells s told last r1 t1 h1 e)
 
 -- a turn was carried out
-pub turn-tells : (told : Option Bytes) (last : Last) (r0 r1 w0 w1 : ℕ) (t0 t1 h0 h1 : Type 0) (live : Live) → Tells told last r0 r1 w0 w1 t0 t1 h0 h1 live (Ok tt) → SwapTells ends.Done told last r0 r1 t0 t1 h0 h1
-turn-tells told last r0 r1 w0 w1 t0 t1 h0 h1 live a = record { cause = tt; faults = a.faults; truthful = a.truthful; honest = λ x. ((a.honest x).0, λ y. tt) }
+pub turn-tells : (told : Option Bytes) (last : Last) (r0 r1 : ℕ) (t0 t1 h0 h1 : Type 0) (live : Live) → TurnTells told last r0 r1 t0 t1 h0 h1 live (Ok tt) → SwapTells ends.Done told last r0 r1 t0 t1 h0 h1
+turn-tells told last r0 r1 t0 t1 h0 h1 live a = record { cause = tt; faults = a.faults; truthful = a.truthful; honest = λ x. ((a.honest x).0, λ y. tt) }
+
+-- the start was carried out, or was not
+pub begun-tells : {told : Option Bytes} {last : Last} {r0 r1 w0 w1 : ℕ} {t0 t1 h0 h1 : Type 0} {live : Live} {r : Result (Unit {0}) EnterFault} → Tells told last r0 r1 w0 w1 t0 t1 h0 h1 live r → TurnTells told last r0 r1 t0 t1 h0 h1 live r
+begun-tells h = record { cause = h.cause; faults = h.faults; truthful = h.truthful; honest = h.honest }
 
 -- a turn was not carried out
-pub stop-tells : (at : ℕ) (e : VmFault) (told : Option Bytes) (last : Last) (r0 r1 w0 w1 : ℕ) (t0 t1 h0 h1 : Type 0) (live : Live) → Tells told last r0 r1 w0 w1 t0 t1 h0 h1 live (Err (read_fault e)) → SwapTells (stop_status at e) told last r0 r1 t0 t1 h0 h1
-stop-tells at faults.NoMemory told last r0 r1 w0 w1 t0 t1 h0 h1 live a = record { cause = tt; faults = a.faults; truthful = a.truthful; honest = λ x. ((a.honest x).0, λ y. tt) }
-stop-tells at faults.NotYet told last r0 r1 w0 w1 t0 t1 h0 h1 live a = record { cause = tt; faults = a.faults; truthful = a.truthful; honest = λ x. ((a.honest x).0, λ y. tt) }
-stop-tells at (faults.Swap Read) told last r0 r1 w0 w1 t0 t1 h0 h1 live a = record { cause = (live, a.cause); faults = a.faults; truthful = a.truthful; honest = a.honest }
-stop-tells at (faults.Swap (Changed owner found)) told last r0 r1 w0 w1 t0 t1 h0 h1 live a = record { cause = (live, a.cause); faults = a.faults; truthful = a.truthful; honest = a.honest }
+pub stop-tells : (at : ℕ) (e : VmFault) (told : Option Bytes) (last : Last) (r0 r1 : ℕ) (t0 t1 h0 h1 : Type 0) (live : Live) → TurnTells told last r0 r1 t0 t1 h0 h1 live (Err (read_fault e)) → SwapTells (stop_status at e) told last r0 r1 t0 t1 h0 h1
+stop-tells at faults.NoMemory told last r0 r1 t0 t1 h0 h1 live a = record { cause = tt; faults = a.faults; truthful = a.truthful; honest = λ x. ((a.honest x).0, λ y. tt) }
+stop-tells at faults.NotYet told last r0 r1 t0 t1 h0 h1 live a = record { cause = tt; faults = a.faults; truthful = a.truthful; honest = λ x. ((a.honest x).0, λ y. tt) }
+stop-tells at (faults.Swap Read) told last r0 r1 t0 t1 h0 h1 live a = record { cause = (live, a.cause); faults = a.faults; truthful = a.truthful; honest = a.honest }
+stop-tells at (faults.Swap (Changed owner found)) told last r0 r1 t0 t1 h0 h1 live a = record { cause = (live, a.cause); faults = a.faults; truthful = a.truthful; honest = a.honest }
 
 -- a device that is honest and truthful, and of which no read failed, is not blamed
 pub never-blamed : (s : Status) (told : Option Bytes) (last : Last) (r0 r1 : ℕ) (t0 t1 h0 h1 : Type 0) → SwapTells s told last r0 r1 t0 t1 h0 h1 → h1 → t1 → (Rose r0 r1 → ⊥) → (cause : SwapCause) → s ≡ ends.SwapFault cause → ⊥
@@ -91,6 +97,10 @@ finish-calm last before after ends.TooLarge i = absurd i
 finish-calm last before after ends.InputFault i = absurd i
 finish-calm last before after (ends.SwapFault cause) i = absurd i
 finish-calm last before after ends.NoMemory i = absurd i
+
+pub conclude-calm : (report : Bool) (live : Live) (before after : Option (List ℕ)) (s : Status) → Concludes report live before after s → is_swap s ≡ false
+conclude-calm report live before after s (inl k) = finish-calm _ before after s k.2
+conclude-calm report live before after s (inr k) = ap is_swap k.0
 
 pub check-calm : (s : Status) → IsCheckEnd s → is_swap s ≡ false
 check-calm ends.Done i = refl

@@ -2,6 +2,7 @@ pub mod Words
 pub mod Ends
 pub mod Items
 pub mod Notes
+pub mod Reports
 pub mod Replay
 pub mod Causes
 pub mod Check

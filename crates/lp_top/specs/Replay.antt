@@ -23,6 +23,7 @@ use Rattle.lp_script.specs.Reader.{Reading, HasGiven}
 use Rattle.lp_top.specs.declared.opening.Opening.{Opening}
 use Rattle.lp_top.specs.declared.status.Status.{Status}
 use Rattle.lp_top.specs.declared.status.Status.TheVariants.{Done, BadWords, BadScript, NoMaster, TooLarge, InputFault, OutputFault, SwapFault, NoMemory}
+use Rattle.lp_top.specs.Reports.{IsBehind, IsBehindState}
 use Rattle.lp_top.specs.Items.{Holds, StopsAt, IsNotRunYet, IsRunOf, HasNoMaster, Blocks, has_started, moment_of, world_files}
 
 -- The input, with the items that were read, gives this end. At Done it is the script of these items, and they have a run.
@@ -41,25 +42,26 @@ Ends bytes xs NoMemory = Holds bytes xs
 abbrev pub IsFrontOf : List ℕ → List ℕ → Type 0
 IsFrontOf piece whole = (rest : List ℕ) × (whole ≡ piece ++ rest)
 
--- What was written at an end: at Done the transcript of the run, for a master that is not made nothing, and else the
--- blocks of the start and of each event that was read; where the sink failed a front of them, behind
--- which after all of a script's blocks a front of the line at the end may follow.
-abbrev pub Wrote : List ℕ → List Item → List ℕ → Status → Type 0
-Wrote bytes xs piece Done = (outputs : List (List Out)) × IsRunOf xs outputs × (piece ≡ transcript outputs)
-Wrote bytes xs piece BadWords = piece ≡ []
-Wrote bytes xs piece (BadScript at) = Blocks xs piece
-Wrote bytes xs piece (NoMaster fs) = piece ≡ []
-Wrote bytes xs piece TooLarge = Blocks xs piece
-Wrote bytes xs piece InputFault = Blocks xs piece
-Wrote bytes xs piece OutputFault = (whole : List ℕ) × Blocks xs whole × (IsFrontOf piece whole ⊎ (IsScript bytes xs × IsFrontOf piece (whole ++ codes "end\n")))
-Wrote bytes xs piece (SwapFault cause) = Blocks xs piece
-Wrote bytes xs piece NoMemory = Blocks xs piece
+-- What was written at an end: at Done the transcript of the run, and behind it the line of the report where it was asked for; for a
+-- master that is not made nothing, and else the blocks of the start and of each event that was read; where the sink failed a
+-- front of them, behind which after all of a script's blocks a front of the lines at the end may follow.
+abbrev pub Wrote : Bool → List ℕ → List Item → List ℕ → Status → Type 0
+Wrote report bytes xs piece Done = (outputs : List (List Out)) × IsRunOf xs outputs × ((more : List ℕ) × IsBehind report xs more × (piece ≡ transcript outputs ++ more))
+Wrote report bytes xs piece BadWords = piece ≡ []
+Wrote report bytes xs piece (BadScript at) = Blocks xs piece
+Wrote report bytes xs piece (NoMaster fs) = piece ≡ []
+Wrote report bytes xs piece TooLarge = Blocks xs piece
+Wrote report bytes xs piece InputFault = Blocks xs piece
+Wrote report bytes xs piece OutputFault = (whole : List ℕ) × Blocks xs whole × (IsFrontOf piece whole ⊎ (IsScript bytes xs × ((more : List ℕ) × IsBehind report xs more × IsFrontOf piece (whole ++ codes "end\n" ++ more))))
+Wrote report bytes xs piece (SwapFault cause) = Blocks xs piece
+Wrote report bytes xs piece NoMemory = Blocks xs piece
 
--- What a replay of these bytes ended with, and what it wrote behind what was told before: by the items that it read.
-pub record Replays (bytes : List ℕ) (status : Status) (before after : Option (List ℕ)) : Type 0 where
+-- What a replay of these bytes, asked for a report or not, ended with, and what it wrote behind what was told before: by the items
+-- that it read.
+pub record Replays (report : Bool) (bytes : List ℕ) (status : Status) (before after : Option (List ℕ)) : Type 0 where
   pub read : List Item
   pub ends : Ends bytes read status
-  pub wrote : (old : List ℕ) → before ≡ Some old → (piece : List ℕ) × (after ≡ Some (old ++ piece)) × Wrote bytes read piece status
+  pub wrote : (old : List ℕ) → before ≡ Some old → (piece : List ℕ) × (after ≡ Some (old ++ piece)) × Wrote report bytes read piece status
 
 -- What was noted of these items: the files are in a store, the first one of each path, and the seed and the moment are the head's.
 pub record AreNoted (xs : List Item) (opening : Opening) : Type 0 where
@@ -166,6 +168,11 @@ Finishes last before after TooLarge = ⊥
 Finishes last before after InputFault = ⊥
 Finishes last before after (SwapFault cause) = ⊥
 Finishes last before after NoMemory = ⊥
+
+-- The last lines were written, `end` and what stands behind it, or a front of them; or there was no memory for them.
+abbrev pub Concludes : Bool → Live → Option (List ℕ) → Option (List ℕ) → Status → Type 0
+Concludes report state before after status =
+    ((more : List ℕ) × IsBehindState report state more × Finishes (codes "end\n" ++ more) before after status) ⊎ ((status ≡ NoMemory) × (after ≡ before))
 
 -- the ends that a replay may have once the words are right
 abbrev pub IsReplayEnd : Status → Type 0

@@ -4,7 +4,7 @@ use Rattle.std.specs.List.{list_all}
 use Rattle.std.specs.declared.alloc.Global.{Global}
 use Rattle.clap.specs.Kinds.{Kinds}
 use Rattle.clap.specs.Words.{App, Rule, new_app, new_rule, with_rule, fault_of, matches_of, first_of}
-use Rattle.clap.specs.declared.builder.action.ArgAction.TheVariants.{Set}
+use Rattle.clap.specs.declared.builder.action.ArgAction.TheVariants.{Set, SetTrue}
 use Rattle.lp_script.specs.Reading.{is_between, number_named}
 use Rattle.lp_top.specs.declared.words.Command.{Command}
 use Rattle.lp_top.specs.declared.words.Command.TheVariants.{Replay, Check, Make}
@@ -31,6 +31,10 @@ are_free words = list_all is_free_word words
 abbrev pub swap_time_option : Rule
 swap_time_option = record (new_rule (codes "swap-time")) { long = Some (codes "swap-time"); action = Some Set }
 
+-- the option `--report`, without a value: clap has the value `true` for it where it is given, and else `false`
+abbrev pub report_option : Rule
+report_option = record (new_rule (codes "report")) { long = Some (codes "report"); action = Some SetTrue }
+
 -- the option `--simul`, with one value
 abbrev pub simul_option : Rule
 simul_option = record (new_rule (codes "simul")) { long = Some (codes "simul"); action = Some Set }
@@ -41,7 +45,7 @@ wanted_value id = record (new_rule id) { action = Some Set; required = true }
 
 -- the words of a command as clap has them: its name, and its options and values
 abbrev pub line_of : CommandName → App
-line_of name.Replay = with_rule (new_app (codes "replay")) swap_time_option
+line_of name.Replay = with_rule (with_rule (new_app (codes "replay")) swap_time_option) report_option
 line_of name.Check = with_rule (new_app (codes "check")) simul_option
 line_of name.Make = with_rule (with_rule (new_app (codes "make")) (wanted_value (codes "count"))) (wanted_value (codes "seed"))
 
@@ -72,14 +76,19 @@ abbrev pub number_in : ℕ → ℕ → Option (List ℕ) → Option ℕ
 number_in low high None = None
 number_in low high (Some value) = number_named (is_between low high) value
 
--- a replay with the value of `--swap-time`, a number up to 1000000000; without it 900
-abbrev pub replay_of : Option ℕ → Option Command
-replay_of (Some n) = Some (Replay n)
-replay_of None = None
+-- whether an option without a value was given
+abbrev pub is_set : Option (List ℕ) → Bool
+is_set None = false
+is_set (Some value) = bytes_eq value (codes "true")
 
-abbrev pub replay_with : Option (List ℕ) → Option Command
-replay_with None = Some (Replay 900)
-replay_with (Some value) = replay_of (number_in 0 1000000000 (Some value))
+-- a replay with the value of `--swap-time`, a number up to 1000000000; without it 900
+abbrev pub replay_of : Option ℕ → Bool → Option Command
+replay_of (Some n) report = Some (Replay n report)
+replay_of None report = None
+
+abbrev pub replay_with : Option (List ℕ) → Bool → Option Command
+replay_with None report = Some (Replay 900 report)
+replay_with (Some value) report = replay_of (number_in 0 1000000000 (Some value)) report
 
 abbrev pub make_of : Option ℕ → Option ℕ → Option Command
 make_of (Some count) (Some seed) = Some (Make count seed)
@@ -92,7 +101,7 @@ make_with count seed = make_of (number_in 1 200000 count) (number_in 0 184467440
 
 -- the command of this name with its values
 abbrev pub with_values : CommandName → List (List ℕ) → Option Command
-with_values name.Replay words = replay_with (value_in name.Replay (codes "swap-time") words)
+with_values name.Replay words = replay_with (value_in name.Replay (codes "swap-time") words) (is_set (value_in name.Replay (codes "report") words))
 with_values name.Check words = check_with (value_in name.Check (codes "simul") words)
 with_values name.Make words = make_with (value_in name.Make (codes "count") words) (value_in name.Make (codes "seed") words)
 

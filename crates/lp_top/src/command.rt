@@ -1,5 +1,5 @@
 //! The call that carries out a command.
-ghost use Rattle.std.specs.Prelude.{◌≡◌, ℕ, ◌≤◌, List, [], Option, None, ◌⊎◌, length, map, string_bytes};
+ghost use Rattle.std.specs.Prelude.{◌≡◌, ℕ, ◌≤◌, Bool, List, [], Option, None, ◌⊎◌, length, map, string_bytes};
 ghost use Rattle.std.specs.Option.{option_copied};
 ghost use Rattle.lp_io.specs.Counts.{Rose};
 ghost use Rattle.lp_io.specs.Told.{IsPassedOn};
@@ -46,8 +46,11 @@ fn text_of(path: &Option<FilePath>) -> Option<&str>
 /// gives these items, by each front end that there is.
 ///
 /// `--swap-time N` tells after how many seconds without an entry an object or a program is idle, a number
-/// up to 1000000000, by default 900. What is idle goes out at a tick; none is carried out yet, so it
-/// changes nothing.
+/// up to 1000000000, by default 900; 0 means never. What is idle goes out after a tick, where the swap
+/// file tells what it holds, and comes in again where it is wanted: the transcript is the same.
+///
+/// With `--report` the line `report A B C D` follows the transcript: how many objects are live, how many of
+/// them are out, how many program versions are kept, and how many of them are out.
 ///
 /// A check loads each file that ends in `.c`, by path and its parents first. It writes a line
 /// `FILE line N: TEXT` for each fault, by the paths of the files and each file's faults once, and then
@@ -66,13 +69,13 @@ fn text_of(path: &Option<FilePath>) -> Option<&str>
 /// SEED choose, a number below 2^64. Both are decimal digits without sign and without a leading zero.
 /// It holds one item at a time.
 ///
-/// - `Done`: the input was read to its end and is a script, and the bytes written are its transcript
-///   or its report; or they are the script of the workload.
+/// - `Done`: the input was read to its end and is a script, and the bytes written are its transcript, and
+///   the line of the report where it was asked for; or the report of a check; or they are the script of the workload.
 /// - `BadWords`: exactly where the words name no command, unless there is no memory to see it; nothing
 ///   was read or written.
 /// - `BadScript`: at this offset stands no item that fits there; or one that a replay does not carry
-///   out yet: a tick, or a `start` or an event in whose turn something is asked that is not carried
-///   out yet. A replay has written the blocks of the turns before, a check nothing.
+///   out yet: a `start` or an event in whose turn something is asked that is not carried out yet. A
+///   replay has written the blocks of the turns before, a check nothing.
 /// - `NoMaster`: no master is made of the files, for these faults; nothing was written. A check never
 ///   answers it.
 /// - `TooLarge`: the input goes on past 67108864 bytes, and where its items end within them nothing
@@ -103,7 +106,7 @@ pub fn run<S: Source, K: Sink, W: Truthful>(
     ensures words { result ≡ Status.BadWords → command_in (map string_bytes words.now) ≡ None }
     ensures refused { command_in (map string_bytes words.now) ≡ None → (result ≡ Status.BadWords) ⊎ (result ≡ Status.NoMemory) }
     ensures untouched { command_in (map string_bytes words.now) ≡ None → (input.new ≡ input.old) × (out.new ≡ out.old) }
-    ensures replays { (swap_time : ℕ) → Name words.now (Command.Replay swap_time) → (b : List ℕ) → S.remaining input.old ≡ Some b → Replays b result (K.written out.old) (K.written out.new) }
+    ensures replays { (swap_time : ℕ) (report : Bool) → Name words.now (Command.Replay swap_time report) → (b : List ℕ) → S.remaining input.old ≡ Some b → Replays report b result (K.written out.old) (K.written out.new) }
     ensures checks { (simul : Option (List ℕ)) → Name words.now (Command.Check simul) → (b : List ℕ) → S.remaining input.old ≡ Some b → Checks simul b result (K.written out.old) (K.written out.new) }
     ensures makes { (count seed : ℕ) → Name words.now (Command.Make count seed) → Makes count seed result (K.written out.old) (K.written out.new) }
     ensures unread { NameMake words.now → input.new ≡ input.old }
@@ -115,10 +118,10 @@ pub fn run<S: Source, K: Sink, W: Truthful>(
     ensures swap_fault { SwapTells result (W.content swap.new) (W.last swap.new) (W.read_faults swap.old) (W.read_faults swap.new)
         (W.is_truthful swap.old) (W.is_truthful swap.new) (W.is_honest swap.old) (W.is_honest swap.new) }
     // Only a replay uses the swap file.
-    ensures swapless { ((swap_time : ℕ) → Name words.now (Command.Replay swap_time) → ⊥) → swap.new ≡ swap.old }
+    ensures swapless { ((swap_time : ℕ) (report : Bool) → Name words.now (Command.Replay swap_time report) → ⊥) → swap.new ≡ swap.old }
     // A script of whose files a master is made, over devices that do not fail and a swap file that is honest, is carried out to its end, or
     // up to an item that is not carried out yet.
-    ensures complete { (swap_time : ℕ) (b : List ℕ) (xs : List I) → Name words.now (Command.Replay swap_time) → S.remaining input.old ≡ Some b → length b ≤ longest_input → IsScript b xs → HasMaster xs
+    ensures complete { (swap_time : ℕ) (report : Bool) (b : List ℕ) (xs : List I) → Name words.now (Command.Replay swap_time report) → S.remaining input.old ≡ Some b → length b ≤ longest_input → IsScript b xs → HasMaster xs
         → W.is_honest swap.new → W.is_truthful swap.new → (SwapRose (W.read_faults swap.old) (W.read_faults swap.new) → ⊥)
         → (Rose (S.faults input.old) (S.faults input.new) → ⊥) → (Rose (K.faults out.old) (K.faults out.new) → ⊥) → (Rose (K.zeros out.old) (K.zeros out.new) → ⊥)
         → IsCarriedOut b result }
@@ -134,7 +137,9 @@ pub fn run<S: Source, K: Sink, W: Truthful>(
     one_end_of_the_start();
     law_there_is_one();
     match command_of(alloc, words) {
-        Ok(Command::Replay { swap_time: _ }) => replay(alloc, input, out, swap),
+        Ok(Command::Replay { swap_time, report }) => {
+            replay(alloc, swap_time as u64, report, input, out, swap)
+        }
         Ok(Command::Check { simul }) => check(alloc, text_of(&simul), input, out),
         Ok(Command::Make { count, seed }) => make(alloc, count, seed, out),
         Err(WordsFault::BadWords) => Status::BadWords,

@@ -3,6 +3,7 @@
 
 mod check;
 mod command;
+mod conclude;
 mod finish;
 mod items;
 mod make;

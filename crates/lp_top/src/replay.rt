@@ -6,11 +6,12 @@ ghost use Rattle.lp_io.specs.Told.{IsPassedOn};
 ghost use Rattle.lp_language.specs.World.{World};
 ghost use Rattle.lp_world.specs.Closed.{IsClosed};
 ghost use Rattle.lp_driver.specs.Driving.{IsAtRest};
+ghost use Rattle.lp_driver.specs.Turning.{MayCome};
 ghost use Rattle.lp_script.specs.Reader.{GoneAtMost, Reads};
 ghost use Rattle.lp_top.specs.Causes.{BlamesInput, BlamesOutput, SwapTells, end_in, stop_status};
 ghost use Rattle.lp_top.specs.Replay.{AreOf, Interrupts, IsAtStart, IsDone, IsGoing, IsReplayEnd, IsRunning, Replays};
 
-use crate::finish::finish;
+use crate::conclude::conclude;
 use crate::opening::{Opening, next_item, open};
 use crate::status::{Faults, Status};
 use lp_asking::truth::Truthful;
@@ -42,7 +43,9 @@ fn carry_out<K: Sink, W: Truthful>(
     at: u64,
     out: &mut K,
     swap: &mut W,
+    swap_time: u64,
 ) -> Result<(), Status>
+    requires may { MayCome event.now }
     requires closed { IsClosed live.old }
     requires rest { (w : World) × IsAtRest (W.content swap.old) live.old w }
     ensures done { OnOk result (IsDone event.now (W.content swap.old) live.old (W.content swap.new) live.new (K.written out.old) (K.written out.new)) }
@@ -53,7 +56,7 @@ fn carry_out<K: Sink, W: Truthful>(
     ensures swap { SwapTells (end_in result) (W.content swap.new) (W.last swap.new) (W.read_faults swap.old) (W.read_faults swap.new)
         (W.is_truthful swap.old) (W.is_truthful swap.new) (W.is_honest swap.old) (W.is_honest swap.new) }
 {
-    let outs = match turn(live, swap, event) {
+    let outs = match turn(live, swap, swap_time, event) {
         Ok(outs) => outs,
         Err(fault) => return Err(stopped(fault, at)),
     };
@@ -70,7 +73,9 @@ fn carry<K: Sink, W: Truthful>(
     at: u64,
     out: &mut K,
     swap: &mut W,
+    swap_time: u64,
 ) -> Result<(), Status>
+    requires may { MayCome event }
     requires closed { IsClosed live.old }
     requires rest { (w : World) × IsAtRest (W.content swap.old) live.old w }
     ensures done { OnOk result (IsDone event (W.content swap.old) live.old (W.content swap.new) live.new (K.written out.old) (K.written out.new)) }
@@ -81,7 +86,7 @@ fn carry<K: Sink, W: Truthful>(
     ensures swap { SwapTells (end_in result) (W.content swap.new) (W.last swap.new) (W.read_faults swap.old) (W.read_faults swap.new)
         (W.is_truthful swap.old) (W.is_truthful swap.new) (W.is_honest swap.old) (W.is_honest swap.new) }
 {
-    carry_out(live, &event, at, out, swap)
+    carry_out(live, &event, at, out, swap, swap_time)
 }
 
 // Carries out the events up to the end.
@@ -90,10 +95,12 @@ fn events<S: Source, K: Sink, W: Truthful>(
     input: &mut S,
     out: &mut K,
     swap: &mut W,
+    swap_time: u64,
+    asks_report: bool,
     live: Live,
 ) -> Status
     requires { (from : Option (List ℕ)) × IsRunning reader.old (W.content swap.old) live from (K.written out.old) }
-    ensures replays { (b : List ℕ) (from : Option (List ℕ)) → IsRunning reader.old (W.content swap.old) live from (K.written out.old) → Reads b reader.old (S.remaining input.old) → Replays b result from (K.written out.new) }
+    ensures replays { (b : List ℕ) (from : Option (List ℕ)) → IsRunning reader.old (W.content swap.old) live from (K.written out.old) → Reads b reader.old (S.remaining input.old) → Replays asks_report b result from (K.written out.new) }
     ensures whole { result ≡ Status.Done → (b : List ℕ) → Reads b reader.old (S.remaining input.old) → S.remaining input.new ≡ Some [] }
     ensures most { (b : List ℕ) → Reads b reader.old (S.remaining input.old) → GoneAtMost b (S.remaining input.new) }
     ensures passed { result ≡ Status.Done → IsPassedOn (K.passed out.new) }
@@ -110,11 +117,11 @@ fn events<S: Source, K: Sink, W: Truthful>(
             Err(status) => return status,
         };
         match item {
-            Item::Event(event) => match carry(&mut live, event, reader.at(), out, swap) {
+            Item::Event(event) => match carry(&mut live, event, reader.at(), out, swap, swap_time) {
                 Ok(()) => {}
                 Err(status) => return status,
             },
-            Item::End => return finish(out, b"end\n"),
+            Item::End => return conclude(out, &live, asks_report),
             Item::Head(_, _) => unreachable!(),
             Item::File(_path, _bytes) => unreachable!(),
             Item::Start => unreachable!(),
@@ -128,11 +135,13 @@ fn begun<S: Source, K: Sink, W: Truthful>(
     input: &mut S,
     out: &mut K,
     swap: &mut W,
+    swap_time: u64,
+    asks_report: bool,
     live: Live,
     outs: &Outs,
 ) -> Status
     requires { (xs : List I) × IsGoing reader.old (W.content swap.old) live xs (outs.now ∷ []) }
-    ensures replays { (b : List ℕ) → Reads b reader.old (S.remaining input.old) → Replays b result (K.written out.old) (K.written out.new) }
+    ensures replays { (b : List ℕ) → Reads b reader.old (S.remaining input.old) → Replays asks_report b result (K.written out.old) (K.written out.new) }
     ensures whole { result ≡ Status.Done → (b : List ℕ) → Reads b reader.old (S.remaining input.old) → S.remaining input.new ≡ Some [] }
     ensures most { (b : List ℕ) → GoneAtMost b (S.remaining input.old) → Reads b reader.old (S.remaining input.old) → GoneAtMost b (S.remaining input.new) }
     ensures passed { result ≡ Status.Done → IsPassedOn (K.passed out.new) }
@@ -143,7 +152,7 @@ fn begun<S: Source, K: Sink, W: Truthful>(
         (W.is_truthful swap.old) (W.is_truthful swap.new) (W.is_honest swap.old) (W.is_honest swap.new) }
 {
     match write_outs(out, outs) {
-        Ok(()) => events(reader, input, out, swap, live),
+        Ok(()) => events(reader, input, out, swap, swap_time, asks_report, live),
         Err(_) => Status::OutputFault,
     }
 }
@@ -156,9 +165,11 @@ fn begin<S: Source, K: Sink, W: Truthful>(
     input: &mut S,
     out: &mut K,
     swap: &mut W,
+    swap_time: u64,
+    asks_report: bool,
 ) -> Status
     requires { IsAtStart reader.old opening }
-    ensures replays { (b : List ℕ) → Reads b reader.old (S.remaining input.old) → Replays b result (K.written out.old) (K.written out.new) }
+    ensures replays { (b : List ℕ) → Reads b reader.old (S.remaining input.old) → Replays asks_report b result (K.written out.old) (K.written out.new) }
     ensures whole { result ≡ Status.Done → (b : List ℕ) → Reads b reader.old (S.remaining input.old) → S.remaining input.new ≡ Some [] }
     ensures most { (b : List ℕ) → GoneAtMost b (S.remaining input.old) → Reads b reader.old (S.remaining input.old) → GoneAtMost b (S.remaining input.new) }
     ensures passed { result ≡ Status.Done → IsPassedOn (K.passed out.new) }
@@ -175,7 +186,16 @@ fn begin<S: Source, K: Sink, W: Truthful>(
         moment,
     } = opening;
     match start(alloc, store, seed, moment, swap) {
-        Ok((live, outs)) => begun(reader, input, out, swap, live, &outs),
+        Ok((live, outs)) => begun(
+            reader,
+            input,
+            out,
+            swap,
+            swap_time,
+            asks_report,
+            live,
+            &outs,
+        ),
         Err(StartFault::NoMaster { faults }) => Status::NoMaster {
             faults: Faults::from_vec(faults),
         },
@@ -183,14 +203,17 @@ fn begin<S: Source, K: Sink, W: Truthful>(
     }
 }
 
-/// Carries out a script.
+/// Carries out a script. What had no entry for `swap_time` seconds goes out after a tick, where the swap file tells what it holds;
+/// 0 means never. Where a report is asked for, its line follows the transcript.
 pub(crate) fn replay<S: Source, K: Sink, W: Truthful>(
     alloc: Global,
+    swap_time: u64,
+    asks_report: bool,
     input: &mut S,
     out: &mut K,
     swap: &mut W,
 ) -> Status
-    ensures replays { (b : List ℕ) → S.remaining input.old ≡ Some b → Replays b result (K.written out.old) (K.written out.new) }
+    ensures replays { (b : List ℕ) → S.remaining input.old ≡ Some b → Replays asks_report b result (K.written out.old) (K.written out.new) }
     ensures whole { result ≡ Status.Done → (b : List ℕ) → S.remaining input.old ≡ Some b → S.remaining input.new ≡ Some [] }
     ensures most { (b : List ℕ) → S.remaining input.old ≡ Some b → GoneAtMost b (S.remaining input.new) }
     ensures passed { result ≡ Status.Done → IsPassedOn (K.passed out.new) }
@@ -205,5 +228,14 @@ pub(crate) fn replay<S: Source, K: Sink, W: Truthful>(
         Ok(opening) => opening,
         Err(status) => return status,
     };
-    begin(alloc, opening, &mut reader, input, out, swap)
+    begin(
+        alloc,
+        opening,
+        &mut reader,
+        input,
+        out,
+        swap,
+        swap_time,
+        asks_report,
+    )
 }

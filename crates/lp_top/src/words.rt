@@ -3,7 +3,7 @@ ghost use Rattle.std.specs.Prelude.{◌≡◌, true, false, Err, IfOk, map, stri
 ghost use Rattle.std.specs.List.{list_all};
 ghost use Rattle.std.specs.Option.{option_copied};
 ghost use Rattle.clap.specs.Words.{HasMatchesOf, app_of, fault_of, is_simple_and_free, rule_of};
-ghost use Rattle.lp_top.specs.Words.{check_with, command_in, command_named as named, has_some, is_free_word, is_value as may_be_value, line_of, make_with, replay_with, wanted_value as wanted, taken_with, text_of};
+ghost use Rattle.lp_top.specs.Words.{check_with, command_in, command_named as named, has_some, is_set as is_option_set, is_free_word, is_value as may_be_value, line_of, make_with, replay_with, wanted_value as wanted, taken_with, text_of};
 ghost use Rattle.lp_top.specs.declared.words.WordsFault.TheVariants as fault;
 
 use crate::number::number_in;
@@ -16,8 +16,9 @@ use thiserror::Error;
 /// What the program is asked to do.
 #[derive(Debug, Drop)]
 pub enum Command {
-    /// Reads a script and writes its transcript. After so many seconds without an entry an object or a program is idle.
-    Replay { swap_time: u32 },
+    /// Reads a script and writes its transcript, and behind it, where a report is asked for, the line of its numbers. After so many
+    /// seconds without an entry an object or a program is idle.
+    Replay { swap_time: u32, report: bool },
     /// Reads a script and tells what is wrong with its files. With `simul` they see the functions of
     /// the file with this path as simul efuns.
     Check { simul: Option<FilePath> },
@@ -120,7 +121,10 @@ fn line<'a>(alloc: Global, name: CommandName) -> Result<Line<'a>, AllocError>
             let swap_time = Arg::new(alloc, "swap-time")
                 .long("swap-time")
                 .action(ArgAction::Set);
-            line.arg(swap_time)
+            let report = Arg::new(alloc, "report")
+                .long("report")
+                .action(ArgAction::SetTrue);
+            line.arg(swap_time)?.arg(report)
         }
         CommandName::Check => {
             let simul = Arg::new(alloc, "simul")
@@ -160,18 +164,30 @@ fn is_value(text: &str) -> bool
     }
 }
 
-// A replay with the value of `--swap-time`.
-fn replay_of(swap_time: Option<&str>) -> Result<Command, WordsFault>
-    ensures named { IfOk result (λ c. replay_with (option_copied swap_time.entry) ≡ Some c) }
-    ensures refused { result ≡ Err fault.BadWords → replay_with (option_copied swap_time.entry) ≡ None }
+// Whether an option without a value was given. Takes no memory.
+fn is_set(value: Option<&str>) -> bool
+    ensures { result ≡ is_option_set (option_copied value.entry) }
+{
+    match value {
+        Some(value) => value == "true",
+        None => false,
+    }
+}
+
+// A replay with the value of `--swap-time`, and whether `--report` was given.
+fn replay_of(swap_time: Option<&str>, report: bool) -> Result<Command, WordsFault>
+    ensures named { IfOk result (λ c. replay_with (option_copied swap_time.entry) report ≡ Some c) }
+    ensures refused { result ≡ Err fault.BadWords → replay_with (option_copied swap_time.entry) report ≡ None }
 {
     match swap_time {
         None => Ok(Command::Replay {
             swap_time: USUAL_SWAP_TIME,
+            report,
         }),
         Some(value) => match number_in(0, MOST_SWAP_TIME, Some(value)) {
             Some(number) => Ok(Command::Replay {
                 swap_time: number as u32,
+                report,
             }),
             None => Err(WordsFault::BadWords),
         },
@@ -218,7 +234,10 @@ fn command_with(alloc: Global, name: CommandName, words: &[String]) -> Result<Co
 {
     let matches = matched(line(alloc, name)?, words)?;
     match name {
-        CommandName::Replay => replay_of(matches.get_str("swap-time")),
+        CommandName::Replay => {
+            let report = is_set(matches.get_str("report"));
+            replay_of(matches.get_str("swap-time"), report)
+        }
         CommandName::Check => check_of(alloc, matches.get_str("simul")),
         CommandName::Make => make_of(matches.get_str("count"), matches.get_str("seed")),
     }

@@ -110,7 +110,7 @@ fn swap_times(rt: HostRuntime) -> Result<(), Fail> {
 /// Items behind `start`, and the offset of the first one that is not spelled or does not fit.
 const REFUSED: [(&str, u64, &str); 4] = [
     ("connect 1\nline 2 1\nx\nend\n", 145, "to 1 6\nHello\n\n"),
-    ("connect 1\ntick 1\nend\n", 145, "to 1 6\nHello\n\n"),
+    ("connect 1\ntick 2\ntick 1\nend\n", 152, "to 1 6\nHello\n\n"),
     ("connect 1\nline 1 1\nx", 145, "to 1 6\nHello\n\n"),
     ("end\nx", 139, ""),
 ];

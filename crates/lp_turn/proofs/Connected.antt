@@ -145,7 +145,7 @@ object_free live o r f told programs w h = f told programs w h ∙ value_free w 
 logged_by : (k : ℕ) (s : State) (v : Value) (a b : Bool) → is_false s v ≡ a → is_open s.world k ≡ b → after_logon k (plain_done v) s ≡ (if a && b then done (closed k s) else done s)
 logged_by k s v a b e f = ap (λ x. if x && is_open s.world k then done (closed k s) else done s) e ∙ ap (λ x. if a && x then done (closed k s) else done s) f
 
-false_in : (g : Option Bytes) (programs : List RawProgram) (live : Live) (s : State) (v : Value) → Stands g programs live s.world → is_false s v ≡ is_zero (live_in live.objects) v
+pub false_in : (g : Option Bytes) (programs : List RawProgram) (live : Live) (s : State) (v : Value) → Stands g programs live s.world → is_false s v ≡ is_zero (live_in live.objects) v
 unfolding is_false
 false_in g programs live s v h = ap (λ l. is_zero l v) (sym (live_same g programs live s.world h))
 
@@ -162,22 +162,23 @@ stays_open live k v a b n e f g programs before s h = record {
 }
 
 -- What is asked, by the parts of the call.
-abbrev pub asks_with : Asked → Option ObjId → List Value → State → Waiting → Course (Unit {0})
-asks_with asked player arguments t waiting = Asks (question (asked_of asked) arguments (driver player) (begun player t)) (λ o. waiting_course waiting o.answer (after (begun player t) o))
+abbrev pub asks_with : Asked → Option ObjId → Option ObjId → List Value → State → Waiting → Course (Unit {0})
+asks_with asked player interactive arguments t waiting = Asks (question (asked_of asked) arguments (driver interactive) (begun player t)) (λ o. waiting_course waiting o.answer (after (begun player t) o))
 
-pub asks_as : (asked : Asked) (player : Option ObjId) (arguments : List Value) (t : State) (waiting : Waiting) (call : Call) → call.asked ≡ asked → call.player ≡ player → call.arguments.items ≡ arguments
-    → asks_with asked player arguments t waiting ≡ Asks (question_of call t) (λ o. waiting_course waiting o.answer (state_behind call t o))
-asks_as asked player arguments t waiting call a b c =
-    ap (λ x. asks_with x player arguments t waiting) (sym a) ∙ ap (λ x. asks_with call.asked x arguments t waiting) (sym b) ∙ ap (λ x. asks_with call.asked call.player x t waiting) (sym c)
+pub asks_as : (asked : Asked) (player interactive : Option ObjId) (arguments : List Value) (t : State) (waiting : Waiting) (call : Call) → call.asked ≡ asked → call.player ≡ player → call.interactive ≡ interactive
+    → call.arguments.items ≡ arguments → asks_with asked player interactive arguments t waiting ≡ Asks (question_of call t) (λ o. waiting_course waiting o.answer (state_behind call t o))
+asks_as asked player interactive arguments t waiting call a b i c =
+    ap (λ x. asks_with x player interactive arguments t waiting) (sym a) ∙ ap (λ x. asks_with call.asked x interactive arguments t waiting) (sym b)
+    ∙ ap (λ x. asks_with call.asked call.player x arguments t waiting) (sym i) ∙ ap (λ x. asks_with call.asked call.player call.interactive x t waiting) (sym c)
 
 opened_more : (cs : List Connection) (k : ℕ) (o : ObjId) → map stands.connection_of (cs ++ record { number = k; object = o } ∷ []) ≡ map stands.connection_of cs ++ record { number = k; object = o } ∷ []
 opened_more [] k o = refl
 opened_more (c ∷ cs) k o = ap (λ l. stands.connection_of c ∷ l) (opened_more cs k o)
 
 -- An object gets a connection, and `logon` is called.
-pub logs_on : (live0 live1 : Live) (k : ℕ) (o : ObjId) (call : Call) → call.asked ≡ asks.Apply o (codes "logon") → call.player ≡ Some o → call.arguments.items ≡ [] → HasGiven k o live0 live1 → live_in live0.objects o ≡ true
+pub logs_on : (live0 live1 : Live) (k : ℕ) (o : ObjId) (call : Call) → call.asked ≡ asks.Apply o (codes "logon") → call.player ≡ Some o → call.interactive ≡ Some o → call.arguments.items ≡ [] → HasGiven k o live0 live1 → live_in live0.objects o ≡ true
     → BeginsWith (admitted k (Some o)) live0 live1 (steps.Asks call (waitings.Logon k o))
-logs_on live0 live1 k o call a b c e l =
+logs_on live0 live1 k o call a b i c e l =
     subst (λ x. BeginsWith (admitted k (Some o)) live0 x (steps.Asks call (waitings.Logon k o))) (sym e) (λ g programs before s h.
     let r = h.world.stands.rest in
     let t : State = record s { world = with_connection s.world k o } in
@@ -186,5 +187,5 @@ logs_on live0 live1 k o call a b c e l =
       rests = rests_connected g programs before live0 s (given_in k o live0.connections) t.world.connections s.world.highest s.world.present s.world.waiting h
           (opened_more live0.connections.opened k o ∙ ap (λ cs. cs ++ record { number = k; object = o } ∷ []) r.connections) r.highest r.present r.waiting;
       there = subst (λ x. IsAskedThere live0.objects x) (sym a) (live_row live0 o l);
-      course = asks_as (asks.Apply o (codes "logon")) (Some o) [] t (waitings.Logon k o) call a b c;
+      course = asks_as (asks.Apply o (codes "logon")) (Some o) (Some o) [] t (waitings.Logon k o) call a b i c;
     })

@@ -54,7 +54,7 @@ told_stop g programs w x player old mid new out h k o t =
 
 -- A value.
 pub gave : (g : Option Bytes) (live : Live) (player : Option ObjId) (v : Value) → HasValueOf player (ends.Ended (endings.Value v)) g live g live v
-gave g live player v programs before (Returned (Plain u)) s h i = record { done = plain_done u; value = sym i; state = s; rests = h; course = refl }
+gave g live player v programs before (Returned (Plain u)) s h i = record { done = plain_done u; value = sym i; end = refl; state = s; rests = h; course = refl }
 gave g live player v programs before (Returned (WasRead items pragmas)) s h i = absurd i
 gave g live player v programs before (Returned IsSound) s h i = absurd i
 gave g live player v programs before (Returned (IsFaulty fs)) s h i = absurd i
@@ -68,6 +68,7 @@ stopped told0 told1 live0 live1 player stop t programs before (course.Stopped x)
     record {
       done = record { value = zero_value; is_uncaught = true };
       value = refl;
+      end = refl;
       state = told (error_record x ∷ notice s.world player) s;
       rests = record {
         world = record { stands = e.0; compiled = h.world.compiled; shadows = h.world.shadows };

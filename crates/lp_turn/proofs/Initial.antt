@@ -47,18 +47,19 @@ pub starts_as : (first second : State → Course Start) (live0 live1 : Live) (r 
 starts_as first second live0 live1 r e h g programs before s i = subst (λ c. StartLeads r g programs before live1 c) (sym (e g programs before s i)) (h g programs before s i)
 
 -- what is asked, by the parts of the call
-abbrev start_asks_with : Asked → Option ObjId → List Value → State → StartWaiting → Course Start
-start_asks_with asked player arguments t waiting = Asks (question (asked_of asked) arguments (driver player) (begun player t)) (λ o. start_waiting waiting o.answer (after (begun player t) o))
+abbrev start_asks_with : Asked → Option ObjId → Option ObjId → List Value → State → StartWaiting → Course Start
+start_asks_with asked player interactive arguments t waiting = Asks (question (asked_of asked) arguments (driver interactive) (begun player t)) (λ o. start_waiting waiting o.answer (after (begun player t) o))
 
-start_asks_as : (asked : Asked) (player : Option ObjId) (arguments : List Value) (t : State) (waiting : StartWaiting) (call : Call) → call.asked ≡ asked → call.player ≡ player → call.arguments.items ≡ arguments
-    → start_asks_with asked player arguments t waiting ≡ Asks (question_of call t) (λ o. start_waiting waiting o.answer (state_behind call t o))
-start_asks_as asked player arguments t waiting call a b c =
-    ap (λ x. start_asks_with x player arguments t waiting) (sym a) ∙ ap (λ x. start_asks_with call.asked x arguments t waiting) (sym b) ∙ ap (λ x. start_asks_with call.asked call.player x t waiting) (sym c)
+start_asks_as : (asked : Asked) (player interactive : Option ObjId) (arguments : List Value) (t : State) (waiting : StartWaiting) (call : Call) → call.asked ≡ asked → call.player ≡ player → call.interactive ≡ interactive
+    → call.arguments.items ≡ arguments → start_asks_with asked player interactive arguments t waiting ≡ Asks (question_of call t) (λ o. start_waiting waiting o.answer (state_behind call t o))
+start_asks_as asked player interactive arguments t waiting call a b i c =
+    ap (λ x. start_asks_with x player interactive arguments t waiting) (sym a) ∙ ap (λ x. start_asks_with call.asked x interactive arguments t waiting) (sym b)
+    ∙ ap (λ x. start_asks_with call.asked call.player x arguments t waiting) (sym i) ∙ ap (λ x. start_asks_with call.asked call.player call.interactive x t waiting) (sym c)
 
 -- the first load
-pub starting_asks : (live : Live) (call : Call) → call.asked ≡ asks.Load master_name → call.player ≡ None → call.arguments.items ≡ [] → StartsWith starting live live (steps.Asks call waitings.First)
-starting_asks live call a b c g programs before s h =
-    record { state = s; rests = h; there = subst (λ x. IsAskedThere live.objects x) (sym a) tt; course = start_asks_as (asks.Load master_name) None [] s waitings.First call a b c }
+pub starting_asks : (live : Live) (call : Call) → call.asked ≡ asks.Load master_name → call.player ≡ None → call.interactive ≡ None → call.arguments.items ≡ [] → StartsWith starting live live (steps.Asks call waitings.First)
+starting_asks live call a b i c g programs before s h =
+    record { state = s; rests = h; there = subst (λ x. IsAskedThere live.objects x) (sym a) tt; course = start_asks_as (asks.Load master_name) None None [] s waitings.First call a b i c }
 
 -- Functions of the master.
 applied : (live : Live) (turn : State → Course Start) (m : ObjId) (f : StartFunction) (r : StartStep) → StartApplies m f r
@@ -72,7 +73,7 @@ applied live turn m f (steps.Asks call waiting) a t g programs before s h =
       state = s;
       rests = h;
       there = subst (λ x. IsAskedThere live.objects x) (sym a.asked) (live_row live m (sym (lives_in g programs live s.world m h.world.stands) ∙ named_lives s.world master_name m e.0));
-      course = e.1 ∙ start_asks_as (asks.Apply m (start_name f)) None (start_arguments f) s (waitings.Master f) call a.asked a.player a.arguments;
+      course = e.1 ∙ start_asks_as (asks.Apply m (start_name f)) None None (start_arguments f) s (waitings.Master f) call a.asked a.player a.interactive a.arguments;
     })
 
 pub start_applied : (live : Live) (m : ObjId) (f : StartFunction) (r : StartStep) → StartApplies m f r → IsMasterOf live.names (Some m) → StartGoes r (goings.Master f) live live
@@ -94,7 +95,7 @@ start_loads live f (steps.Asks call waiting) a n g programs before s h =
       state = s;
       rests = h;
       there = subst (λ x. IsAskedThere live.objects x) (sym a.asked) tt;
-      course = ap (λ c. and_then c (start_behind f)) (driver_none (start_name f) (start_arguments f) s e) ∙ start_asks_as (asks.Load master_name) None [] s (waitings.Load f) call a.asked a.player a.arguments;
+      course = ap (λ c. and_then c (start_behind f)) (driver_none (start_name f) (start_arguments f) s e) ∙ start_asks_as (asks.Load master_name) None None [] s (waitings.Load f) call a.asked a.player a.interactive a.arguments;
     })
 
 pub start_unloaded : (live0 live1 : Live) (f : StartFunction) (r : StartStep) → IsMasterOf live0.names None → StartsWith (start_without f) live0 live1 r → StartGoes r (goings.Loaded f) live0 live1
@@ -158,7 +159,7 @@ simul_clone live0 live1 name r None n e f t = λ g programs before s h.
     subst (λ c. StartLeads r g programs before live1 c) (sym (clone_as name s (found_in live0 (as_name name) None n g programs before s h) f)) (t g programs before (begun None s) (rests_begun g programs before live0 s h))
 
 asked_as : (name spelled : List ℕ) (s : State) → object_named s.world (as_name name) ≡ None → is_clone_name (as_name name) ≡ false → chars spelled ≡ as_name name
-    → loading_simul name s ≡ start_asks_with (asks.Load (as_name name)) None [] s (waitings.Simul spelled)
+    → loading_simul name s ≡ start_asks_with (asks.Load (as_name name)) None None [] s (waitings.Simul spelled)
 unfolding targeting
 asked_as name spelled s e f q = loading_is name s None false e f ∙ ap (λ x. asked_by name x s) (sym q)
   where
@@ -177,7 +178,7 @@ simul_asked live name (steps.Asks call waiting) None n e f a = λ g programs bef
       state = s;
       rests = h;
       there = subst (λ x. IsAskedThere live.objects x) (sym a.asked) tt;
-      course = asked_as name a.spelled s (found_in live (as_name name) None n g programs before s h) f a.spells ∙ start_asks_as (asks.Load (as_name name)) None [] s (waitings.Simul a.spelled) call a.asked a.player a.arguments;
+      course = asked_as name a.spelled s (found_in live (as_name name) None n g programs before s h) f a.spells ∙ start_asks_as (asks.Load (as_name name)) None None [] s (waitings.Simul a.spelled) call a.asked a.player a.interactive a.arguments;
     })
 
 -- it is loaded where it does not live

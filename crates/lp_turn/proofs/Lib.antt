@@ -9,3 +9,9 @@ pub mod Initial
 pub mod Opened
 pub mod Remembered
 pub mod Preloaded
+pub mod Timed
+pub mod CalledOut
+pub mod Searched
+pub mod Beaten
+pub mod Watched
+pub mod TickEnded

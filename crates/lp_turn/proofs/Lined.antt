@@ -70,16 +70,16 @@ not_taken live0 live1 live2 k o x text a b e =
     })
 
 pub taken : (live0 live1 live2 : Live) (k : ℕ) (o : ObjId) (x : Taker) (text : List ℕ) (call : Call) → IsShown k x.hides live0 live1 → HasTakenLine k live1 live2 → live_in live2.objects x.object ≡ true
-    → call.asked ≡ asks.Apply x.object x.function → call.player ≡ Some o → call.arguments.items ≡ values.Str text ∷ x.arguments → BeginsWith (line_taken k o (waiting_of x) text) live0 live2 (steps.Asks call (waitings.Line o))
+    → call.asked ≡ asks.Apply x.object x.function → call.player ≡ Some o → call.interactive ≡ Some o → call.arguments.items ≡ values.Str text ∷ x.arguments → BeginsWith (line_taken k o (waiting_of x) text) live0 live2 (steps.Asks call (waitings.Line o))
 unfolding taking
-taken live0 live1 live2 k o x text call a b e c d f =
+taken live0 live1 live2 k o x text call a b e c d i f =
     let q = live_is live0 live1 live2 k x a b in
     let lives : live_in live0.objects x.object ≡ true = ap (λ (l : Live). live_in l.objects x.object) (sym q) ∙ e in
     subst (λ l. BeginsWith (line_taken k o (waiting_of x) text) live0 l (steps.Asks call (waitings.Line o))) (sym q) (λ g programs before s h. record {
       state = after_line k x s;
       rests = rests_after g programs before live0 s k x h;
       there = subst (λ y. IsAskedThere live0.objects y) (sym c) (live_row live0 x.object lives);
-      course = taking_is g programs live0 s k o x text true h.world.stands lives ∙ asks_as (asks.Apply x.object x.function) (Some o) (values.Str text ∷ x.arguments) (after_line k x s) (waitings.Line o) call c d f;
+      course = taking_is g programs live0 s k o x text true h.world.stands lives ∙ asks_as (asks.Apply x.object x.function) (Some o) (Some o) (values.Str text ∷ x.arguments) (after_line k x s) (waitings.Line o) call c d i f;
     })
 
 -- What takes a line, or a command.

@@ -54,7 +54,7 @@ applied live turn m f (steps.Asks call waiting) a t g programs before s h =
       state = s;
       rests = h;
       there = subst (λ x. IsAskedThere live.objects x) (sym a.asked) (live_row live m (sym (lives_in g programs live s.world m h.world.stands) ∙ named_lives s.world master_name m e.0));
-      course = e.1 ∙ asks_as (asks.Apply m (name_of f)) None (arguments_of f) s (waitings.Master f) call a.asked a.player a.arguments;
+      course = e.1 ∙ asks_as (asks.Apply m (name_of f)) None None (arguments_of f) s (waitings.Master f) call a.asked a.player a.interactive a.arguments;
     })
 
 pub named_is : (live : Live) (q : Option ObjId) → IsMasterOf live.names q → (g : Option Bytes) (programs : List RawProgram) (before : List Out) (s : State) → Rests g programs before live s → object_named s.world master_name ≡ q
@@ -78,7 +78,7 @@ master_loaded live f (steps.Asks call waiting) a n g programs before s h =
       state = s;
       rests = h;
       there = subst (λ x. IsAskedThere live.objects x) (sym a.asked) tt;
-      course = ap (λ c. and_then c (behind f)) (driver_none (name_of f) (arguments_of f) s e) ∙ asks_as (asks.Load master_name) None [] s (waitings.Load f) call a.asked a.player a.arguments;
+      course = ap (λ c. and_then c (behind f)) (driver_none (name_of f) (arguments_of f) s e) ∙ asks_as (asks.Load master_name) None None [] s (waitings.Load f) call a.asked a.player a.interactive a.arguments;
     })
 
 -- there is no master then either

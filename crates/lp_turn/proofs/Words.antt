@@ -19,6 +19,18 @@ pub chars-logon : chars (codes "logon") ≡ codes "logon"
 unfolding chars
 chars-logon = refl
 
+pub chars-heart_beat : chars (codes "heart_beat") ≡ codes "heart_beat"
+unfolding chars
+chars-heart_beat = refl
+
+pub chars-reset : chars (codes "reset") ≡ codes "reset"
+unfolding chars
+chars-reset = refl
+
+pub chars-clean_up : chars (codes "clean_up") ≡ codes "clean_up"
+unfolding chars
+chars-clean_up = refl
+
 pub chars-nothing : chars (codes "") ≡ codes ""
 unfolding chars
 chars-nothing = refl

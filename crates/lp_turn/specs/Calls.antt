@@ -25,9 +25,9 @@ asked_of (asks.Apply o name) = course.Apply o name
 asked_of (asks.Command o line) = course.Command o line
 asked_of (asks.Load name) = course.Load name course.Wanted
 
--- A CALL OF THE DRIVER asks for its player, with the full budget and no running command.
+-- A CALL OF THE DRIVER asks for its `this_player()` and its `this_interactive()`, with the full budget and no running command.
 abbrev pub question_of : Call → State → Ask
-question_of c s = question (asked_of c.asked) c.arguments.items (driver c.player) (begun c.player s)
+question_of c s = question (asked_of c.asked) c.arguments.items (driver c.interactive) (begun c.player s)
 
 -- the state behind an outcome of it
 abbrev pub state_behind : Call → State → Outcome → State

@@ -1,5 +1,5 @@
 -- What the driver does where its calls end.
-use Rattle.std.specs.Prelude.{◌≡◌, ◌++◌, ◌∷◌, ℕ, List, Option}
+use Rattle.std.specs.Prelude.{◌≡◌, ◌++◌, ◌∷◌, ℕ, List, Option, Bool, true, false}
 use Rattle.lp_values.specs.declared.id.ObjId.{ObjId}
 use Rattle.lp_values.specs.declared.value.Value.{Value}
 use Rattle.lp_code.specs.declared.program.RawProgram.{RawProgram}
@@ -13,10 +13,12 @@ use Rattle.lp_meaning.specs.EventTurns.{Done, notice}
 use Rattle.lp_world.specs.declared.live.Live.{Live}
 use Rattle.lp_world.specs.Stands.{Stands}
 use Rattle.lp_asking.specs.Endings.{IsStop}
+use Rattle.lp_asking.specs.declared.ending.Ending.TheVariants as endings
 use Rattle.lp_asking.specs.declared.ending.Stop.{Stop}
 use Rattle.lp_turn.specs.Calls.{IsEndOf, load_course, value_course}
 use Rattle.lp_turn.specs.Resting.{Rests}
 use Rattle.lp_turn.specs.declared.job.CallEnd.{CallEnd}
+use Rattle.lp_turn.specs.declared.job.CallEnd.TheVariants as ends
 
 -- A record and what the player is told are the next outputs, and nothing else changed.
 abbrev pub TellsBoth : Option ObjId → Out → Live → Live → Type 0
@@ -29,10 +31,17 @@ Tells player stop told0 old told1 new =
     (programs : List RawProgram) (w : World) (x : course.Stop) → Stands told0 programs old w → IsStop programs w stop x
     → Stands told1 programs new w × (new.outputs ≡ old.outputs ++ (askers.error_record x ∷ notice w player))
 
--- a course gives the driver a value in a state for which the live state stands
-pub record GivesValue (told : Option Bytes) (programs : List RawProgram) (before : List Out) (live : Live) (v : Value) (c : Course Done) : Type 0 where
+-- whether an end was uncaught
+abbrev pub is_uncaught : CallEnd → Bool
+is_uncaught (ends.Ended (endings.Value v)) = false
+is_uncaught (ends.Ended (endings.Stopped x)) = true
+is_uncaught (ends.Faulty fs) = false
+
+-- a course gives the driver a value in a state for which the live state stands, and tells whether the end was uncaught
+pub record GivesValue (told : Option Bytes) (programs : List RawProgram) (before : List Out) (live : Live) (v : Value) (uncaught : Bool) (c : Course Done) : Type 0 where
   pub done : Done
   pub value : done.value ≡ v
+  pub end : done.is_uncaught ≡ uncaught
   pub state : State
   pub rests : Rests told programs before live state
   pub course : c ≡ gives done state
@@ -41,7 +50,7 @@ pub record GivesValue (told : Option Bytes) (programs : List RawProgram) (before
 abbrev pub HasValueOf : Option ObjId → CallEnd → Option Bytes → Live → Option Bytes → Live → Value → Type 0
 HasValueOf player end told0 old told1 new v =
     (programs : List RawProgram) (before : List Out) (a : Answer) (s : State) → Rests told0 programs before old s → IsEndOf programs s.world end a
-    → GivesValue told1 programs before new v (value_course player a s)
+    → GivesValue told1 programs before new v (is_uncaught end) (value_course player a s)
 
 -- and the load of an object, of whose value nothing is said
 pub record IsLoaded (told : Option Bytes) (programs : List RawProgram) (before : List Out) (live : Live) (c : Course Done) : Type 0 where

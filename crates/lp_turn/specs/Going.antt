@@ -68,10 +68,3 @@ Takes waiting end told0 live0 told1 live1 going =
 abbrev pub AreStepValuesThere : Store → Step → Type 0
 AreStepValuesThere cells (steps.Asks call waiting) = All (IsThere cells) call.arguments.items
 AreStepValuesThere cells steps.Ends = ⊤
-
-abbrev pub IsGoingThere : Store → Going → Type 0
-IsGoingThere cells (goings.Master f) = ⊤
-IsGoingThere cells (goings.Loaded f) = ⊤
-IsGoingThere cells (goings.Admit k v) = IsThere cells v
-IsGoingThere cells (goings.Logged k v) = IsThere cells v
-IsGoingThere cells goings.Done = ⊤

@@ -8,6 +8,7 @@ use Rattle.lp_turn.specs.declared.job.Step.{Step}
 use Rattle.lp_turn.specs.declared.job.Step.TheVariants as steps
 use Rattle.lp_turn.specs.declared.job.Waiting.{Waiting}
 use Rattle.lp_turn.specs.declared.job.Waiting.TheVariants as waitings
+use Rattle.lp_turn.specs.Ticks.{tick_calls_behind, tick_calls_left}
 use Rattle.lp_turn.specs.declared.start_job.StartFunction.{StartFunction}
 use Rattle.lp_turn.specs.declared.start_job.StartFunction.TheVariants as start_functions
 use Rattle.lp_turn.specs.declared.start_job.StartGoing.{StartGoing}
@@ -30,6 +31,7 @@ calls_left (goings.Master f) = 2 + calls_after f
 calls_left (goings.Loaded f) = 1 + calls_after f
 calls_left (goings.Admit k v) = 1
 calls_left (goings.Logged k v) = 0
+calls_left (goings.Tick g) = tick_calls_left g
 calls_left goings.Done = 0
 
 abbrev pub calls_behind : Waiting → ℕ
@@ -37,6 +39,7 @@ calls_behind (waitings.Load f) = 1 + calls_after f
 calls_behind (waitings.Master f) = calls_after f
 calls_behind (waitings.Logon k o) = 0
 calls_behind (waitings.Line o) = 0
+calls_behind (waitings.Tick w) = tick_calls_behind w
 
 -- what is asked leaves fewer
 abbrev pub AsksFewer : Step → ℕ → Type 0

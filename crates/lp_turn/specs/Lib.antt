@@ -1,5 +1,7 @@
 pub mod Resting
 pub mod Calls
+pub mod Due
+pub mod Ticks
 pub mod Turns
 pub mod Connections
 pub mod Lines
@@ -11,3 +13,4 @@ pub mod Starting
 pub mod Left
 pub mod StartSteps
 pub mod StartEnds
+pub mod TickSteps

@@ -24,6 +24,7 @@ IsMasterOf table r = (w : World) → names.Stands table (map named_of w.objects)
 pub record IsApply (m : ObjId) (f : MasterFunction) (call : Call) (waiting : Waiting) : Type 0 where
   pub asked : call.asked ≡ asks.Apply m (name_of f)
   pub player : call.player ≡ None
+  pub interactive : call.interactive ≡ None
   pub arguments : call.arguments.items ≡ arguments_of f
   pub waits : waiting ≡ waitings.Master f
 
@@ -35,6 +36,7 @@ Applies m f steps.Ends = ⊥
 pub record IsLoad (f : MasterFunction) (call : Call) (waiting : Waiting) : Type 0 where
   pub asked : call.asked ≡ asks.Load master_name
   pub player : call.player ≡ None
+  pub interactive : call.interactive ≡ None
   pub arguments : call.arguments.items ≡ []
   pub waits : waiting ≡ waitings.Load f
 

@@ -22,6 +22,7 @@ use Rattle.lp_turn.specs.declared.start_job.StartWaiting.TheVariants as waitings
 pub record IsStartApply (m : ObjId) (f : StartFunction) (call : Call) (waiting : StartWaiting) : Type 0 where
   pub asked : call.asked ≡ asks.Apply m (start_name f)
   pub player : call.player ≡ None
+  pub interactive : call.interactive ≡ None
   pub arguments : call.arguments.items ≡ start_arguments f
   pub waits : waiting ≡ waitings.Master f
 
@@ -34,6 +35,7 @@ StartApplies m f (steps.NoMaster fs) = ⊥
 pub record IsStartLoad (f : StartFunction) (call : Call) (waiting : StartWaiting) : Type 0 where
   pub asked : call.asked ≡ asks.Load master_name
   pub player : call.player ≡ None
+  pub interactive : call.interactive ≡ None
   pub arguments : call.arguments.items ≡ []
   pub waits : waiting ≡ waitings.Load f
 
@@ -62,6 +64,7 @@ untargeted s = with_epilog (told (outs.Log (codes "error: Bad target") ∷ []) s
 pub record IsSimulLoad (name : List ℕ) (call : Call) (waiting : StartWaiting) : Type 0 where
   pub asked : call.asked ≡ asks.Load name
   pub player : call.player ≡ None
+  pub interactive : call.interactive ≡ None
   pub arguments : call.arguments.items ≡ []
   pub spelled : List ℕ
   pub spells : chars spelled ≡ name

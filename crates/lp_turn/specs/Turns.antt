@@ -7,6 +7,7 @@ use Rattle.lp_language.specs.World.{object_named}
 use Rattle.lp_meaning.specs.EventTurns.{Done, admitted, after_logon, applied_if, done, driver_master, free_object}
 use Rattle.lp_meaning.specs.WorldSteps.{master_name}
 use Rattle.lp_turn.specs.Calls.{load_course, value_course}
+use Rattle.lp_turn.specs.Ticks.{tick_going, tick_waiting}
 use Rattle.lp_turn.specs.declared.job.Going.{Going}
 use Rattle.lp_turn.specs.declared.job.Going.TheVariants as goings
 use Rattle.lp_turn.specs.declared.job.MasterFunction.{MasterFunction}
@@ -38,6 +39,7 @@ going_course (goings.Master f) s = and_then (driver_master (name_of f) (argument
 going_course (goings.Loaded f) s = and_then (applied_if (object_named s.world master_name) (name_of f) (arguments_of f) s) (behind f)
 going_course (goings.Admit k v) s = admitted k (free_object s.world v) s
 going_course (goings.Logged k v) s = after_logon k (plain_done v) s
+going_course (goings.Tick g) s = tick_going g s
 going_course goings.Done s = done s
 
 -- WHAT IS LEFT of a turn that waits, behind an answer of its call, in the state then.
@@ -47,3 +49,4 @@ waiting_course (waitings.Load f) a s =
 waiting_course (waitings.Master f) a s = and_then (value_course None a s) (behind f)
 waiting_course (waitings.Logon k o) a s = and_then (value_course (Some o) a s) (λ d s. after_logon k d s)
 waiting_course (waitings.Line o) a s = and_then (value_course (Some o) a s) (λ d s. done s)
+waiting_course (waitings.Tick w) a s = tick_waiting w a s

@@ -93,6 +93,7 @@ fn log_on(live: &mut Live, number: u32, o: ObjId) -> Result<Step, AllocError>
         Call {
             asked: Asked::Apply(o, name),
             player: Some(o),
+            interactive: Some(o),
             arguments: Vec::new(live.alloc),
         },
         Waiting::Logon(number, o),

@@ -10,6 +10,7 @@ ghost use Rattle.lp_world.specs.Closed.{IsClosed};
 
 use crate::ends::{loaded, value_of};
 use crate::job::{CallEnd, Going, MasterFunction, Waiting};
+use crate::tick_feed::take_tick;
 use lp_residence::answers::EnterFault;
 use lp_swapfile::SwapFile;
 use lp_values::id::ObjId;
@@ -132,5 +133,6 @@ pub fn feed<W: SwapFile>(
         Waiting::Master(f) => take_master(live, swap, f, end),
         Waiting::Logon(number, o) => take_logon(live, swap, number, o, end),
         Waiting::Line(o) => take_line(live, swap, o, end),
+        Waiting::Tick(waiting) => take_tick(live, swap, waiting, end),
     }
 }

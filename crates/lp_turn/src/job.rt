@@ -1,4 +1,5 @@
 //! Turns, as they stand between the calls of the driver.
+use crate::tick_job::{TickGoing, TickWaiting};
 use lp_asking::ending::Ending;
 use lp_tree::fault::Fault;
 use lp_values::id::ObjId;
@@ -21,8 +22,10 @@ pub enum Asked {
 pub struct Call {
     /// What is asked.
     pub asked: Asked,
-    /// `this_player()`, which is `this_interactive()` too.
+    /// `this_player()`.
     pub player: Option<ObjId>,
+    /// `this_interactive()`.
+    pub interactive: Option<ObjId>,
     /// With which arguments.
     pub arguments: Vec<Value>,
 }
@@ -56,12 +59,14 @@ pub enum Going {
     Admit(u32, Value),
     /// `logon` has answered.
     Logged(u32, Value),
+    /// A step of a tick goes on.
+    Tick(TickGoing),
     /// There is nothing left.
     Done,
 }
 
 /// What a turn waits for.
-#[derive(Clone, Copy, Debug, PartialEq, Eq)]
+#[derive(Drop)]
 pub enum Waiting {
     /// The load of the master, for this function of it.
     Load(MasterFunction),
@@ -71,6 +76,8 @@ pub enum Waiting {
     Logon(u32, ObjId),
     /// The command of an object, or its function that took the line.
     Line(ObjId),
+    /// A call of a step of a tick.
+    Tick(TickWaiting),
 }
 
 /// What a turn does next.

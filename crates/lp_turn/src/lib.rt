@@ -4,9 +4,11 @@
 #![tactic(auto)]
 
 pub mod begin;
+mod call_outs;
 mod connecting;
 mod ends;
 pub mod feed;
+mod heart_beats;
 pub mod job;
 mod lines;
 mod master;
@@ -18,3 +20,8 @@ pub mod start_feed;
 pub mod start_job;
 mod start_master;
 pub mod starting;
+mod tick_feed;
+pub mod tick_job;
+mod tick_next;
+pub mod ticks;
+mod watches;

@@ -78,13 +78,14 @@ fn take_line(live: &mut Live, number: u32)
 
 /// The call of a function that waited, with the line and what was kept for it.
 fn call_of(o: ObjId, x: Taker, text: Text) -> Result<Call, AllocError>
-    ensures { IfOk result (λ c. c ≡ record { asked = Asked.Apply x.object x.function; player = Some o; arguments = c.arguments } × (c.arguments.items ≡ V.Str text ∷ x.arguments)) }
+    ensures { IfOk result (λ c. c ≡ record { asked = Asked.Apply x.object x.function; player = Some o; interactive = Some o; arguments = c.arguments } × (c.arguments.items ≡ V.Str text ∷ x.arguments)) }
 {
     let mut arguments = x.arguments.into_vec();
     arguments.insert(0, Value::Str(text))?;
     Ok(Call {
         asked: Asked::Apply(x.object, x.function),
         player: Some(o),
+        interactive: Some(o),
         arguments,
     })
 }
@@ -114,6 +115,7 @@ fn command(alloc: Global, o: ObjId, text: Text) -> Step
         Call {
             asked: Asked::Command(o, text),
             player: Some(o),
+            interactive: Some(o),
             arguments: Vec::new(alloc),
         },
         Waiting::Line(o),

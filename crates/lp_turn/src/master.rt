@@ -65,6 +65,7 @@ fn apply(alloc: Global, m: ObjId, f: MasterFunction) -> Result<Step, AllocError>
         Call {
             asked: Asked::Apply(m, name),
             player: None,
+            interactive: None,
             arguments,
         },
         Waiting::Master(f),
@@ -82,6 +83,7 @@ fn load(alloc: Global, f: MasterFunction) -> Result<Step, AllocError>
         Call {
             asked: Asked::Load(name),
             player: None,
+            interactive: None,
             arguments: Vec::new(alloc),
         },
         Waiting::Load(f),

@@ -7,13 +7,14 @@ ghost use Rattle.lp_world.specs.Closed.{IsClosed};
 use crate::connecting::{admit, logged};
 use crate::job::{Going, Step};
 use crate::master::{call_loaded, call_master};
+use crate::tick_next::tick_on;
 use lp_world::live::Live;
 use std::alloc::AllocError;
 
 /// A turn goes on: it tells which call it asks for, or that it is over.
 ///
 /// # Errors
-/// Where memory runs out; the state is closed then.
+/// Where memory runs out, and where a call-out waits for an object that the state does not have; the state is closed then.
 pub fn next(going: Going, live: &mut Live) -> Result<Step, AllocError>
     requires closed { IsClosed live.old }
     ensures goes { IfOk result (λ r. Goes r going live.old live.new) }
@@ -26,6 +27,7 @@ pub fn next(going: Going, live: &mut Live) -> Result<Step, AllocError>
         Going::Loaded(f) => call_loaded(live, f),
         Going::Admit(number, v) => admit(live, number, &v),
         Going::Logged(number, v) => logged(live, number, &v),
+        Going::Tick(going) => tick_on(live, going),
         Going::Done => Ok(Step::Ends),
     }
 }

@@ -29,7 +29,7 @@ fn name_of(alloc: Global, f: &StartFunction) -> Result<Text, AllocError>
 }
 
 /// One argument.
-fn one(alloc: Global, v: Value) -> Result<Vec<Value>, AllocError>
+pub(crate) fn one(alloc: Global, v: Value) -> Result<Vec<Value>, AllocError>
     ensures { IfOk result (λ vs. vs.items ≡ v ∷ []) }
 {
     let mut arguments = Vec::new(alloc);
@@ -69,6 +69,7 @@ pub(crate) fn apply(alloc: Global, m: ObjId, f: StartFunction) -> Result<StartSt
         Call {
             asked: Asked::Apply(m, name),
             player: None,
+            interactive: None,
             arguments,
         },
         StartWaiting::Master(f),
@@ -86,6 +87,7 @@ fn load(alloc: Global, f: StartFunction) -> Result<StartStep, AllocError>
         Call {
             asked: Asked::Load(name),
             player: None,
+            interactive: None,
             arguments: Vec::new(alloc),
         },
         StartWaiting::Load(f),

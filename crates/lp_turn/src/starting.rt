@@ -40,6 +40,7 @@ pub fn start(live: &Live) -> Result<StartStep, AllocError>
         Call {
             asked: Asked::Load(name),
             player: None,
+            interactive: None,
             arguments: Vec::new(live.alloc),
         },
         StartWaiting::First,
@@ -82,6 +83,7 @@ fn ask_simul(alloc: Global, name: &[char], text: String) -> Result<StartStep, Al
         Call {
             asked: Asked::Load(wanted),
             player: None,
+            interactive: None,
             arguments: Vec::new(alloc),
         },
         StartWaiting::Simul(Name::from_string(text)),

@@ -14,10 +14,13 @@ use lp_world::live::Live;
 use std::alloc::{AllocError, Global};
 use std::test::Fail;
 
-/// What a turn waits for that asks for a load.
-fn load_awaited(step: Step) -> Option<Waiting> {
+/// The function of the master for which a turn asks for a load.
+fn load_awaited(step: Step) -> Option<MasterFunction> {
     match step {
-        Step::Asks(call, waiting) => if is_load(&call) { Some(waiting) } else { None },
+        Step::Asks(call, waiting) => match waiting {
+            Waiting::Load(f) => if is_load(&call) { Some(f) } else { None },
+            _ => None,
+        },
         Step::Ends => None,
     }
 }
@@ -58,10 +61,10 @@ fn first_step(live: &mut Live, number: u32) -> Result<Step, AllocError>
 fn connection_without_a_master_is_closed(rt: HostRuntime) -> Result<(), Fail> {
     let mut live = new_state(rt.alloc());
     let step = first_step(&mut live, 1)?;
-    let waiting = Waiting::Load(MasterFunction::Connect(1));
-    assert!(rt; load_awaited(step) == Some(waiting), "the master is loaded");
+    let f = MasterFunction::Connect(1);
+    assert!(rt; load_awaited(step) == Some(f), "the master is loaded");
     let end = not_found(rt.alloc(), "/secure/master.c")?;
-    let going = fed(&mut live, waiting, end)?;
+    let going = fed(&mut live, Waiting::Load(f), end)?;
     assert!(rt; ends(&mut live, going)?, "there is none");
     assert!(rt;
         logs(&live, 0, "error: Could not load /secure/master")?,

@@ -6,11 +6,10 @@ mod no_swap;
 use crate::no_swap::NoSwap;
 use lp_asking::truth::Truthful;
 use lp_io::{Sink, StdSink, StdSource};
-use lp_swapfile::DiskSwap;
-use lp_top::{Status, code, run};
+use lp_memory_file::MemoryFile;
+use lp_top::{Faults, Status, code, run};
 use std::env::{self, FillError};
-use std::fs::{File, OpenOptions};
-use std::io::{self, BufWriter, ErrorKind};
+use std::io::{BufWriter, ErrorKind};
 use std::process::ExitCode;
 use std::rt::Env;
 
@@ -80,36 +79,42 @@ fn is_replay(words: &[String]) -> bool {
     }
 }
 
-/// The file `mud.swap` in the current folder, made empty.
-fn swap_file(rt: &HostRuntime) -> io::Result<File> {
-    let mut options = OpenOptions::new();
-    options.read(true).write(true).create(true).truncate(true);
-    options.open(rt, "mud.swap")
-}
-
-/// A replay whose swap file cannot be made goes on without one: then nothing goes out.
-fn replayed(rt: &HostRuntime, words: &[String]) -> Status {
-    match swap_file(rt) {
-        Ok(file) => carried_out(rt, words, &mut DiskSwap::new(file)),
-        Err(_) => carried_out(rt, words, &mut NoSwap::new()),
+/// Tells on standard error why no master is made: a line for each fault, as a check writes it.
+fn tell_faults(rt: &HostRuntime, faults: &Faults) {
+    for fault in faults.as_slice() {
+        let file = fault.file.as_str();
+        let line = fault.line;
+        let text = fault.kind.text();
+        let _ = eprintln!(rt; "{file} line {line}: {text}");
     }
 }
 
+/// Tells on standard error how the program ends, where it is not well.
+fn tell_status(rt: &HostRuntime, status: &Status) {
+    if let Status::NoMaster { faults } = status {
+        tell_faults(rt, faults);
+    }
+    let number = code(status);
+    if number != 0 {
+        let _ = eprintln!(rt; "mud: status {number}");
+    }
+}
+
+/// A replay puts what is idle into a swap file in memory, which tells what it holds. The other commands have none.
 fn status(rt: &HostRuntime) -> Status {
     let words = match words(rt) {
         Ok(words) => words,
         Err(status) => return status,
     };
     if is_replay(words.as_slice()) {
-        return replayed(rt, words.as_slice());
+        let mut swap = MemoryFile::new(rt.alloc());
+        return carried_out(rt, words.as_slice(), &mut swap);
     }
     carried_out(rt, words.as_slice(), &mut NoSwap::new())
 }
 
 fn main(rt: HostRuntime) -> ExitCode {
-    let number = code(&status(&rt));
-    if number != 0 {
-        let _ = eprintln!(rt; "mud: status {number}");
-    }
-    ExitCode::from(number)
+    let status = status(&rt);
+    tell_status(&rt, &status);
+    ExitCode::from(code(&status))
 }

@@ -3,7 +3,7 @@ use Rattle.lp_top.proofs.Completeness.{completes}
 use Rattle.lp_top.proofs.Swapping.{still-tells, never-blamed, check-calm, make-calm}
 use Rattle.lp_top.proofs.Checking.{completes_check, checks_unread, replays_unread}
 use Rattle.lp_top.specs.Make.{IsMakeEnd}
-use Rattle.lp_top.proofs.Making.{completes_make, makes_named, makes_nothing, not_check, not_none, not_replay}
+use Rattle.lp_top.proofs.Making.{completes_make, makes_named, makes_nothing, not_check, not_none, not_replay, replays_named}
 use Rattle.lp_top.proofs.command.run.Goals as goal
 
 either_not : {A B : Type 0} → A ⊎ B → (A → ⊥) → (B → ⊥) → ⊥
@@ -11,7 +11,7 @@ either_not (inl a) f g = f a
 either_not (inr b) f g = g b
 
 pub returns-in-Ok-Replay-clause-complete : goal.returns-in-Ok-Replay-clause-complete
-returns-in-Ok-Replay-clause-complete g c = λ swap_time b xs words told short script master honest true reads source sink zeros.
+returns-in-Ok-Replay-clause-complete g c = λ swap_time report b xs words told short script master honest true reads source sink zeros.
     let r = c.replay.ensures.replays b told in
     completes c.one_spelling.ensures c.one_end_of_the_start.ensures c.law_there_is_one.ensures b r.read xs c.replay.result short script master
     (λ e. source (c.replay.ensures.input_cause e)) (λ e. either_not (c.replay.ensures.output_cause e) sink zeros) (never-blamed c.replay.result _ _ _ _ _ _ _ _ c.replay.ensures.swap honest true reads) r.ends
@@ -28,16 +28,16 @@ returns-in-Ok-Check-clause-complete_check g c = λ simul b xs words told short s
     completes_check c.one_spelling.ensures b r.read xs c.check.result short script (λ e. source (c.check.ensures.input_cause e)) (λ e. either_not (c.check.ensures.output_cause e) sink zeros) r.ends
 
 pub returns-in-Err-NoMemory-clause-replays : goal.returns-in-Err-NoMemory-clause-replays
-returns-in-Err-NoMemory-clause-replays g c = λ swap_time named b told. replays_unread b _
+returns-in-Err-NoMemory-clause-replays g c = λ swap_time report named b told. replays_unread report b _
 
 pub returns-in-Err-NoMemory-clause-checks : goal.returns-in-Err-NoMemory-clause-checks
 returns-in-Err-NoMemory-clause-checks g c = λ simul named b told. checks_unread simul b _
 
 pub returns-in-Ok-Replay-clause-unread : goal.returns-in-Ok-Replay-clause-unread
-returns-in-Ok-Replay-clause-unread g c = λ m. absurd (not_replay _ _ m.0 m.1 (c.in-Ok-Replay.ensures.named ∙ ap (λ x. Some x) c.in-Ok-Replay.field-0-is) m.2)
+returns-in-Ok-Replay-clause-unread g c = λ m. absurd (not_replay _ _ _ m.0 m.1 (c.in-Ok-Replay.ensures.named ∙ ap (λ x. Some x) c.in-Ok-Replay.field-0-is) m.2)
 
 pub returns-in-Ok-Replay-clause-complete_make : goal.returns-in-Ok-Replay-clause-complete_make
-returns-in-Ok-Replay-clause-complete_make g c = λ m sink zeros. absurd (not_replay _ _ m.0 m.1 (c.in-Ok-Replay.ensures.named ∙ ap (λ x. Some x) c.in-Ok-Replay.field-0-is) m.2)
+returns-in-Ok-Replay-clause-complete_make g c = λ m sink zeros. absurd (not_replay _ _ _ m.0 m.1 (c.in-Ok-Replay.ensures.named ∙ ap (λ x. Some x) c.in-Ok-Replay.field-0-is) m.2)
 
 pub returns-in-Ok-Check-clause-unread : goal.returns-in-Ok-Check-clause-unread
 returns-in-Ok-Check-clause-unread g c = λ m. absurd (not_check _ _ m.0 m.1 (c.in-Ok-Check.ensures.named ∙ ap (λ x. Some x) c.in-Ok-Check.field-0-is) m.2)
@@ -67,4 +67,7 @@ pub returns-in-Err-NoMemory-clause-makes : goal.returns-in-Err-NoMemory-clause-m
 returns-in-Err-NoMemory-clause-makes g c = λ count seed named. makes_nothing count seed _
 
 pub returns-in-Ok-Replay-clause-swapless : goal.returns-in-Ok-Replay-clause-swapless
-returns-in-Ok-Replay-clause-swapless g c = λ h. absurd (h _ (c.in-Ok-Replay.ensures.named ∙ ap (λ x. Some x) c.in-Ok-Replay.field-0-is))
+returns-in-Ok-Replay-clause-swapless g c = λ h. absurd (h _ _ (c.in-Ok-Replay.ensures.named ∙ ap (λ x. Some x) c.in-Ok-Replay.field-0-is))
+
+pub returns-in-Ok-Replay-clause-replays : goal.returns-in-Ok-Replay-clause-replays
+returns-in-Ok-Replay-clause-replays g c = λ swap_time report e b told. replays_named _ _ swap_time _ report b c.replay.result _ _ (c.in-Ok-Replay.ensures.named ∙ ap (λ x. Some x) c.in-Ok-Replay.field-0-is) e (c.replay.ensures.replays b told)

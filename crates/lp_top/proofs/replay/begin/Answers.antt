@@ -1,7 +1,7 @@
 use Rattle.std.proofs.Common.{◌∙◌, sym, subst}
 use Rattle.lp_driver.specs.Driving.{HasNoMasterIf}
 use Rattle.lp_top.proofs.Beginning.{may-start, going-start, replays-none, replays-unstarted, stop-not-done}
-use Rattle.lp_top.proofs.Swapping.{stop-tells}
+use Rattle.lp_top.proofs.Swapping.{begun-tells, stop-tells}
 use Rattle.lp_top.specs.Items.{world_files}
 use Rattle.lp_top.proofs.replay.begin.Goals as goal
 
@@ -17,11 +17,11 @@ begun-requires g c = (_, going-start c.args.reader.now c.args.opening _ c.in-Ok.
 pub returns-in-Err-NoMaster-clause-replays : goal.returns-in-Err-NoMaster-clause-replays
 returns-in-Err-NoMaster-clause-replays g c = λ b h.
     rw c.from_vec.ensures
-    (replays-none b c.args.reader.now _ _ c.args.opening c.in-Err-NoMaster.faults.items c.requires h
+    (replays-none c.args.asks_report b c.args.reader.now _ _ c.args.opening c.in-Err-NoMaster.faults.items c.requires h
     (subst (HasNoMasterIf c.args.opening.store c.args.opening.seed c.args.opening.moment) c.in-Err-NoMaster.field-0-is c.in-Err-NoMaster.ensures.none))
 
 pub returns-in-Err-Stopped-clause-replays : goal.returns-in-Err-Stopped-clause-replays
-returns-in-Err-Stopped-clause-replays g c = λ b h. rw c.stopped.ensures (replays-unstarted b c.args.reader.now _ _ c.args.opening c.in-Err-Stopped.fault c.at-at.result c.requires h c.at-at.ensures)
+returns-in-Err-Stopped-clause-replays g c = λ b h. rw c.stopped.ensures (replays-unstarted c.args.asks_report b c.args.reader.now _ _ c.args.opening c.in-Err-Stopped.fault c.at-at.result c.requires h c.at-at.ensures)
 
 pub returns-in-Err-Stopped-clause-whole : goal.returns-in-Err-Stopped-clause-whole
 returns-in-Err-Stopped-clause-whole g c = λ e. absurd (stop-not-done c.at-at.result c.in-Err-Stopped.fault (sym c.stopped.ensures ∙ e))
@@ -29,4 +29,4 @@ returns-in-Err-Stopped-clause-whole g c = λ e. absurd (stop-not-done c.at-at.re
 pub returns-in-Err-Stopped-clause-swap : goal.returns-in-Err-Stopped-clause-swap
 returns-in-Err-Stopped-clause-swap g c =
     let t = rw c.in-Err-Stopped.field-0-is at c.in-Err-Stopped.ensures.tells in
-    rw c.stopped.ensures (stop-tells c.at-at.result c.in-Err-Stopped.fault _ _ _ _ _ _ _ _ _ _ t.0 t.1)
+    rw c.stopped.ensures (stop-tells c.at-at.result c.in-Err-Stopped.fault _ _ _ _ _ _ _ _ t.0 (begun-tells t.1))

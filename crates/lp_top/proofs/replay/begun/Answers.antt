@@ -11,4 +11,4 @@ pub returns-in-Ok-clause-most : goal.returns-in-Ok-clause-most
 returns-in-Ok-clause-most g c = λ b m h. c.events.ensures.most b h
 
 pub returns-in-Err-clause-replays : goal.returns-in-Err-clause-replays
-returns-in-Err-clause-replays g c = λ b h. replays-cut b c.args.reader.now _ c.args.live _ _ _ c.requires.0 c.args.outs.now h c.requires.1 c.in-Err.ensures.cut
+returns-in-Err-clause-replays g c = λ b h. replays-cut c.args.asks_report b c.args.reader.now _ c.args.live _ _ _ c.requires.0 c.args.outs.now h c.requires.1 c.in-Err.ensures.cut

@@ -5,8 +5,8 @@ use Rattle.lp_events.specs.Script.{longest_input, IsScript}
 use Rattle.lp_script.specs.Reader.{HasGiven, IsAfter}
 use Rattle.lp_top.specs.declared.status.Status.TheVariants.{Done}
 use Rattle.lp_top.proofs.Reading.{goes_on, cut_within}
-use Rattle.lp_top.proofs.Going.{running-more, goes-running, replays-reading, replays-stopped, replays-finished, first-not-late, rose-wider, rose-wider-either, kind-interrupted, kind-finished, read-whole}
-use Rattle.lp_top.proofs.Swapping.{still-tells, then-tells, calm-tells, reading-calm, finish-calm}
+use Rattle.lp_top.proofs.Going.{running-more, may-come, goes-running, replays-reading, replays-stopped, replays-finished, first-not-late, rose-wider, rose-wider-either, kind-interrupted, kind-finished, read-whole}
+use Rattle.lp_top.proofs.Swapping.{still-tells, then-tells, calm-tells, reading-calm, conclude-calm}
 use Rattle.lp_top.proofs.replay.events.Goals as goal
 
 pub loop-item-init : goal.loop-item-init
@@ -23,7 +23,7 @@ pub returns-in-Err-clause-replays : goal.returns-in-Err-clause-replays
 returns-in-Err-clause-replays g c = λ b from run h.
     let i = c.loop-item.invariant.running from run in
     let goes = goes-running c.loop-item.reader _ c.loop-item.live _ _ i in
-    replays-reading b c.loop-item.reader _ c.loop-item.live _ _ c.in-Err.status i (c.in-Err.ensures.fault b i.read goes i.going.given (c.loop-item.invariant.reads b h)) c.in-Err.ensures.kind
+    replays-reading c.args.asks_report b c.loop-item.reader _ c.loop-item.live _ _ c.in-Err.status i (c.in-Err.ensures.fault b i.read goes i.going.given (c.loop-item.invariant.reads b h)) c.in-Err.ensures.kind
 
 pub returns-in-Err-clause-input_cause : goal.returns-in-Err-clause-input_cause
 returns-in-Err-clause-input_cause g c = λ e.
@@ -32,6 +32,12 @@ returns-in-Err-clause-input_cause g c = λ e.
 
 pub carry-requires-clause-closed : goal.carry-requires-clause-closed
 carry-requires-clause-closed g c = let i = c.loop-item.invariant.running c.requires.0 c.requires.1 in i.going.closed
+
+pub carry-requires-clause-may : goal.carry-requires-clause-may
+carry-requires-clause-may g c =
+    let i = c.loop-item.invariant.running c.requires.0 c.requires.1 in
+    let goes = goes-running c.loop-item.reader _ c.loop-item.live _ _ i in
+    may-come c.next_item.new.reader i.read c.in-Event.event (subst (λ x. HasGiven c.next_item.new.reader (i.read ++ x ∷ [])) c.in-Event.is (c.in-Ok.ensures.given i.read goes i.going.given))
 
 pub carry-requires-clause-rest : goal.carry-requires-clause-rest
 carry-requires-clause-rest g c = let i = c.loop-item.invariant.running c.requires.0 c.requires.1 in i.going.rest
@@ -46,7 +52,7 @@ pub returns-in-Err-carry-clause-replays : goal.returns-in-Err-carry-clause-repla
 returns-in-Err-carry-clause-replays g c = λ b from run h.
     let i = c.loop-item.invariant.running from run in
     let goes = goes-running c.loop-item.reader _ c.loop-item.live _ _ i in
-    replays-stopped b c.loop-item.reader c.next_item.new.reader _ c.loop-item.live _ _ _ _ c.in-Err-carry.status c.in-Event.event c.at.result i
+    replays-stopped c.args.asks_report b c.loop-item.reader c.next_item.new.reader _ c.loop-item.live _ _ _ _ c.in-Err-carry.status c.in-Event.event c.at.result i
     (c.in-Ok.ensures.reads b (c.loop-item.invariant.reads b h))
     (subst (λ x. HasGiven c.next_item.new.reader (i.read ++ x ∷ [])) c.in-Event.is (c.in-Ok.ensures.given i.read goes i.going.given))
     (subst (λ x. IsAfter (Ok x) c.next_item.new.reader.phase) c.in-Event.is c.in-Ok.ensures.phase) (c.at.ensures ∙ c.in-Ok.ensures.place goes) c.in-Err-carry.ensures.end
@@ -94,7 +100,7 @@ returns-in-End-clause-replays g c = λ b from run h.
     let i = c.loop-item.invariant.running from run in
     let goes = goes-running c.loop-item.reader _ c.loop-item.live _ _ i in
     let script = c.in-Ok.ensures.end b i.read goes i.going.given (c.loop-item.invariant.reads b h) c.in-End.is in
-    replays-finished b c.loop-item.reader _ c.loop-item.live _ _ _ c.finish.result i (subst (λ x. IsScript b (i.read ++ x ∷ [])) c.in-End.is script.0, script.1) c.finish.ensures.end
+    replays-finished c.args.asks_report b c.loop-item.reader _ c.loop-item.live _ _ _ c.conclude.result i (subst (λ x. IsScript b (i.read ++ x ∷ [])) c.in-End.is script.0, script.1) c.conclude.ensures.end
 
 pub returns-in-End-clause-whole : goal.returns-in-End-clause-whole
 returns-in-End-clause-whole g c = λ e b h.
@@ -108,14 +114,14 @@ pub returns-in-End-clause-most : goal.returns-in-End-clause-most
 returns-in-End-clause-most g c = λ b h. c.in-Ok.ensures.most b (c.loop-item.invariant.reads b h)
 
 pub returns-in-End-clause-kind : goal.returns-in-End-clause-kind
-returns-in-End-clause-kind g c = kind-finished _ _ c.finish.result c.finish.ensures.end
+returns-in-End-clause-kind g c = kind-finished _ _ _ _ c.conclude.result c.conclude.ensures.end
 
 pub returns-in-End-clause-output_cause : goal.returns-in-End-clause-output_cause
 returns-in-End-clause-output_cause g c = λ e.
-    rose-wider-either _ _ _ _ _ _ _ _ c.loop-item.invariant.sink_faults (omega arith) c.loop-item.invariant.zeros (omega arith) (c.finish.ensures.cause e)
+    rose-wider-either _ _ _ _ _ _ _ _ c.loop-item.invariant.sink_faults (omega arith) c.loop-item.invariant.zeros (omega arith) (c.conclude.ensures.cause e)
 
 pub returns-in-End-clause-swap : goal.returns-in-End-clause-swap
-returns-in-End-clause-swap g c = calm-tells c.finish.result _ _ _ _ _ _ _ _ (finish-calm _ _ _ c.finish.result c.finish.ensures.end) c.loop-item.invariant.swap
+returns-in-End-clause-swap g c = calm-tells c.conclude.result _ _ _ _ _ _ _ _ (conclude-calm _ _ _ _ c.conclude.result c.conclude.ensures.end) c.loop-item.invariant.swap
 
 pub unreachable-requires : goal.unreachable-requires
 unreachable-requires g c =

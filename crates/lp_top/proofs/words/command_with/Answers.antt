@@ -1,9 +1,9 @@
 use Rattle.std.proofs.Common.{◌∙◌, ap, sym, map, string_bytes, codes}
 use Rattle.clap.specs.Words.{fault_of, is_simple_and_free}
 use Rattle.std.proofs.lemmas.Result.{IfOk-weaker}
-use Rattle.lp_top.specs.Words.{has_some, check_with, replay_with, taken_with, line_of}
+use Rattle.lp_top.specs.Words.{has_some, check_with, taken_with, line_of}
 use Rattle.lp_top.specs.declared.words.CommandName.TheVariants as name
-use Rattle.lp_top.proofs.Naming.{is_simple_line, make_refused, make_taken, value_read, taken_by}
+use Rattle.lp_top.proofs.Naming.{is_simple_line, make_refused, make_taken, replay_read, value_read, taken_by}
 use Rattle.lp_top.proofs.words.command_with.Goals as goal
 
 pub matched-requires : goal.matched-requires
@@ -13,21 +13,23 @@ pub returns-in-Replay-clause-named : goal.returns-in-Replay-clause-named
 returns-in-Replay-clause-named c =
     let words = map string_bytes c.args.words.now in
     let replay = c.in_ok-line.ensures ∙ ap line_of c.in-Replay.is in
-    let read = sym (c.get_str.ensures ∙ value_read name.Replay (codes "swap-time") words _ c.in_ok-matches.matches replay c.in_ok-matches.ensures.matches) in
+    let time = c.get_str-in-Replay.ensures ∙ value_read name.Replay (codes "swap-time") words _ c.in_ok-matches.matches replay c.in_ok-matches.ensures.matches in
+    let asked = c.get_str.ensures ∙ value_read name.Replay (codes "report") words _ c.in_ok-matches.matches replay c.in_ok-matches.ensures.matches in
     IfOk-weaker c.replay_of.result _ _ (λ command h.
     ap (λ n. taken_with n words) c.in-Replay.is
     ∙ taken_by name.Replay words (sym (ap (λ a. has_some (fault_of a words)) replay) ∙ c.in_ok-matches.ensures.taken)
-    ∙ ap replay_with read
+    ∙ replay_read words _ _ c.is_set-report.result time asked c.is_set-report.ensures
     ∙ h) c.replay_of.ensures.named
 
 pub returns-in-Replay-clause-refused : goal.returns-in-Replay-clause-refused
 returns-in-Replay-clause-refused c = λ e.
     let words = map string_bytes c.args.words.now in
     let replay = c.in_ok-line.ensures ∙ ap line_of c.in-Replay.is in
-    let read = sym (c.get_str.ensures ∙ value_read name.Replay (codes "swap-time") words _ c.in_ok-matches.matches replay c.in_ok-matches.ensures.matches) in
+    let time = c.get_str-in-Replay.ensures ∙ value_read name.Replay (codes "swap-time") words _ c.in_ok-matches.matches replay c.in_ok-matches.ensures.matches in
+    let asked = c.get_str.ensures ∙ value_read name.Replay (codes "report") words _ c.in_ok-matches.matches replay c.in_ok-matches.ensures.matches in
     ap (λ n. taken_with n words) c.in-Replay.is
     ∙ taken_by name.Replay words (sym (ap (λ a. has_some (fault_of a words)) replay) ∙ c.in_ok-matches.ensures.taken)
-    ∙ ap replay_with read
+    ∙ replay_read words _ _ c.is_set-report.result time asked c.is_set-report.ensures
     ∙ c.replay_of.ensures.refused e
 
 pub returns-in-Check-clause-named : goal.returns-in-Check-clause-named

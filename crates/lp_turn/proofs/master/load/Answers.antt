@@ -4,4 +4,4 @@ use Rattle.lp_turn.proofs.Words.{chars-master}
 use Rattle.lp_turn.proofs.master.load.Goals as goal
 
 pub returns-clause-loads : goal.returns-clause-loads
-returns-clause-loads c = record { asked = ap (λ t. asks.Load t) (c.in_ok-name.ensures ∙ chars-master); player = refl; arguments = c.new.ensures.items; waits = refl }
+returns-clause-loads c = record { asked = ap (λ t. asks.Load t) (c.in_ok-name.ensures ∙ chars-master); player = refl; interactive = refl; arguments = c.new.ensures.items; waits = refl }

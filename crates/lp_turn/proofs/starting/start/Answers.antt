@@ -5,4 +5,4 @@ use Rattle.lp_turn.proofs.Words.{chars-master}
 use Rattle.lp_turn.proofs.starting.start.Goals as goal
 
 pub returns-clause-begins : goal.returns-clause-begins
-returns-clause-begins c = starting_asks c.args.live.now _ (ap (λ t. asks.Load t) (c.in_ok-name.ensures ∙ chars-master)) refl c.new.ensures.items
+returns-clause-begins c = starting_asks c.args.live.now _ (ap (λ t. asks.Load t) (c.in_ok-name.ensures ∙ chars-master)) refl refl c.new.ensures.items

@@ -1,0 +1,40 @@
+use Rattle.lp_residence.specs.Idling.{Device}
+use Rattle.lp_driver.proofs.Rested.{on_ok_of, rest_on}
+use Rattle.lp_driver.proofs.Tidied.{tidied_idle, tidied_is, tidied_named, untouched}
+use Rattle.lp_driver.proofs.tidying.tidy.Goals as goal
+
+pub returns-in-Connect-clause-tidied : goal.returns-in-Connect-clause-tidied
+returns-in-Connect-clause-tidied g c =
+    let d : Device = record { told = g.W.SwapFile.content c.args.swap.now; faults = g.W.SwapFile.write_faults c.args.swap.now } in
+    tidied_is c.args.swap_time c.args.event.now _ c.args.live.now d c.args.live.now d c.in-Connect.is (untouched c.args.live.now d)
+
+pub returns-in-Line-clause-tidied : goal.returns-in-Line-clause-tidied
+returns-in-Line-clause-tidied g c =
+    let d : Device = record { told = g.W.SwapFile.content c.args.swap.now; faults = g.W.SwapFile.write_faults c.args.swap.now } in
+    tidied_is c.args.swap_time c.args.event.now _ c.args.live.now d c.args.live.now d c.in-Line.is (untouched c.args.live.now d)
+
+pub returns-in-Gone-clause-tidied : goal.returns-in-Gone-clause-tidied
+returns-in-Gone-clause-tidied g c =
+    let d : Device = record { told = g.W.SwapFile.content c.args.swap.now; faults = g.W.SwapFile.write_faults c.args.swap.now } in
+    tidied_is c.args.swap_time c.args.event.now _ c.args.live.now d c.args.live.now d c.in-Gone.is (untouched c.args.live.now d)
+
+pub returns-in-Reload-clause-tidied : goal.returns-in-Reload-clause-tidied
+returns-in-Reload-clause-tidied g c =
+    let d : Device = record { told = g.W.SwapFile.content c.args.swap.now; faults = g.W.SwapFile.write_faults c.args.swap.now } in
+    tidied_is c.args.swap_time c.args.event.now _ c.args.live.now d c.args.live.now d c.in-Reload.is (untouched c.args.live.now d)
+
+pub returns-in-Tick-clause-tidied : goal.returns-in-Tick-clause-tidied
+returns-in-Tick-clause-tidied g c =
+    let d : Device = record { told = g.W.SwapFile.content c.args.swap.now; faults = g.W.SwapFile.write_faults c.args.swap.now } in
+    let e : Device = record { told = g.W.SwapFile.content c.put_what_is_idle.new.swap; faults = g.W.SwapFile.write_faults c.put_what_is_idle.new.swap } in
+    on_ok_of c.put_what_is_idle.result (tidied_idle c.args.swap_time _ c.args.event.now c.args.live.now d c.put_what_is_idle.new.live e c.in-Tick.is) c.put_what_is_idle.ensures.tidied
+
+pub returns-in-Swap-clause-tidied : goal.returns-in-Swap-clause-tidied
+returns-in-Swap-clause-tidied g c =
+    let d : Device = record { told = g.W.SwapFile.content c.args.swap.now; faults = g.W.SwapFile.write_faults c.args.swap.now } in
+    let e : Device = record { told = g.W.SwapFile.content c.put_named.new.swap; faults = g.W.SwapFile.write_faults c.put_named.new.swap } in
+    on_ok_of c.put_named.result (tidied_named c.args.swap_time _ _ c.args.event.now c.args.live.now d c.put_named.new.live e c.in-Swap.is c.as_str.ensures) c.put_named.ensures.puts
+
+pub returns-in-Swap-clause-rest : goal.returns-in-Swap-clause-rest
+returns-in-Swap-clause-rest g c =
+    on_ok_of c.put_named.result (λ h. rest_on (g.W.SwapFile.content c.args.swap.now) (g.W.SwapFile.content c.put_named.new.swap) c.args.live.now c.put_named.new.live c.put_named.ensures.world c.put_named.ensures.outputs) c.put_named.ensures.puts
