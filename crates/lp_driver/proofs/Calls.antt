@@ -1,6 +1,5 @@
 -- Calls of the driver that were carried out.
-use Rattle.std.proofs.Common.{◌≡◌, ◌∙◌, ◌+◌, ◌++◌, ◌∷◌, [], ℕ, eqb, true, arith, List, Option, None, ap, refl, sym, append-nil, append_assoc, length, map, reverse}
-use Rattle.std.proofs.lemmas.Bool.{eqb-true}
+use Rattle.std.proofs.Common.{◌≡◌, ◌∙◌, ◌+◌, ◌++◌, [], ℕ, List, Option, None, ap, refl, sym, append_assoc, length, map, reverse}
 use Rattle.lp_values.specs.declared.id.ObjId.{ObjId}
 use Rattle.lp_values.specs.declared.value.Value.{Value}
 use Rattle.lp_code.specs.declared.program.RawProgram.{RawProgram}
@@ -8,15 +7,13 @@ use Rattle.lp_events.specs.declared.out.Out.{Out}
 use Rattle.lp_swapfile.specs.Device.{Bytes}
 use Rattle.lp_language.specs.World.{World}
 use Rattle.lp_language.specs.Course as course
-use Rattle.lp_language.specs.Course.{Apply, Asked, Command, Gives, Load, Plain, State, Wanted, after, outcome_of, zero_value}
-use Rattle.lp_meaning.specs.Askers.{state_of}
+use Rattle.lp_language.specs.Course.{Apply, Asked, Load, State, Wanted, after}
 use Rattle.lp_meaning.specs.EventTurns.{begun}
 use Rattle.lp_front_end.specs.FrontEnds.{ThereIsOne}
 use Rattle.lp_world.specs.declared.live.Live.{Live}
 use Rattle.lp_efuns.specs.Turns.{commands_of}
 use Rattle.lp_asking.specs.declared.asker.Asker.{Asker}
 use Rattle.lp_asking.specs.declared.ending.Ending.{Ending}
-use Rattle.lp_asking.specs.declared.ending.Ending.TheVariants as endings
 use Rattle.lp_asking.specs.Asking.{IsBy, loading_of}
 use Rattle.lp_loading.specs.declared.job.Answer.{Answer}
 use Rattle.lp_reaching.specs.Reaching.{Applies}
@@ -106,19 +103,3 @@ load_emptied told0 told1 live0 live1 name player interactive stack0 stack1 asker
 pub carried_rests : (what : Asked) (player interactive : Option ObjId) (xs : List Value) (told0 told1 : Option Bytes) (live0 live1 : Live) (end : CallEnd) → ThereIsOne → CarriesOut what player interactive xs told0 live0 told1 live1 end → RestsForOne told0 live0 → RestsForOne told1 live1
 carried_rests what player interactive xs told0 told1 live0 live1 end one carries h =
     let r = carries one.0 one.1 h.programs h.before h.state h.rests in record { programs = r.programs; before = h.before; state = after (begun player h.state) r.outcome; rests = r.rests }
-
--- An empty line does nothing, and its answer is 0.
-empty_line : (o : ObjId) (player interactive : Option ObjId) (xs : List Value) (told : Option Bytes) (live : Live) → CarriesOut (Command o []) player interactive xs told live told live (call_ends.Ended (endings.Value zero_value))
-empty_line o player interactive xs told live front real programs before s h =
-    let a = asked_in (Command o []) player interactive xs s in
-    record {
-      outcome = outcome_of (Gives (Plain zero_value) (state_of a));
-      has = course.meant refl course.ends refl;
-      programs = programs;
-      rests = record { world = h.world; outputs = h.outputs ∙ ap (λ l. before ++ l) (sym (append-nil s.outputs)) };
-      ended = refl;
-    }
-
-pub no_line : (o : ObjId) (line : List ℕ) (player interactive : Option ObjId) (xs : List Value) (told : Option Bytes) (live : Live) → eqb (length line) 0 ≡ true → CarriesOut (Command o line) player interactive xs told live told live (call_ends.Ended (endings.Value zero_value))
-no_line o [] player interactive xs told live e = empty_line o player interactive xs told live
-no_line o (c ∷ cs) player interactive xs told live e = let z : length (c ∷ cs) ≡ 0 = eqb-true _ _ e in absurd (omega (arith, z))

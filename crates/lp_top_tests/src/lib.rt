@@ -23,3 +23,9 @@ mod scripts;
 mod simuls;
 #[cfg(test)]
 mod words;
+
+// Games: small mudlibs with their events and whole transcripts.
+#[cfg(test)]
+mod commands;
+#[cfg(test)]
+mod games;
