@@ -1,5 +1,5 @@
 -- Commands of the driver that were carried out.
-use Rattle.std.proofs.Common.{◌≡◌, ◌∙◌, ◌++◌, ◌∷◌, [], ℕ, List, Option, None, ap, refl, sym, append_assoc, reverse}
+use Rattle.std.proofs.Common.{◌≡◌, ◌∙◌, ◌++◌, [], ℕ, List, Option, None, ap, refl, sym, append_assoc, reverse}
 use Rattle.lp_values.specs.declared.id.ObjId.{ObjId}
 use Rattle.lp_values.specs.declared.value.Value.{Value}
 use Rattle.lp_swapfile.specs.Device.{Bytes}
@@ -18,10 +18,8 @@ use Rattle.lp_driver.proofs.Calls.{call_asked}
 
 -- a command has no arguments: whatever they are said to be, the question has the same outcomes
 any_arguments : (front : FrontEnd) (o : ObjId) (line : List ℕ) (player interactive : Option ObjId) (xs : List Value) (s : State) (outcome : Outcome) → Has front (asked_in (Command o line) player interactive [] s) outcome → Has front (asked_in (Command o line) player interactive xs s) outcome
-any_arguments front o [] player interactive xs s outcome (course.meant e a q) = course.meant e a q
-any_arguments front o [] player interactive xs s outcome (course.told e t) = cc
-any_arguments front o (c ∷ cs) player interactive xs s outcome (course.meant e a q) = course.meant e a q
-any_arguments front o (c ∷ cs) player interactive xs s outcome (course.told e t) = cc
+any_arguments front o line player interactive xs s outcome (course.meant e a q) = course.meant e a q
+any_arguments front o line player interactive xs s outcome (course.told e t) = cc
 
 asks_command : (o : ObjId) (line : List ℕ) (player interactive : Option ObjId) (s : State) (asker : Asker) → IsDriver player interactive asker → AsksCommand asker None o line (asked_in (Command o line) player interactive [] s)
 asks_command o line player interactive s asker d = record { callers = ap (λ cs. reverse (cs ++ [])) (sym d.callers); what = refl }
