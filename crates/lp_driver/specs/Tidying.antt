@@ -1,5 +1,5 @@
 -- What is done between turns: what ended is forgotten, and what a script names or what is idle goes out.
-use Rattle.std.specs.Prelude.{◌≡◌, ℕ, [], IfErr, List, Option, Result}
+use Rattle.std.specs.Prelude.{◌≡◌, ◌||◌, ℕ, Bool, true, false, not, nat_eq, [], IfErr, List, Option, Result, length}
 use Rattle.std.specs.Str.{chars}
 use Rattle.lp_code.specs.declared.program.RawProgram.{RawProgram}
 use Rattle.lp_events.specs.declared.event.Event.{Event}
@@ -17,6 +17,7 @@ use Rattle.lp_residence.specs.Entering.{IsHonest, is_read_fault}
 use Rattle.lp_residence.specs.Idling.{Device, going}
 use Rattle.lp_residence.specs.declared.answers.EnterFault.{EnterFault}
 use Rattle.lp_residence.specs.declared.answers.Idled.{Idled}
+use Rattle.lp_keeping.specs.Needs.{AreNeeded}
 use Rattle.lp_tidying.specs.Putting.{AreIdlePut, ArePutWhereTold, named_owners}
 use Rattle.lp_driver.specs.Driving.{TurnsAs}
 use Rattle.lp_driver.specs.declared.starting.Started.{Started}
@@ -34,6 +35,22 @@ pub record HasBegun (end : Started) (before live : Live) (outs : List Out) : Typ
   pub outs_are : outs ≡ before.outputs
   pub over : IsOver before live
 
+-- Versions are looked through behind a reload, and behind a turn in which one was made: so many had been made before it, and by its end.
+abbrev pub is_reload : Event → Bool
+is_reload (events.Connect k) = false
+is_reload (events.Line k bytes) = false
+is_reload (events.Gone k) = false
+is_reload (events.Tick t) = false
+is_reload (events.Reload path bytes) = true
+is_reload (events.Swap name) = false
+
+abbrev pub drops_behind : Event → ℕ → ℕ → Bool
+drops_behind event before behind = is_reload event || not (nat_eq behind before)
+
+-- each version that a state has is needed: an object has it, or a needed one names it
+abbrev pub HasNeededAlone : Live → Type 0
+HasNeededAlone l = AreNeeded l.objects l.versions
+
 -- nothing is put out
 abbrev pub IsUntouched : Live → Device → Live → Device → Type 0
 IsUntouched l d l' d' = (l' ≡ l) × (d' ≡ d)
@@ -48,14 +65,15 @@ IsTidied swap_time (events.Tick t) l d l' d' = (n : Idled) × AreIdlePut (going 
 IsTidied swap_time (events.Reload path bytes) l d l' d' = IsUntouched l d l' d'
 IsTidied swap_time (events.Swap name) l d l' d' = (objects : List Named) → names.Stands l.names objects → ArePutWhereTold (named_owners l (object_named objects (chars name))) l d l' d'
 
--- An event had its turn, which was over then, and what goes out behind it was put out. The device told this and had so many write
--- faults before and after.
+-- An event had its turn, which was over then; behind a reload, and where a version was made, no version was there but the needed ones; and
+-- what goes out behind it was put out. The device told this and had so many write faults before and after.
 pub record HasTidied (swap_time : ℕ) (event : Event) (told0 : Option Bytes) (writes0 : ℕ) (live0 : Live) (told1 : Option Bytes) (writes1 : ℕ) (live1 : Live) : Type 0 where
   pub told : Option Bytes
   pub live : Live
   pub outs : List Out
   pub turns : TurnsAs event told0 live0 told live outs
   pub forgotten : names.died_in live.names ≡ []
+  pub needed : drops_behind event (length live0.versions) (length live.versions) ≡ true → HasNeededAlone live
   pub tidied : IsTidied swap_time event live (record { told = told; faults = writes0 }) live1 (record { told = told1; faults = writes1 })
 
 -- What the device did where something was to be put out: nothing was read.

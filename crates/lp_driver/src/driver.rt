@@ -1,17 +1,17 @@
 //! The driver: its start, and its turns.
-ghost use Rattle.std.specs.Prelude.{◌≡◌, ◌≤◌, ◌^◌, [], IfErr, IfOk, List, OnOk};
+ghost use Rattle.std.specs.Prelude.{◌≡◌, ◌≤◌, ◌^◌, [], IfErr, IfOk, List, OnOk, length, true};
 ghost use Rattle.lp_objects.specs.Stands.{died_in};
 ghost use Rattle.lp_first.specs.First.{HasFiles};
 ghost use Rattle.lp_language.specs.World.{File, World};
 ghost use Rattle.lp_world.specs.Closed.{IsClosed};
 ghost use Rattle.lp_vm.specs.Causes.{Tells, read_of};
 ghost use Rattle.lp_driver.specs.Driving.{HasNoMasterIf, IsAtRest, IsNoMasterOf, StartTells, StartsAs, TurnsAs, start_answer};
-ghost use Rattle.lp_driver.specs.Tidying.{HasBegun, HasTidied, TurnTells};
+ghost use Rattle.lp_driver.specs.Tidying.{HasBegun, HasNeededAlone, HasTidied, TurnTells, drops_behind};
 ghost use Rattle.lp_driver.specs.Turning.{MayCome};
 
 use crate::events::carry_out;
 use crate::starting::{Started, run_start};
-use crate::tidying::{end_turn, tidy};
+use crate::tidying::{drop_versions, end_turn, tidy};
 use lp_asking::truth::Truthful;
 use lp_events::event::Event;
 use lp_events::out::Outs;
@@ -35,7 +35,8 @@ pub enum StartFault {
     Stopped(VmFault),
 }
 
-/// The turn of an event is carried out, and is over.
+/// The turn of an event is carried out, and is over. Behind a reload, and behind a turn that made a version, the versions that nothing
+/// needs are gone.
 ///
 /// # Errors
 /// As `turn`.
@@ -45,18 +46,28 @@ fn carry_turn<W: Truthful>(live: &mut Live, swap: &mut W, event: &Event) -> Resu
     requires rest { (w : World) × IsAtRest (W.content swap.old) live.old w }
     ensures turns { IfOk result (λ outs. TurnsAs event.now (W.content swap.old) live.old (W.content swap.new) live.new outs) }
     ensures forgotten { OnOk result (died_in live.new.names ≡ []) }
+    ensures needed { OnOk result (drops_behind event.now (length live.old.versions) (length live.new.versions) ≡ true → HasNeededAlone live.new) }
     ensures closed { OnOk result (IsClosed live.new) }
     ensures rest { OnOk result ((w : World) × IsAtRest (W.content swap.new) live.new w) }
     ensures tells { Tells (W.content swap.new) (W.last swap.new) (W.read_faults swap.old) (W.read_faults swap.new) (W.write_faults swap.old) (W.write_faults swap.new)
         (W.is_truthful swap.old) (W.is_truthful swap.new) (W.is_honest swap.old) (W.is_honest swap.new) live.new (read_of result) }
 {
     law_there_is_one();
+    let before = live.versions.len();
     let mut stack = Vec::new(live.alloc);
     carry_out(live, swap, &mut stack, event)?;
-    Ok(end_turn(live))
+    let outs = end_turn(live);
+    match drop_versions(live, event, before) {
+        Ok(()) => Ok(outs),
+        Err(_) => {
+            drop(outs);
+            Err(VmFault::NoMemory)
+        }
+    }
 }
 
-/// One turn carries out one event, and gives its outputs. The moment of a tick is at most 10^12 seconds. Behind it what ended is forgotten; and where the swap file tells what it
+/// One turn carries out one event, and gives its outputs. The moment of a tick is at most 10^12 seconds. Behind it what ended is forgotten;
+/// behind a reload, and where a version was made in the turn, each version goes that no object has and no needed version names; and where the swap file tells what it
 /// holds, what is to go out goes out: behind a tick what is live and in memory and had no entry for `swap_time` seconds (0 means
 /// never), objects by serial and then versions by number; for a swap item the live object of its name, and then its version. Each goes out
 /// or stays for a cause, and the live state stands for the same world.

@@ -1,16 +1,18 @@
 //! What is done between turns.
-ghost use Rattle.std.specs.Prelude.{◌≡◌, [], OnOk};
+ghost use Rattle.std.specs.Prelude.{◌≡◌, [], OnOk, length, true};
 ghost use Rattle.lp_language.specs.World.{World};
 ghost use Rattle.lp_world.specs.Closed.{IsClosed};
 ghost use Rattle.lp_residence.specs.Idling.{going};
 ghost use Rattle.lp_residence.specs.declared.answers.Idled.{Idled};
 ghost use Rattle.lp_tidying.specs.Putting.{AreIdlePut};
 ghost use Rattle.lp_driver.specs.Driving.{IsAtRest};
-ghost use Rattle.lp_driver.specs.Tidying.{IsOver, IsTidied, ReadsNothing};
+ghost use Rattle.lp_world.specs.declared.live.Live.{Live as L};
+ghost use Rattle.lp_driver.specs.Tidying.{HasNeededAlone, IsOver, IsTidied, ReadsNothing, drops_behind, is_reload};
 
 use lp_asking::truth::Truthful;
 use lp_events::event::Event;
 use lp_events::out::Outs;
+use lp_keeping::dropping::drop_unneeded;
 use lp_tidying::ended::forget_ended;
 use lp_tidying::idle::put_idle;
 use lp_tidying::naming::put_named;
@@ -38,6 +40,39 @@ pub(crate) fn end_turn(live: &mut Live) -> Outs
     let outs = take_outputs(live);
     forget_ended(live);
     outs
+}
+
+/// Whether an event is a reload.
+fn is_reload(event: &Event) -> bool
+    ensures { result ≡ is_reload event.now }
+{
+    matches!(event, Event::Reload(_, _))
+}
+
+/// Whether versions are looked through behind the turn of an event: it is a reload, or a version was made in it. So many had been made
+/// before it, and by its end.
+fn drops_behind(event: &Event, before: usize, behind: usize) -> bool
+    ensures { result ≡ drops_behind event.now before behind }
+{
+    is_reload(event) || behind != before
+}
+
+/// The versions that nothing needs go behind the turn of an event, if it is a reload or a version was made in it; before it so many
+/// had been made. The live state stands for the same worlds. Takes time by how many objects and versions were ever made, and a byte of
+/// memory for each version meanwhile; behind another turn it takes neither.
+///
+/// # Errors
+/// Want of memory. The state stands as before.
+pub(crate) fn drop_versions(live: &mut Live, event: &Event, before: usize) -> Result<(), AllocError>
+    requires closed { IsClosed live.old }
+    ensures needed { OnOk result (drops_behind event.now before (length live.new.versions) ≡ true → HasNeededAlone live.new) }
+    ensures over { (first : L) → IsOver first live.old → IsOver first live.new }
+    ensures closed { IsClosed live.new }
+{
+    if drops_behind(event, before, live.versions.len()) {
+        return drop_unneeded(live.alloc, live);
+    }
+    Ok(())
 }
 
 /// What is idle goes out, where the swap file tells what it holds.

@@ -15,6 +15,7 @@ returns-in-Ok-clause-tidies g c = record {
   outs = c.in_ok-outs.outs;
   turns = c.in_ok-outs.ensures.turns;
   forgotten = c.in_ok-outs.ensures.forgotten;
+  needed = c.in_ok-outs.ensures.needed;
   tidied = subst (λ n. IsTidied c.args.swap_time c.args.event.now c.carry_turn.new.live (record { told = g.W.SwapFile.content c.carry_turn.new.swap; faults = n }) c.tidy.new.live (record { told = g.W.SwapFile.content c.tidy.new.swap; faults = g.W.SwapFile.write_faults c.tidy.new.swap })) c.in_ok-outs.ensures.tells.write_faults
       c.in-Ok.ensures.tidied;
 }

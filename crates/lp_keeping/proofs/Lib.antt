@@ -1,0 +1,4 @@
+pub mod Marked
+pub mod Named
+pub mod Dropped
+pub mod Kept
