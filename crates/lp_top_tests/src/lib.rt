@@ -23,3 +23,15 @@ mod scripts;
 mod simuls;
 #[cfg(test)]
 mod words;
+
+// Games: small mudlibs with their events and whole transcripts.
+#[cfg(test)]
+mod accounts;
+#[cfg(test)]
+mod bodies;
+#[cfg(test)]
+mod games;
+#[cfg(test)]
+mod moments;
+#[cfg(test)]
+mod swapping;

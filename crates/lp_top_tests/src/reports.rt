@@ -14,14 +14,20 @@ fn put_file(alloc: Global, text: &mut String, path: &str, bytes: &str) -> Result
     text.push_str(file.as_str())
 }
 
-/// A script with these files, and no event.
-fn script_of(alloc: Global, files: Files) -> Result<String, AllocError> {
+/// A script with these files, and these items behind its `start`.
+pub(crate) fn script_with(alloc: Global, files: Files, items: &str) -> Result<String, AllocError> {
     let mut text = String::from_str(alloc, "mudscript 1 0 0\n")?;
     for (path, bytes) in files {
         put_file(alloc, &mut text, path, bytes)?;
     }
-    text.push_str("start\nend\n")?;
+    text.push_str("start\n")?;
+    text.push_str(items)?;
     Ok(text)
+}
+
+/// A script with these files, and no event.
+fn script_of(alloc: Global, files: Files) -> Result<String, AllocError> {
+    script_with(alloc, files, "end\n")
 }
 
 /// A script with the one file `/m.c`, and no event.
