@@ -1,6 +1,6 @@
 //! What a `logon` writes, in whole replays.
 use crate::games::{Game, are_replayed};
-use crate::reports::ends;
+use crate::reports::{Files, ends, script_with};
 use crate::running::script;
 use std::alloc::{AllocError, Global};
 use std::test::Fail;
@@ -319,7 +319,7 @@ fn loads(rt: HostRuntime) -> Result<(), Fail> {
 }
 
 /// Lines for which a function waits.
-const INPUTS: [Game; 3] = [
+const INPUTS: [Game; 4] = [
     // The function takes the line, and a hidden input is shown again.
     (
         &[(
@@ -357,9 +357,80 @@ void last(string s) { write(\"{\" + s + \"}\\n\"); }
         "connect 1\nline 1 0\n\nline 1 3\na b\nend\n",
         "to 1 3\n[]\n\nhide 1\nshow 1\nto 1 6\n{a b}\n\nend\n",
     ),
+    // It waits for the connection, also where another object has that by then.
+    (
+        &[
+            (
+                "/p.c",
+                "int logon() { input_to(\"got\"); return exec(clone_object(\"/q\"), this_object()); }
+void got(string s) { write(\"[\" + s + \"]\" + object_name(this_player()) + object_name() + \"\\n\"); }
+",
+            ),
+            ("/q.c", ""),
+            (
+                "/secure/master.c",
+                "object connect() { return clone_object(\"/p\"); }
+",
+            ),
+        ],
+        "connect 1\nline 1 2\nhi\nend\n",
+        "to 1 13\n[hi]/q#2/p#1\n\nend\n",
+    ),
 ];
 
 #[test]
 fn lines_that_are_awaited(rt: HostRuntime) -> Result<(), Fail> {
     are_replayed(&rt, rt.alloc(), &["replay"], &INPUTS)
+}
+
+/// Each connection gets a clone.
+const DOORS: Files = &[
+    ("/p.c", "int logon() { return 1; }\n"),
+    (
+        "/secure/master.c",
+        "object connect() { return clone_object(\"/p\"); }\n",
+    ),
+];
+
+/// So many connect; then one is gone, and another one comes.
+fn crowd(alloc: Global, count: u32) -> Result<String, AllocError> {
+    let mut items = String::new(alloc);
+    for i in 0..count {
+        let number = i + 1;
+        let item = format!(in alloc; "connect {number}\n")?;
+        items.push_str(item.as_str())?;
+    }
+    let next = count.saturating_add(1);
+    let item = format!(in alloc; "gone 7\nconnect {next}\nline {next} 1\nx\nend\n")?;
+    items.push_str(item.as_str())?;
+    Ok(items)
+}
+
+/// Whether a replay of a crowd has this transcript.
+fn comes(alloc: Global, count: u32, output: &str) -> Result<bool, AllocError> {
+    let items = crowd(alloc, count)?;
+    let text = script_with(alloc, DOORS, items.as_str())?;
+    let well: (&[u64], &[u64], usize) = (&[], &[], 65536);
+    ends(
+        alloc,
+        &["replay"],
+        text.as_bytes(),
+        well,
+        0,
+        output.as_bytes(),
+    )
+}
+
+// 200 connections may be open.
+#[test]
+fn connections_up_to_the_limit(rt: HostRuntime) -> Result<(), Fail> {
+    assert!(rt; comes(rt.alloc(), 200, "to 201 6\nWhat?\n\nend\n")?);
+    assert!(rt;
+        comes(
+            rt.alloc(),
+            202,
+            "close 201\nclose 202\nto 203 6\nWhat?\n\nend\n"
+        )?
+    );
+    Ok(())
 }
