@@ -84,10 +84,10 @@ impl SwapFile for TestSwap {
     ghost is_truthful = { λ m. m.hidden ≡ false };
 
     fn read_at(&mut self, place: u64, into: &mut [u8]) -> Result<(), Failed> {
-        if self.lies_next() {
-            self.lied = true;
-        }
-        self.memory.read_at(place, into)
+        let lied = self.lied || self.lies_next();
+        let answer = self.memory.read_at(place, into);
+        self.lied = lied;
+        answer
     }
 
     fn write_at(&mut self, place: u64, piece: &[u8]) -> Result<(), Failed> {

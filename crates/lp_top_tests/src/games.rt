@@ -1,5 +1,5 @@
 //! Small mudlibs with their events and whole transcripts, at ample memory.
-use crate::device::{NONE, TestSwap, Troubles};
+use crate::device::{TestSwap, Troubles};
 use crate::reports::{Files, ends, script_with};
 use crate::running::{owned, source};
 use lp_io::{MemSink, MemSource};

@@ -233,7 +233,12 @@ const READINGS: [Reading; 2] = [
 
 /// Whether bytes are one of these texts.
 fn is_one_of(bytes: &[u8], texts: &[&str]) -> bool {
-    texts.iter().any(|text| text.as_bytes() == bytes)
+    for text in texts {
+        if text.as_bytes() == bytes {
+            return true;
+        }
+    }
+    false
 }
 
 /// Whether a replay ends at the read with this number, behind the turns before it.
