@@ -1,57 +1,106 @@
-//! A swap file that is not there.
-ghost use Rattle.std.specs.Prelude.{None, ⊤};
-ghost use Rattle.lp_swapfile.specs.Device.{Nothing};
+//! A swap file in memory, of which a read or a write fails, or a read lies.
+ghost use Rattle.std.specs.Prelude.{◌≡◌, Some, false};
+ghost use Rattle.lp_swapfile.specs.Counts.{one_more};
+ghost use Rattle.lp_swapfile.specs.Memory.{file_of, tells_lie};
 
 use lp_asking::truth::Truthful;
-use lp_swapfile::{Failed, SwapFile};
+use lp_swapfile::{Failed, MemSwap, SwapFile};
+use std::alloc::{AllocError, Global};
+use std::marker::Model;
 
-/// A device that holds nothing: each read and each write fails.
+/// Which calls of a swap file go wrong, by their numbers from 1, or 0 where none does: a read that fails, one whose first byte has
+/// each bit flipped, and a write that fails.
+#[derive(Clone, Copy)]
+pub(crate) struct Troubles {
+    pub(crate) read: u64,
+    pub(crate) lie: u64,
+    pub(crate) write: u64,
+}
+
+/// Nothing goes wrong.
+pub(crate) const NONE: Troubles = Troubles {
+    read: 0,
+    lie: 0,
+    write: 0,
+};
+
+/// A swap file in memory of which such calls go wrong. It tells the truth up to its lie.
 #[derive(Drop)]
-pub struct NoSwap {
-    read_faults: u64,
-    write_faults: u64,
+pub struct TestSwap {
+    memory: MemSwap,
+    lying: u64,
+    lied: bool,
 }
 
-impl NoSwap {
-    /// Such a device, without a fault so far.
-    pub fn new() -> NoSwap {
-        NoSwap {
-            read_faults: 0,
-            write_faults: 0,
-        }
+impl Model for TestSwap {
+    ghost use Rattle.std.specs.Prelude.{◌≡◌, [], ◌∷◌, false};
+    ghost use Rattle.lp_swapfile.specs.Calls.{Memory};
+
+    ghost Value = { Memory };
+
+    ghost view = { λ s. s.memory };
+
+    ghost invariant = { λ s. (s.memory.lies ≡ (s.lying, 0) ∷ []) × (s.lied ≡ false → s.memory.hidden ≡ false) };
+}
+
+impl TestSwap {
+    /// An empty one.
+    pub(crate) fn new(alloc: Global, troubles: Troubles) -> Result<TestSwap, AllocError> {
+        let lies = vec![in alloc; (troubles.lie, 0)]?;
+        let reads = vec![in alloc; troubles.read]?;
+        let writes = vec![in alloc; troubles.write]?;
+        Ok(TestSwap {
+            memory: MemSwap::new(alloc, reads, writes, lies),
+            lying: troubles.lie,
+            lied: false,
+        })
+    }
+
+    /// How many reads and writes were made.
+    pub(crate) fn calls(&self) -> (u64, u64) {
+        (self.memory.reads(), self.memory.writes())
+    }
+
+    /// Whether the next read lies.
+    fn lies_next(&self) -> bool
+        ensures { result ≡ tells_lie (one_more self.now.reads.made) self.now.lies }
+    {
+        let number = self.memory.reads().saturating_add(1);
+        self.lying == number
     }
 }
 
-impl SwapFile for NoSwap {
-    ghost content = { λ _. None };
+impl SwapFile for TestSwap {
+    ghost content = { λ m. Some (file_of m.held) };
 
-    ghost last = { λ _. Nothing };
+    ghost last = { λ m. m.last };
 
-    ghost read_faults = { λ s. s.read_faults };
+    ghost read_faults = { λ m. m.reads.failed };
 
-    ghost write_faults = { λ s. s.write_faults };
+    ghost write_faults = { λ m. m.writes.failed };
 
-    ghost is_honest = { λ _. ⊤ };
+    ghost is_honest = { λ m. m.lied ≡ false };
 
-    ghost is_truthful = { λ _. ⊤ };
+    ghost is_truthful = { λ m. m.hidden ≡ false };
 
-    fn read_at(&mut self, _place: u64, _into: &mut [u8]) -> Result<(), Failed> {
-        self.read_faults = self.read_faults.saturating_add(1);
-        Err(Failed)
+    fn read_at(&mut self, place: u64, into: &mut [u8]) -> Result<(), Failed> {
+        let lied = self.lied || self.lies_next();
+        let answer = self.memory.read_at(place, into);
+        self.lied = lied;
+        answer
     }
 
-    fn write_at(&mut self, _place: u64, _piece: &[u8]) -> Result<(), Failed> {
-        self.write_faults = self.write_faults.saturating_add(1);
-        Err(Failed)
+    fn write_at(&mut self, place: u64, piece: &[u8]) -> Result<(), Failed> {
+        self.memory.write_at(place, piece)
     }
 }
 
-impl Truthful for NoSwap {
+impl Truthful for TestSwap {
     fn tells_truth(&self) -> bool {
-        true
+        !self.lied
     }
 
     fn tells(&self) -> bool {
-        false
+        true
     }
 }

@@ -1,5 +1,9 @@
 //! Small mudlibs with their events and whole transcripts, at ample memory.
+use crate::device::{TestSwap, Troubles};
 use crate::reports::{Files, ends, script_with};
+use crate::running::{owned, source};
+use lp_io::{MemSink, MemSource};
+use lp_top::{code, run};
 use std::alloc::{AllocError, Global};
 use std::process::Abort;
 use std::test::Fail;
@@ -26,4 +30,55 @@ pub(crate) fn are_replayed(
         assert!(rt; is_replayed(alloc, words, *game)?, "not {}", game.2);
     }
     Ok(())
+}
+
+/// How a replay over a swap file with troubles ended: with this status, so many reads and writes, and these bytes.
+#[derive(Drop)]
+pub(crate) struct Trial {
+    pub(crate) status: u8,
+    pub(crate) calls: (u64, u64),
+    pub(crate) bytes: Vec<u8>,
+}
+
+/// The same of devices that are there.
+fn tried_over(
+    alloc: Global,
+    words: &[String],
+    input: &mut MemSource,
+    swap: &mut TestSwap,
+    takes: usize,
+) -> Result<Trial, AllocError> {
+    let mut out = MemSink::new(alloc, Vec::new(alloc), takes);
+    let status = code(&run(alloc, words, input, &mut out, swap));
+    Ok(Trial {
+        status,
+        calls: swap.calls(),
+        bytes: out.as_slice().to_vec(alloc)?,
+    })
+}
+
+/// The same of a script.
+fn tried_with(
+    alloc: Global,
+    words: &[String],
+    text: &str,
+    troubles: Troubles,
+    takes: usize,
+) -> Result<Trial, AllocError> {
+    let mut input = source(alloc, text.as_bytes(), &[])?;
+    let mut swap = TestSwap::new(alloc, troubles)?;
+    tried_over(alloc, words, &mut input, &mut swap, takes)
+}
+
+/// A replay over a swap file with troubles, and a sink that takes so many bytes at a time.
+pub(crate) fn tried(
+    alloc: Global,
+    words: &[&str],
+    game: Game,
+    troubles: Troubles,
+    takes: usize,
+) -> Result<Trial, AllocError> {
+    let text = script_with(alloc, game.0, game.1)?;
+    let all = owned(alloc, words)?;
+    tried_with(alloc, all.as_slice(), text.as_str(), troubles, takes)
 }

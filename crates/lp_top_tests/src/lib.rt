@@ -26,6 +26,14 @@ mod words;
 
 // Games: small mudlibs with their events and whole transcripts.
 #[cfg(test)]
+mod accounts;
+#[cfg(test)]
+mod bodies;
+#[cfg(test)]
 mod commands;
 #[cfg(test)]
 mod games;
+#[cfg(test)]
+mod moments;
+#[cfg(test)]
+mod swapping;

@@ -1,6 +1,6 @@
 //! Runs of the driver over devices in memory.
-use crate::device::NoSwap;
 use lp_io::{MemSink, MemSource, Octets};
+use lp_memory_file::MemoryFile;
 use lp_top::{Status, code, run};
 use lp_tree::fault::FaultKind;
 use std::alloc::{AllocError, Global};
@@ -36,7 +36,7 @@ pub(crate) fn ran(
 }
 
 // Words that are owned.
-fn owned(alloc: Global, words: &[&str]) -> Result<Vec<String>, AllocError> {
+pub(crate) fn owned(alloc: Global, words: &[&str]) -> Result<Vec<String>, AllocError> {
     let mut all = Vec::new(alloc);
     for word in words {
         all.push(String::from_str(alloc, word)?)?;
@@ -81,7 +81,11 @@ fn outcome_of(
 }
 
 // A source of bytes, of whose reads those with these numbers fail.
-fn source(alloc: Global, script: &[u8], failing: &[u64]) -> Result<MemSource, AllocError> {
+pub(crate) fn source(
+    alloc: Global,
+    script: &[u8],
+    failing: &[u64],
+) -> Result<MemSource, AllocError> {
     let bytes = Octets::from_vec(script.to_vec(alloc)?);
     Ok(MemSource::new(bytes, failing.to_vec(alloc)?))
 }
@@ -93,7 +97,7 @@ fn ran_with(
     input: &mut MemSource,
     out: &mut MemSink,
 ) -> Result<Outcome, AllocError> {
-    let mut swap = NoSwap::new();
+    let mut swap = MemoryFile::new(alloc);
     let status = run(alloc, words, input, out, &mut swap);
     outcome_of(alloc, &status, input, out)
 }

@@ -62,7 +62,7 @@ const SIMUL: [Words; 15] = [
 ];
 
 /// Words in another order, and the option of another command.
-const OTHERS: [Words; 13] = [
+const OTHERS: [Words; 20] = [
     &["--simul", "/s.c", "check"],
     &["check", "x", "--simul", "/s.c"],
     &["check", "--Simul", "/s.c"],
@@ -77,6 +77,14 @@ const OTHERS: [Words; 13] = [
     &["replay", "--swap-time=1", "--swap-time=1"],
     &["check", "--swap-time", "1"],
     &["replay", "900"],
+    // the option for a report cut, twice, with a value, or of another command
+    &["replay", "--rep"],
+    &["replay", "--report", "--report"],
+    &["replay", "--report=1"],
+    &["replay", "--report", "1"],
+    &["replay", "--report", "--"],
+    &["replay", "--swap-time", "--report"],
+    &["check", "--swap-time=1", "--report"],
 ];
 
 /// Words of a workload that is none: values that are missing or too many, or that are not spelled as
