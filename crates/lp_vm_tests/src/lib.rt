@@ -9,11 +9,15 @@ mod after;
 #[cfg(test)]
 mod budgets;
 #[cfg(test)]
+mod commands;
+#[cfg(test)]
 mod crossing;
 pub mod device;
 #[cfg(test)]
 mod ends;
 pub mod fault;
+#[cfg(test)]
+mod files;
 pub mod game;
 #[cfg(test)]
 mod items;
@@ -24,6 +28,8 @@ mod modifiers;
 mod names;
 #[cfg(test)]
 mod outside;
+#[cfg(test)]
+mod placing;
 pub mod playing;
 pub mod present;
 #[cfg(test)]
