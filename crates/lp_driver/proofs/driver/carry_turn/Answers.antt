@@ -1,8 +1,8 @@
-use Rattle.std.proofs.Common.{◌≡◌, refl, subst, true}
+use Rattle.std.proofs.Common.{◌≡◌, subst, true}
 use Rattle.std.specs.Prelude.{length}
 use Rattle.lp_driver.specs.Tidying.{HasNeededAlone, IsOver, drops_behind}
 use Rattle.lp_driver.proofs.Rested.{rest_for_one, turned, turned_rest}
-use Rattle.lp_driver.proofs.Telling.{tells_readless, tells_still}
+use Rattle.lp_driver.proofs.Telling.{tells_still}
 use Rattle.lp_driver.proofs.driver.carry_turn.Goals as goal
 
 pub carry_out-requires-clause-rests : goal.carry_out-requires-clause-rests
@@ -29,6 +29,3 @@ returns-in-Ok-clause-rest g c =
 
 pub returns-in-Ok-clause-tells : goal.returns-in-Ok-clause-tells
 returns-in-Ok-clause-tells g c = tells_still c.in_ok-carry_out.ensures.tells c.drop_versions.new.live
-
-pub returns-in-Err-clause-tells : goal.returns-in-Err-clause-tells
-returns-in-Err-clause-tells g c = tells_readless c.in_ok-carry_out.ensures.tells c.drop_versions.new.live _ refl
