@@ -128,8 +128,7 @@ TellsMoved live0 item dest live1 calls = (told : Option Bytes) (programs : List 
 pub move_advances : (r : Visits) (live0 live1 : Live) (turn : Turn) → r.done ≡ 0 → TellsMoved live0 r.item r.dest live1 r.calls.items → live1.outputs ≡ live0.outputs → Advances (stages.Move (moves.Into r.item r.dest)) live0 turn (stages.Move (moves.Visiting r)) live1 turn
 move_advances r live0 live1 turn z f o e own g b by s h =
     let m = f g.told g.programs s.world h.stands in
-    let t : State = record s { world = moved_world s.world r.item r.dest } in
-    (
+    let t : State = record s { world = moved_world s.world r.item r.dest } in (
       t,
       record {
         at = record { stands = m.stands; left = h.left; outputs = o ∙ h.outputs; player = h.player; commands = h.commands };

@@ -180,12 +180,7 @@ pub(crate) fn begin_move(live: &Live, stack: &Vec<Value>, low: usize) -> Result<
 }
 
 /// The destination was loaded: it is what the load gave. The item and it are to be live then.
-fn take_destination(
-    objects: &ObjectTable,
-    stack: &Vec<Value>,
-    low: usize,
-    v: &Value,
-) -> Stage
+fn take_destination(objects: &ObjectTable, stack: &Vec<Value>, low: usize, v: &Value) -> Stage
     requires low { low ≤ length stack.now.items }
     ensures takes { (name : List ℕ) → StageTakes (Stage.Move (Moving.Destination name)) v.now (live_in objects.now) low stack.now.items result stack.now.items }
     ensures on { (low n : ℕ) → low ≤ n → IsStageOn result low n }
@@ -246,13 +241,7 @@ fn enter_visits(visits: Visits, live: &Live, turn: &Turn) -> Stage
 }
 
 /// The next call of `init` is asked, for its player, who is `this_player()` until the answer.
-fn ask_init(
-    visits: &Visits,
-    live: &Live,
-    turn: &mut Turn,
-    stack: &Vec<Value>,
-    low: usize,
-) -> Step
+fn ask_init(visits: &Visits, live: &Live, turn: &mut Turn, stack: &Vec<Value>, low: usize) -> Step
     requires low { low ≤ length stack.now.items }
     requires poised { IsVisitPoised visits.now live.now turn.old }
     ensures goes { (efun : _) (budget : ℕ) → StageGoes result efun (Stage.Move (Moving.Visiting visits.now)) low live.now turn.old stack.now.items budget live.now turn.new stack.now.items budget }
@@ -295,12 +284,7 @@ fn error_of(fault: MoveFault) -> Result<ErrorKind, AllocError>
 ///
 /// # Errors
 /// Where memory runs out. The state stands for what it stood for then.
-fn enter_into(
-    item: ObjId,
-    dest: ObjId,
-    live: &mut Live,
-    turn: &Turn,
-) -> Result<Stage, AllocError>
+fn enter_into(item: ObjId, dest: ObjId, live: &mut Live, turn: &Turn) -> Result<Stage, AllocError>
     requires closed { IsClosed live.old }
     ensures advances { IfOk result (λ t. Advances (Stage.Move (Moving.Into item dest)) live.old turn.now t live.new turn.now) }
     ensures poised { IfOk result (λ t. IsPoised t live.new turn.now) }

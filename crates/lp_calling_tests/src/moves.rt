@@ -10,6 +10,7 @@ use std::test::Fail;
 
 /// Whatever `init` answers.
 const NO: Reply = Gives(One(Int(0)));
+
 const YES: Reply = Gives(One(Int(1)));
 
 const MOVED: [Row; 6] = [
