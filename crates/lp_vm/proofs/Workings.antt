@@ -7,6 +7,7 @@ use Rattle.std.proofs.lemmas.List.{reverse-append}
 use Rattle.std.proofs.Math.Seq.{take-append_seam}
 use Rattle.lp_values.specs.declared.id.ObjId.{ObjId}
 use Rattle.lp_values.specs.declared.value.Value.{Value}
+use Rattle.lp_cells.specs.Cells.{Store}
 use Rattle.lp_code.specs.declared.program.RawProgram.{RawProgram}
 use Rattle.lp_events.specs.declared.out.Out.{Out}
 use Rattle.lp_swapfile.specs.Device.{Bytes}
@@ -86,6 +87,11 @@ question_asked (questions.Apply ob applied) asker this by c xs t scene same call
 question_asked (questions.Load name) asker this by c xs t scene same callers = refl
 
 -- What an answer makes of a job
+
+-- what ends it is there
+pub some_there : (cells : Store) (x : Ending) (r : Option Ending) → IsEndingThere cells x → IfSome r (λ e. e ≡ x) → IfSome r (IsEndingThere cells)
+some_there cells x None there h = tt
+some_there cells x (Some e) there h = subst (IsEndingThere cells) (sym h) there
 
 -- who asks, with `this_player()` put back, is who asked
 back_same : (job : Job) (asker : Asker) → IsSameAsker asker (asker_back job asker)

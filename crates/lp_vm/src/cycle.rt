@@ -29,7 +29,7 @@ use crate::loading::{answer_of, begin_load, feed_load, letters_of, pop_load, ste
 use crate::looking::start_efun;
 use crate::making::{ask_next, feed_on};
 use crate::request::Request;
-use crate::working::{Stepped, feed_back, step_job};
+use crate::working::{Stepped, feed_back, feed_loaded, step_job};
 use lp_asking::asker::Asker;
 use lp_asking::ending::{Ending, Place};
 use lp_asking::truth::Truthful;
@@ -122,8 +122,9 @@ fn work<W: Truthful>(
                     Purpose::Wanted,
                     budget,
                 )?;
-                let ending = loaded_ending(alloc, &name, answer)?;
-                if let Some(ending) = feed_back(&mut job, live, stack, asker, ending)? {
+                if let Some(ending) = feed_loaded(
+                    alloc, &mut job, live, stack, asker, name, answer,
+                )? {
                     return Ok(ending);
                 }
             }

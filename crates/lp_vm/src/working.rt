@@ -7,25 +7,30 @@ ghost use Rattle.lp_step.specs.Steps.{IsFit, KeepsVariables};
 ghost use Rattle.lp_world.specs.Closed.{IsClosed};
 ghost use Rattle.lp_world.specs.Rows.{row_at};
 ghost use Rattle.lp_asking.specs.Endings.{IsEndingThere};
+ghost use Rattle.lp_loading.specs.Going.{IsAnswerThere};
 ghost use Rattle.lp_vm.specs.declared.fault.VmFault.TheVariants.{NoMemory, NotYet};
 ghost use Rattle.lp_vm.specs.Causes.{Tells, read_of};
 ghost use Rattle.lp_vm.specs.Jobs.{AsksFor, FedOn, Feeds, IsStepThere, StepsTo, asker_back};
+ghost use Rattle.lp_vm.specs.Loaded.{loaded_ending};
 ghost use Rattle.lp_vm.specs.Working.{CanReach, CanWork};
 
 use crate::asking::{reach_applied, reach_other};
 use crate::efuns::ending_of;
 use crate::fault::VmFault;
+use crate::loaded::loaded_ending;
 use lp_asking::asker::Asker;
 use lp_asking::ending::{Ending, Place};
 use lp_asking::truth::Truthful;
 use lp_calling::feed::feed;
 use lp_calling::job::{Applied, Job, Question, Step};
 use lp_calling::next::{next, stop};
+use lp_loading::job::Answer;
 use lp_reaching::reached::Reached;
 use lp_values::id::ObjId;
 use lp_values::text::Text;
 use lp_values::value::Value;
 use lp_world::live::Live;
+use std::alloc::Global;
 
 /// How far a job came.
 #[derive(Drop)]
@@ -201,4 +206,32 @@ pub fn feed_back(
             Ok(Some(Ending::Stopped(s)))
         }
     }
+}
+
+/// A job goes on with how its load by this name ended: faults of the file are an error of its efun.
+///
+/// # Errors
+/// `NoMemory`.
+pub fn feed_loaded(
+    alloc: Global,
+    job: &mut Job,
+    live: &Live,
+    stack: &mut Vec<Value>,
+    asker: &mut Asker,
+    name: Text,
+    answer: Answer,
+) -> Result<Option<Ending>, VmFault>
+    requires on { IsJobOn job.old stack.old.items }
+    requires asking { IsAsking job.old }
+    requires fit { IsFit live.now stack.old.items }
+    requires there { IsAnswerThere live.now.cells answer }
+    ensures feeds { IfOk result (λ r. Feeds r (loaded_ending name answer) job.old live.now stack.old.items job.new stack.new.items) }
+    ensures back { OnOk result (asker.new ≡ asker_back job.old asker.old) }
+    ensures on { IfOk result (λ r. FedOn r job.old job.new live.now stack.new.items) }
+    ensures fit { OnOk result (IsFit live.now stack.new.items) }
+    ensures there { IfOk result (λ r. IfSome r (IsEndingThere live.now.cells)) }
+    ensures fault { IfErr result (λ f. f ≡ NoMemory) }
+{
+    let ending = loaded_ending(alloc, &name, answer)?;
+    feed_back(job, live, stack, asker, ending)
 }

@@ -252,8 +252,8 @@ work-load-requires g t c =
     let more = c.questions.invariant.spends in
     λ κs within. (omega (arith, less, more), (within, (k.fit, k.can c.questions.invariant.can)))
 
-pub work-feed_back-requires-in-Loads-clause-on : goal.work-feed_back-requires-in-Loads-clause-on
-work-feed_back-requires-in-Loads-clause-on g t c =
+pub work-feed_loaded-requires-clause-on : goal.work-feed_loaded-requires-clause-on
+work-feed_loaded-requires-clause-on g t c =
     let k : WorkLoads c.in-Loads.name c.args.at c.questions.job (g.W.SwapFile.content c.questions.swap) c.questions.live c.questions.stack.items c.questions.asker c.questions.budget c.step_job.new.job (g.W.SwapFile.content c.step_job.new.swap) c.step_job.new.live c.step_job.new.stack.items c.step_job.new.asker c.step_job.new.budget =
     subst (λ x. StepsTo x c.args.at c.questions.job (g.W.SwapFile.content c.questions.swap) c.questions.live c.questions.stack.items c.questions.asker c.questions.budget c.step_job.new.job (g.W.SwapFile.content c.step_job.new.swap) c.step_job.new.live c.step_job.new.stack.items c.step_job.new.asker c.step_job.new.budget) c.in-Loads.is c.in_ok-ending.ensures.steps in
     let loads : Loads (Some c.args.at.this) (Some c.args.at) c.in-Loads.name purposes.Wanted (g.W.SwapFile.content c.step_job.new.swap) c.step_job.new.live c.step_job.new.stack.items c.step_job.new.asker c.step_job.new.budget (g.W.SwapFile.content c.load.new.swap) c.load.new.live c.load.new.stack.items c.load.new.asker c.load.new.budget c.in_ok-answer-in-Loads.answer =
@@ -266,20 +266,18 @@ work-returns-in-Some-2-clause-works g t c =
     subst (λ x. StepsTo x c.args.at c.questions.job (g.W.SwapFile.content c.questions.swap) c.questions.live c.questions.stack.items c.questions.asker c.questions.budget c.step_job.new.job (g.W.SwapFile.content c.step_job.new.swap) c.step_job.new.live c.step_job.new.stack.items c.step_job.new.asker c.step_job.new.budget) c.in-Loads.is c.in_ok-ending.ensures.steps in
     let loads : Loads (Some c.args.at.this) (Some c.args.at) c.in-Loads.name purposes.Wanted (g.W.SwapFile.content c.step_job.new.swap) c.step_job.new.live c.step_job.new.stack.items c.step_job.new.asker c.step_job.new.budget (g.W.SwapFile.content c.load.new.swap) c.load.new.live c.load.new.stack.items c.load.new.asker c.load.new.budget c.in_ok-answer-in-Loads.answer =
     subst (λ n. Loads (Some c.args.at.this) (Some c.args.at) n purposes.Wanted (g.W.SwapFile.content c.step_job.new.swap) c.step_job.new.live c.step_job.new.stack.items c.step_job.new.asker c.step_job.new.budget (g.W.SwapFile.content c.load.new.swap) c.load.new.live c.load.new.stack.items c.load.new.asker c.load.new.budget c.in_ok-answer-in-Loads.answer) c.as_slice.ensures c.in_ok-answer-in-Loads.ensures.loads in
-    let same : c.in-Some-2.ending ≡ c.in_ok-ending-in-Loads.ending = subst (λ r. IfSome r (λ e. e ≡ c.in_ok-ending-in-Loads.ending)) c.in-Some-2.is c.in_ok-ending-in-Loads-2.ensures.same in
-    works_later c.args.at c.args.job c.questions.job (g.W.SwapFile.content c.args.swap.now) (g.W.SwapFile.content c.questions.swap) (g.W.SwapFile.content c.load.new.swap) c.args.live.now c.questions.live c.load.new.live c.args.stack.now.items c.questions.stack.items c.feed_back-in-Loads.new.stack.items
-    c.args.asker.now c.questions.asker c.feed_back-in-Loads.new.asker c.args.budget.now c.questions.budget c.load.new.budget c.in-Some-2.ending c.questions.invariant.goes c.questions.invariant.same c.questions.invariant.spends c.questions.invariant.home
-    (loaded_ends c.args.at c.questions.job c.step_job.new.job c.feed_back-in-Loads.new.job c.in-Loads.name (g.W.SwapFile.content c.questions.swap) (g.W.SwapFile.content c.step_job.new.swap) (g.W.SwapFile.content c.load.new.swap) c.questions.live c.step_job.new.live c.load.new.live
-    c.questions.stack.items c.step_job.new.stack.items c.load.new.stack.items c.feed_back-in-Loads.new.stack.items c.questions.asker c.step_job.new.asker c.load.new.asker c.feed_back-in-Loads.new.asker c.questions.budget c.step_job.new.budget c.load.new.budget c.in_ok-answer-in-Loads.answer c.in-Some-2.ending k loads
-    (subst (λ e. Feeds (Some c.in-Some-2.ending) e c.step_job.new.job c.load.new.live c.load.new.stack.items c.feed_back-in-Loads.new.job c.feed_back-in-Loads.new.stack.items) c.in_ok-ending-in-Loads.ensures.ending
-    (subst (λ r. Feeds r c.in_ok-ending-in-Loads.ending c.step_job.new.job c.load.new.live c.load.new.stack.items c.feed_back-in-Loads.new.job c.feed_back-in-Loads.new.stack.items) c.in-Some-2.is c.in_ok-ending-in-Loads-2.ensures.feeds)) c.feed_back-in-Loads.ensures.back
-    (subst (IsEndingThere c.load.new.live.cells) (sym same) (c.in_ok-ending-in-Loads.ensures.there c.load.new.live.cells loads.there)) c.in_ok-ending-in-Loads-2.ensures.fit)
+    works_later c.args.at c.args.job c.questions.job (g.W.SwapFile.content c.args.swap.now) (g.W.SwapFile.content c.questions.swap) (g.W.SwapFile.content c.load.new.swap) c.args.live.now c.questions.live c.load.new.live c.args.stack.now.items c.questions.stack.items c.feed_loaded.new.stack.items
+    c.args.asker.now c.questions.asker c.feed_loaded.new.asker c.args.budget.now c.questions.budget c.load.new.budget c.in-Some-2.ending c.questions.invariant.goes c.questions.invariant.same c.questions.invariant.spends c.questions.invariant.home
+    (loaded_ends c.args.at c.questions.job c.step_job.new.job c.feed_loaded.new.job c.in-Loads.name (g.W.SwapFile.content c.questions.swap) (g.W.SwapFile.content c.step_job.new.swap) (g.W.SwapFile.content c.load.new.swap) c.questions.live c.step_job.new.live c.load.new.live
+    c.questions.stack.items c.step_job.new.stack.items c.load.new.stack.items c.feed_loaded.new.stack.items c.questions.asker c.step_job.new.asker c.load.new.asker c.feed_loaded.new.asker c.questions.budget c.step_job.new.budget c.load.new.budget c.in_ok-answer-in-Loads.answer c.in-Some-2.ending k loads
+    (subst (λ r. Feeds r (loaded_ending c.in-Loads.name c.in_ok-answer-in-Loads.answer) c.step_job.new.job c.load.new.live c.load.new.stack.items c.feed_loaded.new.job c.feed_loaded.new.stack.items) c.in-Some-2.is c.in_ok-ending-in-Loads.ensures.feeds) c.in_ok-ending-in-Loads.ensures.back
+    (subst (λ r. IfSome r (IsEndingThere c.load.new.live.cells)) c.in-Some-2.is c.in_ok-ending-in-Loads.ensures.there) c.in_ok-ending-in-Loads.ensures.fit)
 
 pub work-questions-smaller : goal.work-questions-smaller
 work-questions-smaller g t c =
     let k : WorkLoads c.in-Loads.name c.args.at c.questions.job (g.W.SwapFile.content c.questions.swap) c.questions.live c.questions.stack.items c.questions.asker c.questions.budget c.step_job.new.job (g.W.SwapFile.content c.step_job.new.swap) c.step_job.new.live c.step_job.new.stack.items c.step_job.new.asker c.step_job.new.budget =
     subst (λ x. StepsTo x c.args.at c.questions.job (g.W.SwapFile.content c.questions.swap) c.questions.live c.questions.stack.items c.questions.asker c.questions.budget c.step_job.new.job (g.W.SwapFile.content c.step_job.new.swap) c.step_job.new.live c.step_job.new.stack.items c.step_job.new.asker c.step_job.new.budget) c.in-Loads.is c.in_ok-ending.ensures.steps in
-    let on : FedOn None c.step_job.new.job c.feed_back-in-Loads.new.job c.load.new.live c.feed_back-in-Loads.new.stack.items = subst (λ r. FedOn r c.step_job.new.job c.feed_back-in-Loads.new.job c.load.new.live c.feed_back-in-Loads.new.stack.items) c.in_default-2.is c.in_ok-ending-in-Loads-2.ensures.on in
+    let on : FedOn None c.step_job.new.job c.feed_loaded.new.job c.load.new.live c.feed_loaded.new.stack.items = subst (λ r. FedOn r c.step_job.new.job c.feed_loaded.new.job c.load.new.live c.feed_loaded.new.stack.items) c.in_default-2.is c.in_ok-ending-in-Loads.ensures.on in
     let less = on.2 in
     let left = k.left in
     omega (arith, less, left)
@@ -290,23 +288,22 @@ work-questions-preserved g t c =
     subst (λ x. StepsTo x c.args.at c.questions.job (g.W.SwapFile.content c.questions.swap) c.questions.live c.questions.stack.items c.questions.asker c.questions.budget c.step_job.new.job (g.W.SwapFile.content c.step_job.new.swap) c.step_job.new.live c.step_job.new.stack.items c.step_job.new.asker c.step_job.new.budget) c.in-Loads.is c.in_ok-ending.ensures.steps in
     let loads : Loads (Some c.args.at.this) (Some c.args.at) c.in-Loads.name purposes.Wanted (g.W.SwapFile.content c.step_job.new.swap) c.step_job.new.live c.step_job.new.stack.items c.step_job.new.asker c.step_job.new.budget (g.W.SwapFile.content c.load.new.swap) c.load.new.live c.load.new.stack.items c.load.new.asker c.load.new.budget c.in_ok-answer-in-Loads.answer =
     subst (λ n. Loads (Some c.args.at.this) (Some c.args.at) n purposes.Wanted (g.W.SwapFile.content c.step_job.new.swap) c.step_job.new.live c.step_job.new.stack.items c.step_job.new.asker c.step_job.new.budget (g.W.SwapFile.content c.load.new.swap) c.load.new.live c.load.new.stack.items c.load.new.asker c.load.new.budget c.in_ok-answer-in-Loads.answer) c.as_slice.ensures c.in_ok-answer-in-Loads.ensures.loads in
-    let on : FedOn None c.step_job.new.job c.feed_back-in-Loads.new.job c.load.new.live c.feed_back-in-Loads.new.stack.items = subst (λ r. FedOn r c.step_job.new.job c.feed_back-in-Loads.new.job c.load.new.live c.feed_back-in-Loads.new.stack.items) c.in_default-2.is c.in_ok-ending-in-Loads-2.ensures.on in
-    let more : WorkContinues c.args.at c.questions.job (g.W.SwapFile.content c.questions.swap) c.questions.live c.questions.stack.items c.questions.asker c.questions.budget c.feed_back-in-Loads.new.job (g.W.SwapFile.content c.load.new.swap) c.load.new.live c.feed_back-in-Loads.new.stack.items c.feed_back-in-Loads.new.asker c.load.new.budget =
-    k.turns c.feed_back-in-Loads.new.job (g.W.SwapFile.content c.load.new.swap) c.load.new.live c.load.new.stack.items c.feed_back-in-Loads.new.stack.items c.load.new.asker c.feed_back-in-Loads.new.asker c.load.new.budget c.in_ok-answer-in-Loads.answer None loads
-    (subst (λ e. Feeds None e c.step_job.new.job c.load.new.live c.load.new.stack.items c.feed_back-in-Loads.new.job c.feed_back-in-Loads.new.stack.items) c.in_ok-ending-in-Loads.ensures.ending
-    (subst (λ r. Feeds r c.in_ok-ending-in-Loads.ending c.step_job.new.job c.load.new.live c.load.new.stack.items c.feed_back-in-Loads.new.job c.feed_back-in-Loads.new.stack.items) c.in_default-2.is c.in_ok-ending-in-Loads-2.ensures.feeds)) c.feed_back-in-Loads.ensures.back in
+    let on : FedOn None c.step_job.new.job c.feed_loaded.new.job c.load.new.live c.feed_loaded.new.stack.items = subst (λ r. FedOn r c.step_job.new.job c.feed_loaded.new.job c.load.new.live c.feed_loaded.new.stack.items) c.in_default-2.is c.in_ok-ending-in-Loads.ensures.on in
+    let more : WorkContinues c.args.at c.questions.job (g.W.SwapFile.content c.questions.swap) c.questions.live c.questions.stack.items c.questions.asker c.questions.budget c.feed_loaded.new.job (g.W.SwapFile.content c.load.new.swap) c.load.new.live c.feed_loaded.new.stack.items c.feed_loaded.new.asker c.load.new.budget =
+    k.turns c.feed_loaded.new.job (g.W.SwapFile.content c.load.new.swap) c.load.new.live c.load.new.stack.items c.feed_loaded.new.stack.items c.load.new.asker c.feed_loaded.new.asker c.load.new.budget c.in_ok-answer-in-Loads.answer None loads
+    (subst (λ r. Feeds r (loaded_ending c.in-Loads.name c.in_ok-answer-in-Loads.answer) c.step_job.new.job c.load.new.live c.load.new.stack.items c.feed_loaded.new.job c.feed_loaded.new.stack.items) c.in_default-2.is c.in_ok-ending-in-Loads.ensures.feeds) c.in_ok-ending-in-Loads.ensures.back in
     record {
-      can = can_work_on c.args.at c.questions.job c.feed_back-in-Loads.new.job (g.W.SwapFile.content c.questions.swap) (g.W.SwapFile.content c.load.new.swap) c.questions.live c.load.new.live c.questions.stack.items c.feed_back-in-Loads.new.stack.items c.questions.asker c.feed_back-in-Loads.new.asker c.questions.budget c.load.new.budget c.questions.invariant.can more;
+      can = can_work_on c.args.at c.questions.job c.feed_loaded.new.job (g.W.SwapFile.content c.questions.swap) (g.W.SwapFile.content c.load.new.swap) c.questions.live c.load.new.live c.questions.stack.items c.feed_loaded.new.stack.items c.questions.asker c.feed_loaded.new.asker c.questions.budget c.load.new.budget c.questions.invariant.can more;
       on = on.0;
       ready = on.1;
-      fit = c.in_ok-ending-in-Loads-2.ensures.fit;
-      same = same_later c.args.asker.now c.questions.asker c.feed_back-in-Loads.new.asker c.questions.invariant.same
-          (same_later c.questions.asker c.load.new.asker c.feed_back-in-Loads.new.asker (same_later c.questions.asker c.step_job.new.asker c.load.new.asker k.same loads.same) (same_back c.step_job.new.job c.load.new.asker c.feed_back-in-Loads.new.asker c.feed_back-in-Loads.ensures.back));
+      fit = c.in_ok-ending-in-Loads.ensures.fit;
+      same = same_later c.args.asker.now c.questions.asker c.feed_loaded.new.asker c.questions.invariant.same
+          (same_later c.questions.asker c.load.new.asker c.feed_loaded.new.asker (same_later c.questions.asker c.step_job.new.asker c.load.new.asker k.same loads.same) (same_back c.step_job.new.job c.load.new.asker c.feed_loaded.new.asker c.in_ok-ending-in-Loads.ensures.back));
       spends = le_trans (le_trans loads.spends k.spends) c.questions.invariant.spends;
       home = home_later c.args.live.now.objects c.questions.live.objects c.load.new.live.objects c.questions.invariant.home (home_later c.questions.live.objects c.step_job.new.live.objects c.load.new.live.objects k.home loads.home);
       tells = tells_more c.questions.invariant.tells (tells_more c.in_ok-ending.ensures.tells c.in_ok-answer-in-Loads.ensures.tells);
-      goes = works_more c.args.at c.args.job c.questions.job c.feed_back-in-Loads.new.job (g.W.SwapFile.content c.args.swap.now) (g.W.SwapFile.content c.questions.swap) (g.W.SwapFile.content c.load.new.swap) c.args.live.now c.questions.live c.load.new.live c.args.stack.now.items c.questions.stack.items c.feed_back-in-Loads.new.stack.items
-          c.args.asker.now c.questions.asker c.feed_back-in-Loads.new.asker c.args.budget.now c.questions.budget c.load.new.budget c.questions.invariant.goes more;
+      goes = works_more c.args.at c.args.job c.questions.job c.feed_loaded.new.job (g.W.SwapFile.content c.args.swap.now) (g.W.SwapFile.content c.questions.swap) (g.W.SwapFile.content c.load.new.swap) c.args.live.now c.questions.live c.load.new.live c.args.stack.now.items c.questions.stack.items c.feed_loaded.new.stack.items
+          c.args.asker.now c.questions.asker c.feed_loaded.new.asker c.args.budget.now c.questions.budget c.load.new.budget c.questions.invariant.goes more;
     }
 
 -- Objects that were made
