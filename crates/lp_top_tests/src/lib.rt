@@ -36,4 +36,10 @@ mod games;
 #[cfg(test)]
 mod moments;
 #[cfg(test)]
+mod moves;
+#[cfg(test)]
+mod playing;
+#[cfg(test)]
+mod storing;
+#[cfg(test)]
 mod swapping;
