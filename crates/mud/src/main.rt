@@ -94,6 +94,9 @@ fn tell_status(rt: &HostRuntime, status: &Status) {
     if let Status::NoMaster { faults } = status {
         tell_faults(rt, faults);
     }
+    if let Status::BadScript { at } = status {
+        let _ = eprintln!(rt; "at byte {at} of the script");
+    }
     let number = code(status);
     if number != 0 {
         let _ = eprintln!(rt; "mud: status {number}");
