@@ -3,7 +3,7 @@ ghost use Rattle.std.specs.Prelude.{◌≡◌, IfOk, OnOk};
 ghost use Rattle.lp_calling_tests.specs.Whole.{CanAllGo, CanGo, IsWhole, WaitsIf};
 
 use crate::happening::{Reply, answer};
-use crate::telling::{say, say_asked, say_end, say_outputs};
+use crate::telling::{say, say_asked, say_end, say_outputs, say_player};
 use crate::values::{Arg, has_all, lay};
 use lp_calling::begin::{begin, is_calling};
 use lp_calling::job::{Begun, CallingFault, Job, Step};
@@ -52,7 +52,7 @@ fn start(
 fn go_on(
     rt: &impl Abort,
     live: &mut Live,
-    turn: &Turn,
+    turn: &mut Turn,
     stack: &mut Vec<Value>,
     job: &mut Job,
     budget: &mut u64,
@@ -67,9 +67,11 @@ fn go_on(
         has_all(&live.cells, stack.as_slice()),
         "the stack is there"
     );
+    let before = turn.player;
     match next(job, live, turn, stack, budget)? {
         Step::Asks(question, n) => {
             say_asked(rt, live, log, stack, &question, n)?;
+            say_player(live.alloc, log, before, turn.player)?;
             Ok(true)
         }
         Step::Ends(answer) => {
@@ -83,7 +85,7 @@ fn go_on(
 fn carry(
     rt: &impl Abort,
     live: &mut Live,
-    turn: &Turn,
+    turn: &mut Turn,
     stack: &mut Vec<Value>,
     job: &mut Job,
     replies: &[Reply],
@@ -97,11 +99,11 @@ fn carry(
         if !go_on(rt, live, turn, stack, job, budget, log)? {
             return Ok(());
         }
-        answer(rt, live, stack, job, *reply)?;
+        answer(rt, live, turn, stack, job, *reply)?;
     }
     if go_on(rt, live, turn, stack, job, budget, log)? {
         say(live.alloc, log, "and is stopped")?;
-        stop(job, stack);
+        stop(job, turn, stack);
     }
     Ok(())
 }
@@ -110,7 +112,7 @@ fn carry(
 fn finish(
     rt: &impl Abort,
     live: &mut Live,
-    turn: &Turn,
+    turn: &mut Turn,
     stack: &mut Vec<Value>,
     job: Option<Job>,
     replies: &[Reply],
@@ -134,7 +136,7 @@ fn finish(
 pub fn outcome(
     rt: &impl Abort,
     live: &mut Live,
-    turn: &Turn,
+    turn: &mut Turn,
     efun: Efun,
     args: &[Arg],
     replies: &[Reply],

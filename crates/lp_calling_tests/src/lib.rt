@@ -8,6 +8,8 @@ mod calls;
 #[cfg(test)]
 mod carrying;
 #[cfg(test)]
+mod files;
+#[cfg(test)]
 mod happening;
 #[cfg(test)]
 mod items;
@@ -16,9 +18,15 @@ mod loads;
 #[cfg(test)]
 mod messages;
 #[cfg(test)]
+mod moves;
+#[cfg(test)]
 mod prices;
 #[cfg(test)]
+mod rooms;
+#[cfg(test)]
 mod rows;
+#[cfg(test)]
+mod searches;
 #[cfg(test)]
 mod state;
 #[cfg(test)]

@@ -9,6 +9,7 @@ use lp_efuns::known::KnownObjects;
 use lp_events::out::Out;
 use lp_format::sprintf::sprintf;
 use lp_values::decimal::spelling;
+use lp_values::id::ObjId;
 use lp_values::text::{Text, code_points};
 use lp_values::value::Value;
 use lp_world::live::Live;
@@ -83,9 +84,10 @@ fn say_question(alloc: Global, log: &mut Vec<char>, question: &Question) -> Resu
             say(alloc, log, ".")?;
             log.extend_from_slice(name.as_slice())
         }
-        Question::CatchTell(o) => {
+        Question::Apply(o, applied) => {
             say_number(alloc, log, o.0)?;
-            say(alloc, log, "!catch_tell")
+            say(alloc, log, "!")?;
+            say(alloc, log, applied.name())
         }
         Question::Load(name) => {
             say(alloc, log, "load ")?;
@@ -113,6 +115,26 @@ pub fn say_asked(
     say_values(rt, live, log, args.as_slice())?;
     say(live.alloc, log, ") ")?;
     Ok(())
+}
+
+/// `this_player()` where it is another one than before.
+pub fn say_player(
+    alloc: Global,
+    log: &mut Vec<char>,
+    before: Option<ObjId>,
+    now: Option<ObjId>,
+) -> Result<(), AllocError> {
+    if now == before {
+        return Ok(());
+    }
+    match now {
+        Some(o) => {
+            say(alloc, log, "as ")?;
+            say_number(alloc, log, o.0)?;
+            say(alloc, log, " ")
+        }
+        None => say(alloc, log, "as nobody "),
+    }
 }
 
 /// An end: a value as `%O` tells it, a thrown one behind an exclamation mark, the text of an error behind a star, or that the

@@ -106,19 +106,3 @@ load_emptied told0 told1 live0 live1 name player interactive stack0 stack1 asker
 pub carried_rests : (what : Asked) (player interactive : Option ObjId) (xs : List Value) (told0 told1 : Option Bytes) (live0 live1 : Live) (end : CallEnd) → ThereIsOne → CarriesOut what player interactive xs told0 live0 told1 live1 end → RestsForOne told0 live0 → RestsForOne told1 live1
 carried_rests what player interactive xs told0 told1 live0 live1 end one carries h =
     let r = carries one.0 one.1 h.programs h.before h.state h.rests in record { programs = r.programs; before = h.before; state = after (begun player h.state) r.outcome; rests = r.rests }
-
--- An empty line does nothing, and its answer is 0.
-empty_line : (o : ObjId) (player interactive : Option ObjId) (xs : List Value) (told : Option Bytes) (live : Live) → CarriesOut (Command o []) player interactive xs told live told live (call_ends.Ended (endings.Value zero_value))
-empty_line o player interactive xs told live front real programs before s h =
-    let a = asked_in (Command o []) player interactive xs s in
-    record {
-      outcome = outcome_of (Gives (Plain zero_value) (state_of a));
-      has = course.meant refl course.ends refl;
-      programs = programs;
-      rests = record { world = h.world; outputs = h.outputs ∙ ap (λ l. before ++ l) (sym (append-nil s.outputs)) };
-      ended = refl;
-    }
-
-pub no_line : (o : ObjId) (line : List ℕ) (player interactive : Option ObjId) (xs : List Value) (told : Option Bytes) (live : Live) → eqb (length line) 0 ≡ true → CarriesOut (Command o line) player interactive xs told live told live (call_ends.Ended (endings.Value zero_value))
-no_line o [] player interactive xs told live e = empty_line o player interactive xs told live
-no_line o (c ∷ cs) player interactive xs told live e = let z : length (c ∷ cs) ≡ 0 = eqb-true _ _ e in absurd (omega (arith, z))

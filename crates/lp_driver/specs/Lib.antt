@@ -1,5 +1,4 @@
 pub mod Carrying
-pub mod Commands
 pub mod Turning
 pub mod Starting
 pub mod Knowing

@@ -14,7 +14,7 @@ ghost use Rattle.lp_vm.specs.ObjectLoading.{IsLoadAnswer};
 ghost use Rattle.lp_driver.specs.Carrying.{Carries, CarriesOut, RestsForOne};
 
 use crate::asking::{ascii_of, asker_for, lay};
-use crate::commanding::command;
+use crate::commanding::carry_command;
 use lp_asking::ending::Ending;
 use lp_asking::truth::Truthful;
 use lp_front_end::law_there_is_one;
@@ -29,7 +29,7 @@ use lp_vm::object_loading::load_object;
 use lp_world::live::Live;
 
 /// The full budget of each call of the driver.
-const FULL_BUDGET: u64 = 1000000;
+pub(crate) const FULL_BUDGET: u64 = 1000000;
 
 /// A function of an object is applied, by a name of ASCII.
 fn apply_named<W: Truthful>(
@@ -197,7 +197,7 @@ pub(crate) fn carry<W: Truthful>(
     } = call;
     match asked {
         Asked::Apply(o, name) => apply(live, swap, stack, o, &name, player, interactive, arguments),
-        Asked::Command(o, line) => command(live, swap, o, &line),
+        Asked::Command(o, line) => carry_command(live, swap, stack, o, &line, player, interactive),
         Asked::Load(name) => load(live, swap, stack, &name, player, interactive),
     }
 }

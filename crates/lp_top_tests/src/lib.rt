@@ -23,3 +23,19 @@ mod scripts;
 mod simuls;
 #[cfg(test)]
 mod words;
+
+// Games: small mudlibs with their events and whole transcripts.
+#[cfg(test)]
+mod accounts;
+#[cfg(test)]
+mod commands;
+#[cfg(test)]
+mod games;
+#[cfg(test)]
+mod moments;
+#[cfg(test)]
+mod moves;
+#[cfg(test)]
+mod storing;
+#[cfg(test)]
+mod swapping;

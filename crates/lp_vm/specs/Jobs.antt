@@ -9,7 +9,7 @@ use Rattle.lp_calling.specs.declared.job.Job.{Job}
 use Rattle.lp_calling.specs.declared.job.Question.{Question}
 use Rattle.lp_calling.specs.declared.job.Question.TheVariants as questions
 use Rattle.lp_calling.specs.Going.{Takes}
-use Rattle.lp_calling.specs.Jobs.{IsAsking, IsJobOn, IsReady, questions_left}
+use Rattle.lp_calling.specs.Jobs.{IsAsking, IsJobOn, IsReady, player_back, questions_left}
 use Rattle.lp_asking.specs.declared.asker.Asker.{Asker}
 use Rattle.lp_asking.specs.declared.ending.Ending.{Ending}
 use Rattle.lp_asking.specs.declared.ending.Place.{Place}
@@ -21,7 +21,7 @@ use Rattle.lp_reaching.specs.Reaching.{IsInMemory}
 use Rattle.lp_vm.specs.declared.request.Request.TheVariants as requests
 use Rattle.lp_vm.specs.declared.working.Stepped.{Stepped}
 use Rattle.lp_vm.specs.declared.working.Stepped.TheVariants as steps
-use Rattle.lp_vm.specs.Answering.{CanServe}
+use Rattle.lp_vm.specs.Answering.{CanServe, IsSameAsker}
 use Rattle.lp_vm.specs.Cycle.{Answers, Works}
 use Rattle.lp_vm.specs.Loaded.{loaded_ending}
 use Rattle.lp_vm.specs.Loading.{CanLoad, Loads}
@@ -33,6 +33,10 @@ Feeds None (endings.Value v) job0 live stack0 job1 stack1 = Takes job0 v live st
 Feeds None (endings.Stopped s) job0 live stack0 job1 stack1 = ⊥
 Feeds (Some e) (endings.Value v) job0 live stack0 job1 stack1 = ⊥
 Feeds (Some e) (endings.Stopped s) job0 live stack0 job1 stack1 = (e ≡ endings.Stopped s) × (stack1 ≡ take job0.low stack0)
+
+-- who asks, with `this_player()` put back where a job changed it for a question that has ended
+abbrev pub asker_back : Job → Asker → Asker
+asker_back job asker = record asker { turn = record asker.turn { player = player_back job.stage asker.turn.player } }
 
 -- where it goes on, it finds its values on the stack, is ready, and asks less from now on
 abbrev pub FedOn : Option Ending → Job → Job → Live → List Value → Type 0
@@ -51,36 +55,39 @@ IsStepThere live (steps.Ended e) = ⊤
 IsStepThere live (steps.Asks found n) = IfSome found (λ x. IsInMemory live x.callee x.code)
 IsStepThere live (steps.Loads name) = ⊤
 
--- A job asks what reaches this. It can be answered; and whatever is answered, the job goes on with that, or ends.
-pub record WorkAsks (found : Option Reached) (args : ℕ) (at : Place) (job0 : Job) (told0 : Option Bytes) (live0 : Live) (stack0 : List Value) (asker0 : Asker) (budget0 : ℕ) (job1 : Job) (told1 : Option Bytes) (live1 : Live) (stack1 : List Value) (budget1 : ℕ) : Type 0 where
+-- A job asks what reaches this, in a turn that may be another one. It can be answered; and whatever is answered, the job goes on
+-- with that, or ends.
+pub record WorkAsks (found : Option Reached) (args : ℕ) (at : Place) (job0 : Job) (told0 : Option Bytes) (live0 : Live) (stack0 : List Value) (asker0 : Asker) (budget0 : ℕ) (job1 : Job) (told1 : Option Bytes) (live1 : Live) (stack1 : List Value) (asker1 : Asker) (budget1 : ℕ) : Type 0 where
   pub spends : budget1 ≤ budget0
   pub home : KeepsVariables live0.objects live1.objects
   pub fit : IsFit live1 stack1
   pub left : questions_left job1 ≤ questions_left job0
   pub asking : IsAsking job1
-  pub can : CanWork at job0 told0 live0 stack0 asker0 budget0 → CanServe told1 live1 stack1 asker0 budget1 (requests.Function found) args
+  pub same : IsSameAsker asker0 asker1
+  pub can : CanWork at job0 told0 live0 stack0 asker0 budget0 → CanServe told1 live1 stack1 asker1 budget1 (requests.Function found) args
   pub on : (told2 : Option Bytes) (live2 : Live) (stack2 : List Value) (asker2 : Asker) (budget2 : ℕ) (e : Ending)
-      → CanWork at job0 told0 live0 stack0 asker0 budget0 → Answers (requests.Function found) args told1 live1 stack1 asker0 budget1 told2 live2 stack2 asker2 budget2 e → IsJobOn job1 stack2
-  pub turns : (job3 : Job) (told2 : Option Bytes) (live2 : Live) (stack2 stack3 : List Value) (asker2 : Asker) (budget2 : ℕ) (e : Ending) (r : Option Ending)
-      → Answers (requests.Function found) args told1 live1 stack1 asker0 budget1 told2 live2 stack2 asker2 budget2 e → Feeds r e job1 live2 stack2 job3 stack3
-      → WorkTurned r at job0 told0 live0 stack0 asker0 budget0 job3 told2 live2 stack3 asker2 budget2
+      → CanWork at job0 told0 live0 stack0 asker0 budget0 → Answers (requests.Function found) args told1 live1 stack1 asker1 budget1 told2 live2 stack2 asker2 budget2 e → IsJobOn job1 stack2
+  pub turns : (job3 : Job) (told2 : Option Bytes) (live2 : Live) (stack2 stack3 : List Value) (asker2 asker3 : Asker) (budget2 : ℕ) (e : Ending) (r : Option Ending)
+      → Answers (requests.Function found) args told1 live1 stack1 asker1 budget1 told2 live2 stack2 asker2 budget2 e → Feeds r e job1 live2 stack2 job3 stack3 → asker3 ≡ asker_back job1 asker2
+      → WorkTurned r at job0 told0 live0 stack0 asker0 budget0 job3 told2 live2 stack3 asker3 budget2
 
 -- Or it asks for a load. That can be carried out; and however it ends, the job goes on with that, or ends.
-pub record WorkLoads (name : List ℕ) (at : Place) (job0 : Job) (told0 : Option Bytes) (live0 : Live) (stack0 : List Value) (asker0 : Asker) (budget0 : ℕ) (job1 : Job) (told1 : Option Bytes) (live1 : Live) (stack1 : List Value) (budget1 : ℕ) : Type 0 where
+pub record WorkLoads (name : List ℕ) (at : Place) (job0 : Job) (told0 : Option Bytes) (live0 : Live) (stack0 : List Value) (asker0 : Asker) (budget0 : ℕ) (job1 : Job) (told1 : Option Bytes) (live1 : Live) (stack1 : List Value) (asker1 : Asker) (budget1 : ℕ) : Type 0 where
   pub spends : budget1 ≤ budget0
   pub home : KeepsVariables live0.objects live1.objects
   pub fit : IsFit live1 stack1
   pub left : questions_left job1 ≤ questions_left job0
   pub asking : IsAsking job1
-  pub can : CanWork at job0 told0 live0 stack0 asker0 budget0 → CanLoad (Some at.this) (Some at) told1 live1 asker0 budget1
+  pub same : IsSameAsker asker0 asker1
+  pub can : CanWork at job0 told0 live0 stack0 asker0 budget0 → CanLoad (Some at.this) (Some at) told1 live1 asker1 budget1
   pub on : (told2 : Option Bytes) (live2 : Live) (stack2 : List Value) (asker2 : Asker) (budget2 : ℕ) (r : Answer)
-      → CanWork at job0 told0 live0 stack0 asker0 budget0 → Loads (Some at.this) (Some at) name purposes.Wanted told1 live1 stack1 asker0 budget1 told2 live2 stack2 asker2 budget2 r → IsJobOn job1 stack2
-  pub turns : (job3 : Job) (told2 : Option Bytes) (live2 : Live) (stack2 stack3 : List Value) (asker2 : Asker) (budget2 : ℕ) (r : Answer) (t : Option Ending)
-      → Loads (Some at.this) (Some at) name purposes.Wanted told1 live1 stack1 asker0 budget1 told2 live2 stack2 asker2 budget2 r → Feeds t (loaded_ending name r) job1 live2 stack2 job3 stack3
-      → WorkTurned t at job0 told0 live0 stack0 asker0 budget0 job3 told2 live2 stack3 asker2 budget2
+      → CanWork at job0 told0 live0 stack0 asker0 budget0 → Loads (Some at.this) (Some at) name purposes.Wanted told1 live1 stack1 asker1 budget1 told2 live2 stack2 asker2 budget2 r → IsJobOn job1 stack2
+  pub turns : (job3 : Job) (told2 : Option Bytes) (live2 : Live) (stack2 stack3 : List Value) (asker2 asker3 : Asker) (budget2 : ℕ) (r : Answer) (t : Option Ending)
+      → Loads (Some at.this) (Some at) name purposes.Wanted told1 live1 stack1 asker1 budget1 told2 live2 stack2 asker2 budget2 r → Feeds t (loaded_ending name r) job1 live2 stack2 job3 stack3 → asker3 ≡ asker_back job1 asker2
+      → WorkTurned t at job0 told0 live0 stack0 asker0 budget0 job3 told2 live2 stack3 asker3 budget2
 
 -- or it ends, as its course does
-abbrev pub StepsTo : Stepped → Place → Job → Option Bytes → Live → List Value → Asker → ℕ → Job → Option Bytes → Live → List Value → ℕ → Type 0
-StepsTo (steps.Ended e) at job0 told0 live0 stack0 asker0 budget0 job1 told1 live1 stack1 budget1 = Works at job0 told0 live0 stack0 asker0 budget0 told1 live1 stack1 asker0 budget1 e
-StepsTo (steps.Asks found args) at job0 told0 live0 stack0 asker0 budget0 job1 told1 live1 stack1 budget1 = WorkAsks found args at job0 told0 live0 stack0 asker0 budget0 job1 told1 live1 stack1 budget1
-StepsTo (steps.Loads name) at job0 told0 live0 stack0 asker0 budget0 job1 told1 live1 stack1 budget1 = WorkLoads name at job0 told0 live0 stack0 asker0 budget0 job1 told1 live1 stack1 budget1
+abbrev pub StepsTo : Stepped → Place → Job → Option Bytes → Live → List Value → Asker → ℕ → Job → Option Bytes → Live → List Value → Asker → ℕ → Type 0
+StepsTo (steps.Ended e) at job0 told0 live0 stack0 asker0 budget0 job1 told1 live1 stack1 asker1 budget1 = Works at job0 told0 live0 stack0 asker0 budget0 told1 live1 stack1 asker1 budget1 e
+StepsTo (steps.Asks found args) at job0 told0 live0 stack0 asker0 budget0 job1 told1 live1 stack1 asker1 budget1 = WorkAsks found args at job0 told0 live0 stack0 asker0 budget0 job1 told1 live1 stack1 asker1 budget1
+StepsTo (steps.Loads name) at job0 told0 live0 stack0 asker0 budget0 job1 told1 live1 stack1 asker1 budget1 = WorkLoads name at job0 told0 live0 stack0 asker0 budget0 job1 told1 live1 stack1 asker1 budget1

@@ -105,7 +105,7 @@ fn work<W: Truthful>(
             Stepped::Ended(ending) => return Ok(ending),
             Stepped::Asks(reached, args) => {
                 let ending = answer(alloc, live, swap, stack, asker, reached, args, budget)?;
-                if let Some(ending) = feed_back(&mut job, live, stack, ending)? {
+                if let Some(ending) = feed_back(&mut job, live, stack, asker, ending)? {
                     return Ok(ending);
                 }
             }
@@ -123,7 +123,7 @@ fn work<W: Truthful>(
                     budget,
                 )?;
                 let ending = loaded_ending(alloc, &name, answer)?;
-                if let Some(ending) = feed_back(&mut job, live, stack, ending)? {
+                if let Some(ending) = feed_back(&mut job, live, stack, asker, ending)? {
                     return Ok(ending);
                 }
             }

@@ -9,6 +9,8 @@ mod after;
 #[cfg(test)]
 mod budgets;
 #[cfg(test)]
+mod commands;
+#[cfg(test)]
 mod crossing;
 pub mod device;
 #[cfg(test)]
@@ -24,6 +26,8 @@ mod modifiers;
 mod names;
 #[cfg(test)]
 mod outside;
+#[cfg(test)]
+mod placing;
 pub mod playing;
 pub mod present;
 #[cfg(test)]

@@ -13,7 +13,7 @@ use Rattle.lp_asking.specs.Endings.{IsEndingThere}
 use Rattle.lp_vm.specs.Jobs.{FedOn, Feeds, StepsTo, WorkAsks, WorkLoads}
 use Rattle.lp_vm.specs.Turns.{Calls, Halts}
 use Rattle.lp_vm.specs.Working.{CanWork, WorkContinues}
-use Rattle.lp_vm.proofs.Workings.{asked_ends, can_work_on, loaded_ends, works_later, works_more, works_same}
+use Rattle.lp_vm.proofs.Workings.{asked_ends, can_work_on, loaded_ends, same_back, works_later, works_more, works_same}
 use Rattle.lp_targets.proofs.Lookups.{if_ok}
 use Rattle.lp_vm.proofs.Causing.{tells_more, tells_nothing, read_exit}
 use Rattle.lp_vm.proofs.Cycling.{call_can, call_continues, call_finishes, finishes_later}
@@ -186,98 +186,99 @@ work-questions-init g t c = record {
 pub work-returns-in-Ended-clause-works : goal.work-returns-in-Ended-clause-works
 work-returns-in-Ended-clause-works g t c =
     works_later c.args.at c.args.job c.questions.job (g.W.SwapFile.content c.args.swap.now) (g.W.SwapFile.content c.questions.swap) (g.W.SwapFile.content c.step_job.new.swap) c.args.live.now c.questions.live c.step_job.new.live c.args.stack.now.items c.questions.stack.items c.step_job.new.stack.items
-    c.args.asker.now c.questions.asker c.questions.asker c.args.budget.now c.questions.budget c.step_job.new.budget c.in-Ended.ending c.questions.invariant.goes c.questions.invariant.same c.questions.invariant.spends c.questions.invariant.home
-    (subst (λ x. StepsTo x c.args.at c.questions.job (g.W.SwapFile.content c.questions.swap) c.questions.live c.questions.stack.items c.questions.asker c.questions.budget c.step_job.new.job (g.W.SwapFile.content c.step_job.new.swap) c.step_job.new.live c.step_job.new.stack.items c.step_job.new.budget) c.in-Ended.is c.in_ok-ending.ensures.steps)
+    c.args.asker.now c.questions.asker c.step_job.new.asker c.args.budget.now c.questions.budget c.step_job.new.budget c.in-Ended.ending c.questions.invariant.goes c.questions.invariant.same c.questions.invariant.spends c.questions.invariant.home
+    (subst (λ x. StepsTo x c.args.at c.questions.job (g.W.SwapFile.content c.questions.swap) c.questions.live c.questions.stack.items c.questions.asker c.questions.budget c.step_job.new.job (g.W.SwapFile.content c.step_job.new.swap) c.step_job.new.live c.step_job.new.stack.items c.step_job.new.asker c.step_job.new.budget) c.in-Ended.is c.in_ok-ending.ensures.steps)
 
 pub work-answer-requires : goal.work-answer-requires
 work-answer-requires g t c =
-    let k : WorkAsks c.in-Asks.reached c.in-Asks.args c.args.at c.questions.job (g.W.SwapFile.content c.questions.swap) c.questions.live c.questions.stack.items c.questions.asker c.questions.budget c.step_job.new.job (g.W.SwapFile.content c.step_job.new.swap) c.step_job.new.live c.step_job.new.stack.items c.step_job.new.budget =
-    subst (λ x. StepsTo x c.args.at c.questions.job (g.W.SwapFile.content c.questions.swap) c.questions.live c.questions.stack.items c.questions.asker c.questions.budget c.step_job.new.job (g.W.SwapFile.content c.step_job.new.swap) c.step_job.new.live c.step_job.new.stack.items c.step_job.new.budget) c.in-Asks.is c.in_ok-ending.ensures.steps in
+    let k : WorkAsks c.in-Asks.reached c.in-Asks.args c.args.at c.questions.job (g.W.SwapFile.content c.questions.swap) c.questions.live c.questions.stack.items c.questions.asker c.questions.budget c.step_job.new.job (g.W.SwapFile.content c.step_job.new.swap) c.step_job.new.live c.step_job.new.stack.items c.step_job.new.asker c.step_job.new.budget =
+    subst (λ x. StepsTo x c.args.at c.questions.job (g.W.SwapFile.content c.questions.swap) c.questions.live c.questions.stack.items c.questions.asker c.questions.budget c.step_job.new.job (g.W.SwapFile.content c.step_job.new.swap) c.step_job.new.live c.step_job.new.stack.items c.step_job.new.asker c.step_job.new.budget) c.in-Asks.is c.in_ok-ending.ensures.steps in
     let less = k.spends in
     let more = c.questions.invariant.spends in
     λ κs within. (omega (arith, less, more), (within, (k.fit, k.can c.questions.invariant.can)))
 
 pub work-feed_back-requires-clause-on : goal.work-feed_back-requires-clause-on
 work-feed_back-requires-clause-on g t c =
-    let k : WorkAsks c.in-Asks.reached c.in-Asks.args c.args.at c.questions.job (g.W.SwapFile.content c.questions.swap) c.questions.live c.questions.stack.items c.questions.asker c.questions.budget c.step_job.new.job (g.W.SwapFile.content c.step_job.new.swap) c.step_job.new.live c.step_job.new.stack.items c.step_job.new.budget =
-    subst (λ x. StepsTo x c.args.at c.questions.job (g.W.SwapFile.content c.questions.swap) c.questions.live c.questions.stack.items c.questions.asker c.questions.budget c.step_job.new.job (g.W.SwapFile.content c.step_job.new.swap) c.step_job.new.live c.step_job.new.stack.items c.step_job.new.budget) c.in-Asks.is c.in_ok-ending.ensures.steps in
+    let k : WorkAsks c.in-Asks.reached c.in-Asks.args c.args.at c.questions.job (g.W.SwapFile.content c.questions.swap) c.questions.live c.questions.stack.items c.questions.asker c.questions.budget c.step_job.new.job (g.W.SwapFile.content c.step_job.new.swap) c.step_job.new.live c.step_job.new.stack.items c.step_job.new.asker c.step_job.new.budget =
+    subst (λ x. StepsTo x c.args.at c.questions.job (g.W.SwapFile.content c.questions.swap) c.questions.live c.questions.stack.items c.questions.asker c.questions.budget c.step_job.new.job (g.W.SwapFile.content c.step_job.new.swap) c.step_job.new.live c.step_job.new.stack.items c.step_job.new.asker c.step_job.new.budget) c.in-Asks.is c.in_ok-ending.ensures.steps in
     k.on (g.W.SwapFile.content c.answer.new.swap) c.answer.new.live c.answer.new.stack.items c.answer.new.asker c.answer.new.budget c.in_ok-ending-in-Asks.ending c.questions.invariant.can c.in_ok-ending-in-Asks.ensures.answers
 
 pub work-feed_back-requires-clause-asking : goal.work-feed_back-requires-clause-asking
 work-feed_back-requires-clause-asking g t c =
-    let k : WorkAsks c.in-Asks.reached c.in-Asks.args c.args.at c.questions.job (g.W.SwapFile.content c.questions.swap) c.questions.live c.questions.stack.items c.questions.asker c.questions.budget c.step_job.new.job (g.W.SwapFile.content c.step_job.new.swap) c.step_job.new.live c.step_job.new.stack.items c.step_job.new.budget =
-    subst (λ x. StepsTo x c.args.at c.questions.job (g.W.SwapFile.content c.questions.swap) c.questions.live c.questions.stack.items c.questions.asker c.questions.budget c.step_job.new.job (g.W.SwapFile.content c.step_job.new.swap) c.step_job.new.live c.step_job.new.stack.items c.step_job.new.budget) c.in-Asks.is c.in_ok-ending.ensures.steps in
+    let k : WorkAsks c.in-Asks.reached c.in-Asks.args c.args.at c.questions.job (g.W.SwapFile.content c.questions.swap) c.questions.live c.questions.stack.items c.questions.asker c.questions.budget c.step_job.new.job (g.W.SwapFile.content c.step_job.new.swap) c.step_job.new.live c.step_job.new.stack.items c.step_job.new.asker c.step_job.new.budget =
+    subst (λ x. StepsTo x c.args.at c.questions.job (g.W.SwapFile.content c.questions.swap) c.questions.live c.questions.stack.items c.questions.asker c.questions.budget c.step_job.new.job (g.W.SwapFile.content c.step_job.new.swap) c.step_job.new.live c.step_job.new.stack.items c.step_job.new.asker c.step_job.new.budget) c.in-Asks.is c.in_ok-ending.ensures.steps in
     k.asking
 
 pub work-returns-in-Some-clause-works : goal.work-returns-in-Some-clause-works
 work-returns-in-Some-clause-works g t c =
-    let k : WorkAsks c.in-Asks.reached c.in-Asks.args c.args.at c.questions.job (g.W.SwapFile.content c.questions.swap) c.questions.live c.questions.stack.items c.questions.asker c.questions.budget c.step_job.new.job (g.W.SwapFile.content c.step_job.new.swap) c.step_job.new.live c.step_job.new.stack.items c.step_job.new.budget =
-    subst (λ x. StepsTo x c.args.at c.questions.job (g.W.SwapFile.content c.questions.swap) c.questions.live c.questions.stack.items c.questions.asker c.questions.budget c.step_job.new.job (g.W.SwapFile.content c.step_job.new.swap) c.step_job.new.live c.step_job.new.stack.items c.step_job.new.budget) c.in-Asks.is c.in_ok-ending.ensures.steps in
+    let k : WorkAsks c.in-Asks.reached c.in-Asks.args c.args.at c.questions.job (g.W.SwapFile.content c.questions.swap) c.questions.live c.questions.stack.items c.questions.asker c.questions.budget c.step_job.new.job (g.W.SwapFile.content c.step_job.new.swap) c.step_job.new.live c.step_job.new.stack.items c.step_job.new.asker c.step_job.new.budget =
+    subst (λ x. StepsTo x c.args.at c.questions.job (g.W.SwapFile.content c.questions.swap) c.questions.live c.questions.stack.items c.questions.asker c.questions.budget c.step_job.new.job (g.W.SwapFile.content c.step_job.new.swap) c.step_job.new.live c.step_job.new.stack.items c.step_job.new.asker c.step_job.new.budget) c.in-Asks.is c.in_ok-ending.ensures.steps in
     works_later c.args.at c.args.job c.questions.job (g.W.SwapFile.content c.args.swap.now) (g.W.SwapFile.content c.questions.swap) (g.W.SwapFile.content c.answer.new.swap) c.args.live.now c.questions.live c.answer.new.live c.args.stack.now.items c.questions.stack.items c.feed_back.new.stack.items
-    c.args.asker.now c.questions.asker c.answer.new.asker c.args.budget.now c.questions.budget c.answer.new.budget c.in-Some.ending c.questions.invariant.goes c.questions.invariant.same c.questions.invariant.spends c.questions.invariant.home
+    c.args.asker.now c.questions.asker c.feed_back.new.asker c.args.budget.now c.questions.budget c.answer.new.budget c.in-Some.ending c.questions.invariant.goes c.questions.invariant.same c.questions.invariant.spends c.questions.invariant.home
     (asked_ends c.args.at c.questions.job c.step_job.new.job c.feed_back.new.job c.in-Asks.reached c.in-Asks.args (g.W.SwapFile.content c.questions.swap) (g.W.SwapFile.content c.step_job.new.swap) (g.W.SwapFile.content c.answer.new.swap) c.questions.live c.step_job.new.live c.answer.new.live
-    c.questions.stack.items c.step_job.new.stack.items c.answer.new.stack.items c.feed_back.new.stack.items c.questions.asker c.answer.new.asker c.questions.budget c.step_job.new.budget c.answer.new.budget c.in_ok-ending-in-Asks.ending c.in-Some.ending k c.in_ok-ending-in-Asks.ensures.answers
-    (subst (λ r. Feeds r c.in_ok-ending-in-Asks.ending c.step_job.new.job c.answer.new.live c.answer.new.stack.items c.feed_back.new.job c.feed_back.new.stack.items) c.in-Some.is c.in_ok-ending-in-Asks-2.ensures.feeds)
+    c.questions.stack.items c.step_job.new.stack.items c.answer.new.stack.items c.feed_back.new.stack.items c.questions.asker c.step_job.new.asker c.answer.new.asker c.feed_back.new.asker c.questions.budget c.step_job.new.budget c.answer.new.budget c.in_ok-ending-in-Asks.ending c.in-Some.ending k c.in_ok-ending-in-Asks.ensures.answers
+    (subst (λ r. Feeds r c.in_ok-ending-in-Asks.ending c.step_job.new.job c.answer.new.live c.answer.new.stack.items c.feed_back.new.job c.feed_back.new.stack.items) c.in-Some.is c.in_ok-ending-in-Asks-2.ensures.feeds) c.feed_back.ensures.back
     (subst (λ r. IfSome r (λ e. e ≡ c.in_ok-ending-in-Asks.ending)) c.in-Some.is c.in_ok-ending-in-Asks-2.ensures.same) c.in_ok-ending-in-Asks-2.ensures.fit)
 
 pub work-questions-preserved-in_default : goal.work-questions-preserved-in_default
 work-questions-preserved-in_default g t c =
-    let k : WorkAsks c.in-Asks.reached c.in-Asks.args c.args.at c.questions.job (g.W.SwapFile.content c.questions.swap) c.questions.live c.questions.stack.items c.questions.asker c.questions.budget c.step_job.new.job (g.W.SwapFile.content c.step_job.new.swap) c.step_job.new.live c.step_job.new.stack.items c.step_job.new.budget =
-    subst (λ x. StepsTo x c.args.at c.questions.job (g.W.SwapFile.content c.questions.swap) c.questions.live c.questions.stack.items c.questions.asker c.questions.budget c.step_job.new.job (g.W.SwapFile.content c.step_job.new.swap) c.step_job.new.live c.step_job.new.stack.items c.step_job.new.budget) c.in-Asks.is c.in_ok-ending.ensures.steps in
+    let k : WorkAsks c.in-Asks.reached c.in-Asks.args c.args.at c.questions.job (g.W.SwapFile.content c.questions.swap) c.questions.live c.questions.stack.items c.questions.asker c.questions.budget c.step_job.new.job (g.W.SwapFile.content c.step_job.new.swap) c.step_job.new.live c.step_job.new.stack.items c.step_job.new.asker c.step_job.new.budget =
+    subst (λ x. StepsTo x c.args.at c.questions.job (g.W.SwapFile.content c.questions.swap) c.questions.live c.questions.stack.items c.questions.asker c.questions.budget c.step_job.new.job (g.W.SwapFile.content c.step_job.new.swap) c.step_job.new.live c.step_job.new.stack.items c.step_job.new.asker c.step_job.new.budget) c.in-Asks.is c.in_ok-ending.ensures.steps in
     let on : FedOn None c.step_job.new.job c.feed_back.new.job c.answer.new.live c.feed_back.new.stack.items = subst (λ r. FedOn r c.step_job.new.job c.feed_back.new.job c.answer.new.live c.feed_back.new.stack.items) c.in_default.is c.in_ok-ending-in-Asks-2.ensures.on in
-    let more : WorkContinues c.args.at c.questions.job (g.W.SwapFile.content c.questions.swap) c.questions.live c.questions.stack.items c.questions.asker c.questions.budget c.feed_back.new.job (g.W.SwapFile.content c.answer.new.swap) c.answer.new.live c.feed_back.new.stack.items c.answer.new.asker c.answer.new.budget =
-    k.turns c.feed_back.new.job (g.W.SwapFile.content c.answer.new.swap) c.answer.new.live c.answer.new.stack.items c.feed_back.new.stack.items c.answer.new.asker c.answer.new.budget c.in_ok-ending-in-Asks.ending None c.in_ok-ending-in-Asks.ensures.answers
-    (subst (λ r. Feeds r c.in_ok-ending-in-Asks.ending c.step_job.new.job c.answer.new.live c.answer.new.stack.items c.feed_back.new.job c.feed_back.new.stack.items) c.in_default.is c.in_ok-ending-in-Asks-2.ensures.feeds) in
+    let more : WorkContinues c.args.at c.questions.job (g.W.SwapFile.content c.questions.swap) c.questions.live c.questions.stack.items c.questions.asker c.questions.budget c.feed_back.new.job (g.W.SwapFile.content c.answer.new.swap) c.answer.new.live c.feed_back.new.stack.items c.feed_back.new.asker c.answer.new.budget =
+    k.turns c.feed_back.new.job (g.W.SwapFile.content c.answer.new.swap) c.answer.new.live c.answer.new.stack.items c.feed_back.new.stack.items c.answer.new.asker c.feed_back.new.asker c.answer.new.budget c.in_ok-ending-in-Asks.ending None c.in_ok-ending-in-Asks.ensures.answers
+    (subst (λ r. Feeds r c.in_ok-ending-in-Asks.ending c.step_job.new.job c.answer.new.live c.answer.new.stack.items c.feed_back.new.job c.feed_back.new.stack.items) c.in_default.is c.in_ok-ending-in-Asks-2.ensures.feeds) c.feed_back.ensures.back in
     record {
-      can = can_work_on c.args.at c.questions.job c.feed_back.new.job (g.W.SwapFile.content c.questions.swap) (g.W.SwapFile.content c.answer.new.swap) c.questions.live c.answer.new.live c.questions.stack.items c.feed_back.new.stack.items c.questions.asker c.answer.new.asker c.questions.budget c.answer.new.budget c.questions.invariant.can more;
+      can = can_work_on c.args.at c.questions.job c.feed_back.new.job (g.W.SwapFile.content c.questions.swap) (g.W.SwapFile.content c.answer.new.swap) c.questions.live c.answer.new.live c.questions.stack.items c.feed_back.new.stack.items c.questions.asker c.feed_back.new.asker c.questions.budget c.answer.new.budget c.questions.invariant.can more;
       on = on.0;
       ready = on.1;
       fit = c.in_ok-ending-in-Asks-2.ensures.fit;
-      same = same_later c.args.asker.now c.questions.asker c.answer.new.asker c.questions.invariant.same c.in_ok-ending-in-Asks.ensures.answers.same;
+      same = same_later c.args.asker.now c.questions.asker c.feed_back.new.asker c.questions.invariant.same
+          (same_later c.questions.asker c.answer.new.asker c.feed_back.new.asker (same_later c.questions.asker c.step_job.new.asker c.answer.new.asker k.same c.in_ok-ending-in-Asks.ensures.answers.same) (same_back c.step_job.new.job c.answer.new.asker c.feed_back.new.asker c.feed_back.ensures.back));
       spends = le_trans (le_trans c.in_ok-ending-in-Asks.ensures.answers.spends k.spends) c.questions.invariant.spends;
       home = home_later c.args.live.now.objects c.questions.live.objects c.answer.new.live.objects c.questions.invariant.home (home_later c.questions.live.objects c.step_job.new.live.objects c.answer.new.live.objects k.home c.in_ok-ending-in-Asks.ensures.answers.home);
       tells = tells_more c.questions.invariant.tells (tells_more c.in_ok-ending.ensures.tells c.in_ok-ending-in-Asks.ensures.tells);
       goes = works_more c.args.at c.args.job c.questions.job c.feed_back.new.job (g.W.SwapFile.content c.args.swap.now) (g.W.SwapFile.content c.questions.swap) (g.W.SwapFile.content c.answer.new.swap) c.args.live.now c.questions.live c.answer.new.live c.args.stack.now.items c.questions.stack.items c.feed_back.new.stack.items
-          c.args.asker.now c.questions.asker c.answer.new.asker c.args.budget.now c.questions.budget c.answer.new.budget c.questions.invariant.goes more;
+          c.args.asker.now c.questions.asker c.feed_back.new.asker c.args.budget.now c.questions.budget c.answer.new.budget c.questions.invariant.goes more;
     }
 
 -- and loads that they ask for
 
 pub work-load-requires : goal.work-load-requires
 work-load-requires g t c =
-    let k : WorkLoads c.in-Loads.name c.args.at c.questions.job (g.W.SwapFile.content c.questions.swap) c.questions.live c.questions.stack.items c.questions.asker c.questions.budget c.step_job.new.job (g.W.SwapFile.content c.step_job.new.swap) c.step_job.new.live c.step_job.new.stack.items c.step_job.new.budget =
-    subst (λ x. StepsTo x c.args.at c.questions.job (g.W.SwapFile.content c.questions.swap) c.questions.live c.questions.stack.items c.questions.asker c.questions.budget c.step_job.new.job (g.W.SwapFile.content c.step_job.new.swap) c.step_job.new.live c.step_job.new.stack.items c.step_job.new.budget) c.in-Loads.is c.in_ok-ending.ensures.steps in
+    let k : WorkLoads c.in-Loads.name c.args.at c.questions.job (g.W.SwapFile.content c.questions.swap) c.questions.live c.questions.stack.items c.questions.asker c.questions.budget c.step_job.new.job (g.W.SwapFile.content c.step_job.new.swap) c.step_job.new.live c.step_job.new.stack.items c.step_job.new.asker c.step_job.new.budget =
+    subst (λ x. StepsTo x c.args.at c.questions.job (g.W.SwapFile.content c.questions.swap) c.questions.live c.questions.stack.items c.questions.asker c.questions.budget c.step_job.new.job (g.W.SwapFile.content c.step_job.new.swap) c.step_job.new.live c.step_job.new.stack.items c.step_job.new.asker c.step_job.new.budget) c.in-Loads.is c.in_ok-ending.ensures.steps in
     let less = k.spends in
     let more = c.questions.invariant.spends in
     λ κs within. (omega (arith, less, more), (within, (k.fit, k.can c.questions.invariant.can)))
 
 pub work-feed_back-requires-in-Loads-clause-on : goal.work-feed_back-requires-in-Loads-clause-on
 work-feed_back-requires-in-Loads-clause-on g t c =
-    let k : WorkLoads c.in-Loads.name c.args.at c.questions.job (g.W.SwapFile.content c.questions.swap) c.questions.live c.questions.stack.items c.questions.asker c.questions.budget c.step_job.new.job (g.W.SwapFile.content c.step_job.new.swap) c.step_job.new.live c.step_job.new.stack.items c.step_job.new.budget =
-    subst (λ x. StepsTo x c.args.at c.questions.job (g.W.SwapFile.content c.questions.swap) c.questions.live c.questions.stack.items c.questions.asker c.questions.budget c.step_job.new.job (g.W.SwapFile.content c.step_job.new.swap) c.step_job.new.live c.step_job.new.stack.items c.step_job.new.budget) c.in-Loads.is c.in_ok-ending.ensures.steps in
-    let loads : Loads (Some c.args.at.this) (Some c.args.at) c.in-Loads.name purposes.Wanted (g.W.SwapFile.content c.step_job.new.swap) c.step_job.new.live c.step_job.new.stack.items c.questions.asker c.step_job.new.budget (g.W.SwapFile.content c.load.new.swap) c.load.new.live c.load.new.stack.items c.load.new.asker c.load.new.budget c.in_ok-answer-in-Loads.answer =
-    subst (λ n. Loads (Some c.args.at.this) (Some c.args.at) n purposes.Wanted (g.W.SwapFile.content c.step_job.new.swap) c.step_job.new.live c.step_job.new.stack.items c.questions.asker c.step_job.new.budget (g.W.SwapFile.content c.load.new.swap) c.load.new.live c.load.new.stack.items c.load.new.asker c.load.new.budget c.in_ok-answer-in-Loads.answer) c.as_slice.ensures c.in_ok-answer-in-Loads.ensures.loads in
+    let k : WorkLoads c.in-Loads.name c.args.at c.questions.job (g.W.SwapFile.content c.questions.swap) c.questions.live c.questions.stack.items c.questions.asker c.questions.budget c.step_job.new.job (g.W.SwapFile.content c.step_job.new.swap) c.step_job.new.live c.step_job.new.stack.items c.step_job.new.asker c.step_job.new.budget =
+    subst (λ x. StepsTo x c.args.at c.questions.job (g.W.SwapFile.content c.questions.swap) c.questions.live c.questions.stack.items c.questions.asker c.questions.budget c.step_job.new.job (g.W.SwapFile.content c.step_job.new.swap) c.step_job.new.live c.step_job.new.stack.items c.step_job.new.asker c.step_job.new.budget) c.in-Loads.is c.in_ok-ending.ensures.steps in
+    let loads : Loads (Some c.args.at.this) (Some c.args.at) c.in-Loads.name purposes.Wanted (g.W.SwapFile.content c.step_job.new.swap) c.step_job.new.live c.step_job.new.stack.items c.step_job.new.asker c.step_job.new.budget (g.W.SwapFile.content c.load.new.swap) c.load.new.live c.load.new.stack.items c.load.new.asker c.load.new.budget c.in_ok-answer-in-Loads.answer =
+    subst (λ n. Loads (Some c.args.at.this) (Some c.args.at) n purposes.Wanted (g.W.SwapFile.content c.step_job.new.swap) c.step_job.new.live c.step_job.new.stack.items c.step_job.new.asker c.step_job.new.budget (g.W.SwapFile.content c.load.new.swap) c.load.new.live c.load.new.stack.items c.load.new.asker c.load.new.budget c.in_ok-answer-in-Loads.answer) c.as_slice.ensures c.in_ok-answer-in-Loads.ensures.loads in
     k.on (g.W.SwapFile.content c.load.new.swap) c.load.new.live c.load.new.stack.items c.load.new.asker c.load.new.budget c.in_ok-answer-in-Loads.answer c.questions.invariant.can loads
 
 pub work-returns-in-Some-2-clause-works : goal.work-returns-in-Some-2-clause-works
 work-returns-in-Some-2-clause-works g t c =
-    let k : WorkLoads c.in-Loads.name c.args.at c.questions.job (g.W.SwapFile.content c.questions.swap) c.questions.live c.questions.stack.items c.questions.asker c.questions.budget c.step_job.new.job (g.W.SwapFile.content c.step_job.new.swap) c.step_job.new.live c.step_job.new.stack.items c.step_job.new.budget =
-    subst (λ x. StepsTo x c.args.at c.questions.job (g.W.SwapFile.content c.questions.swap) c.questions.live c.questions.stack.items c.questions.asker c.questions.budget c.step_job.new.job (g.W.SwapFile.content c.step_job.new.swap) c.step_job.new.live c.step_job.new.stack.items c.step_job.new.budget) c.in-Loads.is c.in_ok-ending.ensures.steps in
-    let loads : Loads (Some c.args.at.this) (Some c.args.at) c.in-Loads.name purposes.Wanted (g.W.SwapFile.content c.step_job.new.swap) c.step_job.new.live c.step_job.new.stack.items c.questions.asker c.step_job.new.budget (g.W.SwapFile.content c.load.new.swap) c.load.new.live c.load.new.stack.items c.load.new.asker c.load.new.budget c.in_ok-answer-in-Loads.answer =
-    subst (λ n. Loads (Some c.args.at.this) (Some c.args.at) n purposes.Wanted (g.W.SwapFile.content c.step_job.new.swap) c.step_job.new.live c.step_job.new.stack.items c.questions.asker c.step_job.new.budget (g.W.SwapFile.content c.load.new.swap) c.load.new.live c.load.new.stack.items c.load.new.asker c.load.new.budget c.in_ok-answer-in-Loads.answer) c.as_slice.ensures c.in_ok-answer-in-Loads.ensures.loads in
+    let k : WorkLoads c.in-Loads.name c.args.at c.questions.job (g.W.SwapFile.content c.questions.swap) c.questions.live c.questions.stack.items c.questions.asker c.questions.budget c.step_job.new.job (g.W.SwapFile.content c.step_job.new.swap) c.step_job.new.live c.step_job.new.stack.items c.step_job.new.asker c.step_job.new.budget =
+    subst (λ x. StepsTo x c.args.at c.questions.job (g.W.SwapFile.content c.questions.swap) c.questions.live c.questions.stack.items c.questions.asker c.questions.budget c.step_job.new.job (g.W.SwapFile.content c.step_job.new.swap) c.step_job.new.live c.step_job.new.stack.items c.step_job.new.asker c.step_job.new.budget) c.in-Loads.is c.in_ok-ending.ensures.steps in
+    let loads : Loads (Some c.args.at.this) (Some c.args.at) c.in-Loads.name purposes.Wanted (g.W.SwapFile.content c.step_job.new.swap) c.step_job.new.live c.step_job.new.stack.items c.step_job.new.asker c.step_job.new.budget (g.W.SwapFile.content c.load.new.swap) c.load.new.live c.load.new.stack.items c.load.new.asker c.load.new.budget c.in_ok-answer-in-Loads.answer =
+    subst (λ n. Loads (Some c.args.at.this) (Some c.args.at) n purposes.Wanted (g.W.SwapFile.content c.step_job.new.swap) c.step_job.new.live c.step_job.new.stack.items c.step_job.new.asker c.step_job.new.budget (g.W.SwapFile.content c.load.new.swap) c.load.new.live c.load.new.stack.items c.load.new.asker c.load.new.budget c.in_ok-answer-in-Loads.answer) c.as_slice.ensures c.in_ok-answer-in-Loads.ensures.loads in
     let same : c.in-Some-2.ending ≡ c.in_ok-ending-in-Loads.ending = subst (λ r. IfSome r (λ e. e ≡ c.in_ok-ending-in-Loads.ending)) c.in-Some-2.is c.in_ok-ending-in-Loads-2.ensures.same in
     works_later c.args.at c.args.job c.questions.job (g.W.SwapFile.content c.args.swap.now) (g.W.SwapFile.content c.questions.swap) (g.W.SwapFile.content c.load.new.swap) c.args.live.now c.questions.live c.load.new.live c.args.stack.now.items c.questions.stack.items c.feed_back-in-Loads.new.stack.items
-    c.args.asker.now c.questions.asker c.load.new.asker c.args.budget.now c.questions.budget c.load.new.budget c.in-Some-2.ending c.questions.invariant.goes c.questions.invariant.same c.questions.invariant.spends c.questions.invariant.home
+    c.args.asker.now c.questions.asker c.feed_back-in-Loads.new.asker c.args.budget.now c.questions.budget c.load.new.budget c.in-Some-2.ending c.questions.invariant.goes c.questions.invariant.same c.questions.invariant.spends c.questions.invariant.home
     (loaded_ends c.args.at c.questions.job c.step_job.new.job c.feed_back-in-Loads.new.job c.in-Loads.name (g.W.SwapFile.content c.questions.swap) (g.W.SwapFile.content c.step_job.new.swap) (g.W.SwapFile.content c.load.new.swap) c.questions.live c.step_job.new.live c.load.new.live
-    c.questions.stack.items c.step_job.new.stack.items c.load.new.stack.items c.feed_back-in-Loads.new.stack.items c.questions.asker c.load.new.asker c.questions.budget c.step_job.new.budget c.load.new.budget c.in_ok-answer-in-Loads.answer c.in-Some-2.ending k loads
+    c.questions.stack.items c.step_job.new.stack.items c.load.new.stack.items c.feed_back-in-Loads.new.stack.items c.questions.asker c.step_job.new.asker c.load.new.asker c.feed_back-in-Loads.new.asker c.questions.budget c.step_job.new.budget c.load.new.budget c.in_ok-answer-in-Loads.answer c.in-Some-2.ending k loads
     (subst (λ e. Feeds (Some c.in-Some-2.ending) e c.step_job.new.job c.load.new.live c.load.new.stack.items c.feed_back-in-Loads.new.job c.feed_back-in-Loads.new.stack.items) c.in_ok-ending-in-Loads.ensures.ending
-    (subst (λ r. Feeds r c.in_ok-ending-in-Loads.ending c.step_job.new.job c.load.new.live c.load.new.stack.items c.feed_back-in-Loads.new.job c.feed_back-in-Loads.new.stack.items) c.in-Some-2.is c.in_ok-ending-in-Loads-2.ensures.feeds))
+    (subst (λ r. Feeds r c.in_ok-ending-in-Loads.ending c.step_job.new.job c.load.new.live c.load.new.stack.items c.feed_back-in-Loads.new.job c.feed_back-in-Loads.new.stack.items) c.in-Some-2.is c.in_ok-ending-in-Loads-2.ensures.feeds)) c.feed_back-in-Loads.ensures.back
     (subst (IsEndingThere c.load.new.live.cells) (sym same) (c.in_ok-ending-in-Loads.ensures.there c.load.new.live.cells loads.there)) c.in_ok-ending-in-Loads-2.ensures.fit)
 
 pub work-questions-smaller : goal.work-questions-smaller
 work-questions-smaller g t c =
-    let k : WorkLoads c.in-Loads.name c.args.at c.questions.job (g.W.SwapFile.content c.questions.swap) c.questions.live c.questions.stack.items c.questions.asker c.questions.budget c.step_job.new.job (g.W.SwapFile.content c.step_job.new.swap) c.step_job.new.live c.step_job.new.stack.items c.step_job.new.budget =
-    subst (λ x. StepsTo x c.args.at c.questions.job (g.W.SwapFile.content c.questions.swap) c.questions.live c.questions.stack.items c.questions.asker c.questions.budget c.step_job.new.job (g.W.SwapFile.content c.step_job.new.swap) c.step_job.new.live c.step_job.new.stack.items c.step_job.new.budget) c.in-Loads.is c.in_ok-ending.ensures.steps in
+    let k : WorkLoads c.in-Loads.name c.args.at c.questions.job (g.W.SwapFile.content c.questions.swap) c.questions.live c.questions.stack.items c.questions.asker c.questions.budget c.step_job.new.job (g.W.SwapFile.content c.step_job.new.swap) c.step_job.new.live c.step_job.new.stack.items c.step_job.new.asker c.step_job.new.budget =
+    subst (λ x. StepsTo x c.args.at c.questions.job (g.W.SwapFile.content c.questions.swap) c.questions.live c.questions.stack.items c.questions.asker c.questions.budget c.step_job.new.job (g.W.SwapFile.content c.step_job.new.swap) c.step_job.new.live c.step_job.new.stack.items c.step_job.new.asker c.step_job.new.budget) c.in-Loads.is c.in_ok-ending.ensures.steps in
     let on : FedOn None c.step_job.new.job c.feed_back-in-Loads.new.job c.load.new.live c.feed_back-in-Loads.new.stack.items = subst (λ r. FedOn r c.step_job.new.job c.feed_back-in-Loads.new.job c.load.new.live c.feed_back-in-Loads.new.stack.items) c.in_default-2.is c.in_ok-ending-in-Loads-2.ensures.on in
     let less = on.2 in
     let left = k.left in
@@ -285,26 +286,27 @@ work-questions-smaller g t c =
 
 pub work-questions-preserved : goal.work-questions-preserved
 work-questions-preserved g t c =
-    let k : WorkLoads c.in-Loads.name c.args.at c.questions.job (g.W.SwapFile.content c.questions.swap) c.questions.live c.questions.stack.items c.questions.asker c.questions.budget c.step_job.new.job (g.W.SwapFile.content c.step_job.new.swap) c.step_job.new.live c.step_job.new.stack.items c.step_job.new.budget =
-    subst (λ x. StepsTo x c.args.at c.questions.job (g.W.SwapFile.content c.questions.swap) c.questions.live c.questions.stack.items c.questions.asker c.questions.budget c.step_job.new.job (g.W.SwapFile.content c.step_job.new.swap) c.step_job.new.live c.step_job.new.stack.items c.step_job.new.budget) c.in-Loads.is c.in_ok-ending.ensures.steps in
-    let loads : Loads (Some c.args.at.this) (Some c.args.at) c.in-Loads.name purposes.Wanted (g.W.SwapFile.content c.step_job.new.swap) c.step_job.new.live c.step_job.new.stack.items c.questions.asker c.step_job.new.budget (g.W.SwapFile.content c.load.new.swap) c.load.new.live c.load.new.stack.items c.load.new.asker c.load.new.budget c.in_ok-answer-in-Loads.answer =
-    subst (λ n. Loads (Some c.args.at.this) (Some c.args.at) n purposes.Wanted (g.W.SwapFile.content c.step_job.new.swap) c.step_job.new.live c.step_job.new.stack.items c.questions.asker c.step_job.new.budget (g.W.SwapFile.content c.load.new.swap) c.load.new.live c.load.new.stack.items c.load.new.asker c.load.new.budget c.in_ok-answer-in-Loads.answer) c.as_slice.ensures c.in_ok-answer-in-Loads.ensures.loads in
+    let k : WorkLoads c.in-Loads.name c.args.at c.questions.job (g.W.SwapFile.content c.questions.swap) c.questions.live c.questions.stack.items c.questions.asker c.questions.budget c.step_job.new.job (g.W.SwapFile.content c.step_job.new.swap) c.step_job.new.live c.step_job.new.stack.items c.step_job.new.asker c.step_job.new.budget =
+    subst (λ x. StepsTo x c.args.at c.questions.job (g.W.SwapFile.content c.questions.swap) c.questions.live c.questions.stack.items c.questions.asker c.questions.budget c.step_job.new.job (g.W.SwapFile.content c.step_job.new.swap) c.step_job.new.live c.step_job.new.stack.items c.step_job.new.asker c.step_job.new.budget) c.in-Loads.is c.in_ok-ending.ensures.steps in
+    let loads : Loads (Some c.args.at.this) (Some c.args.at) c.in-Loads.name purposes.Wanted (g.W.SwapFile.content c.step_job.new.swap) c.step_job.new.live c.step_job.new.stack.items c.step_job.new.asker c.step_job.new.budget (g.W.SwapFile.content c.load.new.swap) c.load.new.live c.load.new.stack.items c.load.new.asker c.load.new.budget c.in_ok-answer-in-Loads.answer =
+    subst (λ n. Loads (Some c.args.at.this) (Some c.args.at) n purposes.Wanted (g.W.SwapFile.content c.step_job.new.swap) c.step_job.new.live c.step_job.new.stack.items c.step_job.new.asker c.step_job.new.budget (g.W.SwapFile.content c.load.new.swap) c.load.new.live c.load.new.stack.items c.load.new.asker c.load.new.budget c.in_ok-answer-in-Loads.answer) c.as_slice.ensures c.in_ok-answer-in-Loads.ensures.loads in
     let on : FedOn None c.step_job.new.job c.feed_back-in-Loads.new.job c.load.new.live c.feed_back-in-Loads.new.stack.items = subst (λ r. FedOn r c.step_job.new.job c.feed_back-in-Loads.new.job c.load.new.live c.feed_back-in-Loads.new.stack.items) c.in_default-2.is c.in_ok-ending-in-Loads-2.ensures.on in
-    let more : WorkContinues c.args.at c.questions.job (g.W.SwapFile.content c.questions.swap) c.questions.live c.questions.stack.items c.questions.asker c.questions.budget c.feed_back-in-Loads.new.job (g.W.SwapFile.content c.load.new.swap) c.load.new.live c.feed_back-in-Loads.new.stack.items c.load.new.asker c.load.new.budget =
-    k.turns c.feed_back-in-Loads.new.job (g.W.SwapFile.content c.load.new.swap) c.load.new.live c.load.new.stack.items c.feed_back-in-Loads.new.stack.items c.load.new.asker c.load.new.budget c.in_ok-answer-in-Loads.answer None loads
+    let more : WorkContinues c.args.at c.questions.job (g.W.SwapFile.content c.questions.swap) c.questions.live c.questions.stack.items c.questions.asker c.questions.budget c.feed_back-in-Loads.new.job (g.W.SwapFile.content c.load.new.swap) c.load.new.live c.feed_back-in-Loads.new.stack.items c.feed_back-in-Loads.new.asker c.load.new.budget =
+    k.turns c.feed_back-in-Loads.new.job (g.W.SwapFile.content c.load.new.swap) c.load.new.live c.load.new.stack.items c.feed_back-in-Loads.new.stack.items c.load.new.asker c.feed_back-in-Loads.new.asker c.load.new.budget c.in_ok-answer-in-Loads.answer None loads
     (subst (λ e. Feeds None e c.step_job.new.job c.load.new.live c.load.new.stack.items c.feed_back-in-Loads.new.job c.feed_back-in-Loads.new.stack.items) c.in_ok-ending-in-Loads.ensures.ending
-    (subst (λ r. Feeds r c.in_ok-ending-in-Loads.ending c.step_job.new.job c.load.new.live c.load.new.stack.items c.feed_back-in-Loads.new.job c.feed_back-in-Loads.new.stack.items) c.in_default-2.is c.in_ok-ending-in-Loads-2.ensures.feeds)) in
+    (subst (λ r. Feeds r c.in_ok-ending-in-Loads.ending c.step_job.new.job c.load.new.live c.load.new.stack.items c.feed_back-in-Loads.new.job c.feed_back-in-Loads.new.stack.items) c.in_default-2.is c.in_ok-ending-in-Loads-2.ensures.feeds)) c.feed_back-in-Loads.ensures.back in
     record {
-      can = can_work_on c.args.at c.questions.job c.feed_back-in-Loads.new.job (g.W.SwapFile.content c.questions.swap) (g.W.SwapFile.content c.load.new.swap) c.questions.live c.load.new.live c.questions.stack.items c.feed_back-in-Loads.new.stack.items c.questions.asker c.load.new.asker c.questions.budget c.load.new.budget c.questions.invariant.can more;
+      can = can_work_on c.args.at c.questions.job c.feed_back-in-Loads.new.job (g.W.SwapFile.content c.questions.swap) (g.W.SwapFile.content c.load.new.swap) c.questions.live c.load.new.live c.questions.stack.items c.feed_back-in-Loads.new.stack.items c.questions.asker c.feed_back-in-Loads.new.asker c.questions.budget c.load.new.budget c.questions.invariant.can more;
       on = on.0;
       ready = on.1;
       fit = c.in_ok-ending-in-Loads-2.ensures.fit;
-      same = same_later c.args.asker.now c.questions.asker c.load.new.asker c.questions.invariant.same loads.same;
+      same = same_later c.args.asker.now c.questions.asker c.feed_back-in-Loads.new.asker c.questions.invariant.same
+          (same_later c.questions.asker c.load.new.asker c.feed_back-in-Loads.new.asker (same_later c.questions.asker c.step_job.new.asker c.load.new.asker k.same loads.same) (same_back c.step_job.new.job c.load.new.asker c.feed_back-in-Loads.new.asker c.feed_back-in-Loads.ensures.back));
       spends = le_trans (le_trans loads.spends k.spends) c.questions.invariant.spends;
       home = home_later c.args.live.now.objects c.questions.live.objects c.load.new.live.objects c.questions.invariant.home (home_later c.questions.live.objects c.step_job.new.live.objects c.load.new.live.objects k.home loads.home);
       tells = tells_more c.questions.invariant.tells (tells_more c.in_ok-ending.ensures.tells c.in_ok-answer-in-Loads.ensures.tells);
       goes = works_more c.args.at c.args.job c.questions.job c.feed_back-in-Loads.new.job (g.W.SwapFile.content c.args.swap.now) (g.W.SwapFile.content c.questions.swap) (g.W.SwapFile.content c.load.new.swap) c.args.live.now c.questions.live c.load.new.live c.args.stack.now.items c.questions.stack.items c.feed_back-in-Loads.new.stack.items
-          c.args.asker.now c.questions.asker c.load.new.asker c.args.budget.now c.questions.budget c.load.new.budget c.questions.invariant.goes more;
+          c.args.asker.now c.questions.asker c.feed_back-in-Loads.new.asker c.args.budget.now c.questions.budget c.load.new.budget c.questions.invariant.goes more;
     }
 
 -- Objects that were made

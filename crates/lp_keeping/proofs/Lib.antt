@@ -1,0 +1,4 @@
+pub mod Marked
+pub mod Noting
+pub mod Dropped
+pub mod Kept

@@ -1,0 +1,6 @@
+//! Versions of programs that nothing needs any more go.
+#![tactic(auto)]
+
+pub mod dropping;
+mod marks;
+mod settling;
