@@ -23,7 +23,6 @@ use Rattle.lp_world.specs.Stands.{Stands}
 use Rattle.lp_world.specs.declared.live.Live.{Live}
 use Rattle.lp_step.specs.Steps.{IsFit}
 use Rattle.lp_efuns.specs.declared.caller.Turn.{Turn}
-use Rattle.lp_efuns.specs.Turns.{At, Setting}
 use Rattle.lp_settling.proofs.Still.{onward, still}
 use Rattle.lp_calling.specs.declared.job.Applied.TheVariants as applies
 use Rattle.lp_calling.specs.declared.job.Question.TheVariants as questions

@@ -1,10 +1,10 @@
-use Rattle.std.proofs.Common.{◌≡◌, ◌≤◌, ap, false, length, subst, sym}
+use Rattle.std.proofs.Common.{◌≤◌, ap, length, subst, sym}
 use Rattle.std.proofs.lemmas.Result.{IfOk-weaker}
 use Rattle.lp_efuns.proofs.Called.{same_variables}
 use Rattle.lp_calling.specs.declared.job.Stage.TheVariants as stages
 use Rattle.lp_cells.specs.Cells.{KeepsThere, Store}
 use Rattle.lp_calling.specs.Entering.{Enters}
-use Rattle.lp_calling.specs.Jobs.{IsStageOn, stage_left, stage_needs}
+use Rattle.lp_calling.specs.Jobs.{IsStageOn, stage_left}
 use Rattle.lp_calling.proofs.Entering.{advanced, fit_still, stay_still}
 use Rattle.lp_calling.proofs.Visits.{fit_moved, stay_moved}
 use Rattle.lp_calling.proofs.enter.come.Goals as goal
@@ -107,6 +107,3 @@ returns-in-Move-clause-variables c = same_variables c.args.live.now.objects c.en
 
 pub returns-in-Move-clause-fit : goal.returns-in-Move-clause-fit
 returns-in-Move-clause-fit c = fit_moved c.args.live.now c.enter_moving.new.live c.args.stack.now.items c.enter_moving.ensures.cells c.enter_moving.ensures.closed c.requires.fit
-
-pub enter_file-requires-clause-plain : goal.enter_file-requires-clause-plain
-enter_file-requires-clause-plain c = subst (λ s. stage_needs s ≡ false) c.in-File.is c.requires.plain
