@@ -1,5 +1,5 @@
 //! The master is asked for leave: efuns on files begin, and the master is asked and answers.
-ghost use Rattle.std.specs.Prelude.{◌≡◌, ◌<◌, ◌≤◌, ◌++◌, ◌∷◌, [], IfOk, IfSome, IsSome, List, OnOk, Option, Some, drop, length, map, string_bytes, true, ℕ};
+ghost use Rattle.std.specs.Prelude.{◌≡◌, ◌<◌, ◌≤◌, ◌++◌, ◌∷◌, [], IfOk, IfSome, IsSome, List, OnOk, Option, Some, drop, length, true, ℕ};
 ghost use Rattle.lp_values.specs.declared.id.ObjId.{ObjId as Oid};
 ghost use Rattle.lp_values.specs.declared.value.Value.{Value as V};
 ghost use Rattle.lp_cells.specs.Cells.{Store};
@@ -7,7 +7,6 @@ ghost use Rattle.lp_instr.specs.EfunList.{efun_name};
 ghost use Rattle.lp_language.specs.Course.{zero_value};
 ghost use Rattle.lp_meaning.specs.FileEfuns.{is_path as path_test};
 ghost use Rattle.lp_meaning.specs.FileLoads.{object_of_value};
-ghost use Rattle.lp_meaning.specs.WorldSteps.{master_name};
 ghost use Rattle.lp_world.specs.Rows.{live_in, row_at};
 ghost use Rattle.lp_world.specs.declared.live.Live.{Live as L};
 ghost use Rattle.lp_world.specs.declared.objects.Object.{Object};
