@@ -16,6 +16,8 @@ pub mod device;
 #[cfg(test)]
 mod ends;
 pub mod fault;
+#[cfg(test)]
+mod files;
 pub mod game;
 #[cfg(test)]
 mod items;
