@@ -12,6 +12,7 @@ pub mod Askings
 pub mod Reachings
 pub mod Answered
 pub mod Lookings
+pub mod Shadowings
 pub mod Behind
 pub mod Workings
 pub mod Cycling

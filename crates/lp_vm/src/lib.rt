@@ -24,4 +24,5 @@ mod making;
 mod naming;
 pub mod object_loading;
 pub mod request;
+mod shadowing;
 mod working;

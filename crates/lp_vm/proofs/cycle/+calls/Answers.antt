@@ -7,8 +7,7 @@ use Rattle.lp_asking.specs.Resuming.{Resumes}
 use Rattle.lp_vm.specs.Beginning.{HasEntered, Starts}
 use Rattle.lp_vm.specs.declared.request.Request.TheVariants as requests
 use Rattle.lp_vm.specs.Cycle.{Answers}
-use Rattle.lp_vm.specs.Efuns.{HasBegunEfun}
-use Rattle.lp_vm.specs.Looking.{BeginsEfun}
+use Rattle.lp_vm.specs.Looking.{BeginsEfun, HasBegunWith}
 use Rattle.lp_asking.specs.Endings.{IsEndingThere}
 use Rattle.lp_vm.specs.Jobs.{FedOn, Feeds, StepsTo, WorkAsks, WorkLoads}
 use Rattle.lp_vm.specs.Turns.{Calls, Halts}
@@ -154,19 +153,16 @@ call_efun-returns-in-Answered-clause-answers g t c = subst (λ r. BeginsEfun r c
 
 pub call_efun-work-requires : goal.call_efun-work-requires
 call_efun-work-requires g t c =
-    let h : (g.W.SwapFile.content c.start_efun.new.swap ≡ g.W.SwapFile.content c.args.swap.now) × HasBegunEfun c.args.at c.args.efun c.args.args c.args.live.now c.args.stack.now.items c.args.asker.now c.args.budget.now c.in-Works.job c.start_efun.new.live c.start_efun.new.stack.items c.start_efun.new.asker c.start_efun.new.budget =
+    let h : HasBegunWith c.args.at c.args.efun c.args.args (g.W.SwapFile.content c.args.swap.now) c.args.live.now c.args.stack.now.items c.args.asker.now c.args.budget.now c.in-Works.job (g.W.SwapFile.content c.start_efun.new.swap) c.start_efun.new.live c.start_efun.new.stack.items c.start_efun.new.asker c.start_efun.new.budget =
     subst (λ r. BeginsEfun r c.args.at c.args.efun c.args.args (g.W.SwapFile.content c.args.swap.now) c.args.live.now c.args.stack.now.items c.args.asker.now c.args.budget.now (g.W.SwapFile.content c.start_efun.new.swap) c.start_efun.new.live c.start_efun.new.stack.items c.start_efun.new.asker c.start_efun.new.budget) c.in-Works.is c.in_ok-ending.ensures.begins in
-    let less = h.1.spends in
-    λ κs within. (omega (arith, less), (within, (h.1.on, (h.1.ready, (h.1.fit, subst (λ x. CanWork c.args.at c.in-Works.job x c.start_efun.new.live c.start_efun.new.stack.items c.start_efun.new.asker c.start_efun.new.budget) (sym h.0) (h.1.can (g.W.SwapFile.content c.args.swap.now) c.requires.can))))))
+    let less = h.spends in
+    λ κs within. (omega (arith, less), (within, (h.on, (h.ready, (h.fit, h.can c.requires.can)))))
 
 pub call_efun-returns-in-Works-clause-answers : goal.call_efun-returns-in-Works-clause-answers
 call_efun-returns-in-Works-clause-answers g t c =
-    let h : (g.W.SwapFile.content c.start_efun.new.swap ≡ g.W.SwapFile.content c.args.swap.now) × HasBegunEfun c.args.at c.args.efun c.args.args c.args.live.now c.args.stack.now.items c.args.asker.now c.args.budget.now c.in-Works.job c.start_efun.new.live c.start_efun.new.stack.items c.start_efun.new.asker c.start_efun.new.budget =
+    let h : HasBegunWith c.args.at c.args.efun c.args.args (g.W.SwapFile.content c.args.swap.now) c.args.live.now c.args.stack.now.items c.args.asker.now c.args.budget.now c.in-Works.job (g.W.SwapFile.content c.start_efun.new.swap) c.start_efun.new.live c.start_efun.new.stack.items c.start_efun.new.asker c.start_efun.new.budget =
     subst (λ r. BeginsEfun r c.args.at c.args.efun c.args.args (g.W.SwapFile.content c.args.swap.now) c.args.live.now c.args.stack.now.items c.args.asker.now c.args.budget.now (g.W.SwapFile.content c.start_efun.new.swap) c.start_efun.new.live c.start_efun.new.stack.items c.start_efun.new.asker c.start_efun.new.budget) c.in-Works.is c.in_ok-ending.ensures.begins in
-    if_ok c.work.result
-    (λ e works. subst (λ x. Answers (requests.Efun c.args.at c.args.efun) c.args.args x c.args.live.now c.args.stack.now.items c.args.asker.now c.args.budget.now (g.W.SwapFile.content c.work.new.swap) c.work.new.live c.work.new.stack.items c.work.new.asker c.work.new.budget e) h.0
-    (h.1.answers (g.W.SwapFile.content c.start_efun.new.swap) (g.W.SwapFile.content c.work.new.swap) c.work.new.live c.work.new.stack.items c.work.new.asker c.work.new.budget e works))
-    c.work.ensures.works
+    if_ok c.work.result (λ e works. h.answers (g.W.SwapFile.content c.work.new.swap) c.work.new.live c.work.new.stack.items c.work.new.asker c.work.new.budget e works) c.work.ensures.works
 
 -- Jobs
 
