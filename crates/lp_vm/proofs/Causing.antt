@@ -50,12 +50,12 @@ pub tells_brought : {A : Type 0} {told0 told1 : Option Bytes} {last : Last} {rea
     → Brings told0 told1 last reads0 reads1 writes0 writes1 true0 true1 honest0 honest1 live0 live1 (Ok x) → Tells told1 last reads0 reads1 writes0 writes1 true0 true1 honest0 honest1 live1 (Ok tt)
 tells_brought h = record { cause = tt; faults = h.faults; write_faults = h.write_faults; truthful = h.truthful; honest = λ z. ((h.honest z).0, λ t. tt) }
 
-fault_same : (A : Type 0) (e : EnterFault) → is_read_fault {A = A} (Err e) ≡ is_read_fault {A = Unit {0}} (Err e)
+pub fault_same : (A : Type 0) (e : EnterFault) → is_read_fault {A = A} (Err e) ≡ is_read_fault {A = Unit {0}} (Err e)
 fault_same A (enter_faults.Swap swap_causes.Read) = refl
 fault_same A (enter_faults.Swap (swap_causes.Changed who found)) = refl
 fault_same A enter_faults.NoMemory = refl
 
-fault_kept : (e : EnterFault) → e ≡ read_fault (fault_of e)
+pub fault_kept : (e : EnterFault) → e ≡ read_fault (fault_of e)
 fault_kept (enter_faults.Swap cause) = refl
 fault_kept enter_faults.NoMemory = refl
 

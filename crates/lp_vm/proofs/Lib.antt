@@ -13,6 +13,7 @@ pub mod Reachings
 pub mod Answered
 pub mod Lookings
 pub mod Shadowings
+pub mod Keepings
 pub mod Behind
 pub mod Workings
 pub mod Cycling

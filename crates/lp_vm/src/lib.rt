@@ -16,6 +16,7 @@ mod entering;
 pub mod fault;
 mod halting;
 pub mod initialising;
+mod keeping;
 mod laying;
 mod loaded;
 mod loading;

@@ -15,12 +15,13 @@ ghost use Rattle.lp_vm.specs.Working.{CanReach, CanWork};
 use crate::asking::{reach_applied, reach_other};
 use crate::efuns::ending_of;
 use crate::fault::VmFault;
+use crate::keeping::keep_job;
 use lp_asking::asker::Asker;
 use lp_asking::ending::{Ending, Place};
 use lp_asking::truth::Truthful;
 use lp_calling::feed::feed;
 use lp_calling::job::{Applied, Job, Question, Step};
-use lp_calling::next::{next, stop};
+use lp_calling::next::{needs_program, next, stop};
 use lp_reaching::reached::Reached;
 use lp_values::id::ObjId;
 use lp_values::text::Text;
@@ -137,10 +138,10 @@ fn ask<W: Truthful>(
 }
 
 /// A job goes on until it asks or ends. The function at this place called its efun. `this_player()` may be another one while it
-/// asks.
+/// asks. For one that saves or restores the variables of its object that comes into memory, with its program.
 ///
 /// # Errors
-/// `NoMemory`, and `Swap` as that of what it asks.
+/// `NoMemory`, and `Swap` as that of what it asks, or of what comes into memory.
 pub fn step_job<W: Truthful>(
     live: &mut Live,
     swap: &mut W,
@@ -159,6 +160,10 @@ pub fn step_job<W: Truthful>(
     ensures tells { Tells (W.content swap.new) (W.last swap.new) (W.read_faults swap.old) (W.read_faults swap.new) (W.write_faults swap.old) (W.write_faults swap.new)
         (W.is_truthful swap.old) (W.is_truthful swap.new) (W.is_honest swap.old) (W.is_honest swap.new) live.new (read_of result) }
 {
+    if needs_program(job) {
+        let ending = keep_job(job, live, swap, stack, asker, at, budget)?;
+        return Ok(Stepped::Ended(ending));
+    }
     match next(job, live, &mut asker.turn, stack, budget)? {
         Step::Ends(answer) => Ok(Stepped::Ended(ending_of(answer))),
         Step::Asks(question, n) => {
