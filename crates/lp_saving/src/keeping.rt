@@ -1,5 +1,5 @@
 //! Jobs save and restore the variables of objects.
-ghost use Rattle.std.specs.Prelude.{◌≡◌, ◌≤◌, IfOk, IfSome, IsAscii, IsSome, IsTrue, OnErr, string_bytes, take, true};
+ghost use Rattle.std.specs.Prelude.{◌≡◌, ◌≤◌, IfOk, IfSome, IsAscii, IsSome, IsTrue, OnErr, OnOk, string_bytes, take, true};
 ghost use Rattle.std.specs.Option.{option_copied, option_map};
 ghost use Rattle.lp_cells.specs.Cells.{KeepsThere, Store};
 ghost use Rattle.lp_filing.specs.Filing.{IsOutcomeThere, StandsStill};
@@ -7,7 +7,8 @@ ghost use Rattle.lp_world.specs.Closed.{IsClosed};
 ghost use Rattle.lp_world.specs.Rows.{live_in, variables_at};
 ghost use Rattle.lp_step.specs.Steps.{IsFit, KeepsVariables};
 ghost use Rattle.lp_efuns.specs.Plain.{Finishes, IsAnswerThere, IsDidThere};
-ghost use Rattle.lp_calling.specs.Jobs.{IsJobOn, needs_program};
+ghost use Rattle.lp_calling.specs.Jobs.{needs_program};
+ghost use Rattle.lp_calling.specs.Leave.{is_keeping};
 ghost use Rattle.lp_saving.specs.Saving.{IsOnlyKept, Keeps, KeepsOver, KeepsWith, Reads, StandsOver, did_of};
 
 use crate::keeper::bring_keeper;
@@ -51,6 +52,7 @@ fn end_with(
     ensures finishes { Finishes efun (live_in live.now.objects) live.now.cells (did_of outcome) budget.old result budget.new }
     ensures items { stack.new.items ≡ take low stack.old.items }
     ensures there { IsAnswerThere live.now.cells result }
+    ensures spends { budget.new ≤ budget.old }
 {
     stack.truncate(low);
     finish(efun, did_of(outcome), &live.cells, &live.objects, budget)
@@ -86,6 +88,8 @@ fn save(
     ensures stay { KeepsThere live.old.cells live.new.cells }
     ensures variables { KeepsVariables live.old.objects live.new.objects }
     ensures still { OnErr result (StandsStill live.old live.new) }
+    ensures items { OnOk result (stack.new.items ≡ take low stack.old.items) }
+    ensures spends { budget.new ≤ budget.old }
 {
     let outcome = save_object(live, this, code, path)?;
     Ok(end_with(efun, outcome, live, stack, low, budget))
@@ -112,6 +116,8 @@ fn restore(
     ensures stay { KeepsThere live.old.cells live.new.cells }
     ensures variables { KeepsVariables live.old.objects live.new.objects }
     ensures still { OnErr result (StandsStill live.old live.new) }
+    ensures items { OnOk result (stack.new.items ≡ take low stack.old.items) }
+    ensures spends { budget.new ≤ budget.old }
 {
     let outcome = restore_object(live, this, code, path)?;
     Ok(end_with(efun, outcome, live, stack, low, budget))
@@ -147,6 +153,8 @@ fn keep_saved<W: SwapFile>(
     ensures stay { KeepsThere live.old.cells live.new.cells }
     ensures variables { KeepsVariables live.old.objects live.new.objects }
     ensures still { W.is_truthful swap.new → OnErr result (StandsOver (W.content swap.old) live.old (W.content swap.new) live.new) }
+    ensures items { OnOk result (stack.new.items ≡ take low stack.old.items) }
+    ensures spends { budget.new ≤ budget.old }
 {
     match bring_keeper(live, swap, this) {
         Ok(code) => match save(
@@ -193,6 +201,8 @@ fn keep_restored<W: SwapFile>(
     ensures stay { KeepsThere live.old.cells live.new.cells }
     ensures variables { KeepsVariables live.old.objects live.new.objects }
     ensures still { W.is_truthful swap.new → OnErr result (StandsOver (W.content swap.old) live.old (W.content swap.new) live.new) }
+    ensures items { OnOk result (stack.new.items ≡ take low stack.old.items) }
+    ensures spends { budget.new ≤ budget.old }
 {
     if !is_plain(text_of(path)) {
         return Err(EnterFault::NoMemory);
@@ -221,6 +231,40 @@ fn keep_restored<W: SwapFile>(
     }
 }
 
+/// A deed on the saved variables of an object, which comes into memory with its program, and the job ends.
+fn keep_deed<W: SwapFile>(
+    efun: Efun,
+    deed: &FileDeed,
+    path: &Option<String>,
+    live: &mut Live,
+    swap: &mut W,
+    stack: &mut Vec<Value>,
+    low: usize,
+    budget: &mut u64,
+) -> Result<Answer, EnterFault>
+    requires keeping { is_keeping deed.now ≡ true }
+    requires closed { IsClosed live.old }
+    ensures reads { Reads (W.content swap.old) (W.content swap.new) (W.last swap.new) (W.read_faults swap.old) (W.read_faults swap.new) (W.write_faults swap.old) (W.write_faults swap.new)
+        (W.is_truthful swap.old) (W.is_truthful swap.new) (W.is_honest swap.old) (W.is_honest swap.new) live.old live.new result }
+    ensures keeps { W.is_truthful swap.new → IfOk result (λ a. KeepsOver a efun deed.now (option_map string_bytes path.now) (W.content swap.old) live.old stack.old.items low budget.old live.new stack.new.items budget.new) }
+    ensures closed { IsClosed live.new }
+    ensures there { IfOk result (IsAnswerThere live.new.cells) }
+    ensures stay { KeepsThere live.old.cells live.new.cells }
+    ensures variables { KeepsVariables live.old.objects live.new.objects }
+    ensures still { W.is_truthful swap.new → OnErr result (StandsOver (W.content swap.old) live.old (W.content swap.new) live.new) }
+    ensures items { OnOk result (stack.new.items ≡ take low stack.old.items) }
+    ensures spends { budget.new ≤ budget.old }
+{
+    match deed {
+        FileDeed::Save(this) => keep_saved(efun, *this, path, live, swap, stack, low, budget),
+        FileDeed::Restore(this) => keep_restored(efun, *this, path, live, swap, stack, low, budget),
+        FileDeed::Read => unreachable!(),
+        FileDeed::Size => unreachable!(),
+        FileDeed::Write(_) => unreachable!(),
+        FileDeed::Remove => unreachable!(),
+    }
+}
+
 /// A job that needs the program of its object goes on, and ends: it saves or restores the variables of the object, which comes into memory
 /// with its program, and pays the price of its value. Where that cannot be paid the budget is spent. Nothing is left of it on the stack.
 ///
@@ -236,24 +280,22 @@ pub fn keep<W: SwapFile>(
     budget: &mut u64,
 ) -> Result<Answer, EnterFault>
     requires needs { needs_program job.now ≡ true }
-    requires on { IsJobOn job.now stack.old.items }
     requires fit { IsFit live.old stack.old.items }
     ensures reads { Reads (W.content swap.old) (W.content swap.new) (W.last swap.new) (W.read_faults swap.old) (W.read_faults swap.new) (W.write_faults swap.old) (W.write_faults swap.new)
         (W.is_truthful swap.old) (W.is_truthful swap.new) (W.is_honest swap.old) (W.is_honest swap.new) live.old live.new result }
     ensures keeps { W.is_truthful swap.new → IfOk result (λ a. Keeps a job.now (W.content swap.old) live.old stack.old.items budget.old live.new stack.new.items budget.new) }
     ensures closed { IsClosed live.new }
     ensures there { IfOk result (IsAnswerThere live.new.cells) }
+    ensures fit { OnOk result (IsFit live.new stack.new.items) }
     ensures stay { KeepsThere live.old.cells live.new.cells }
     ensures variables { KeepsVariables live.old.objects live.new.objects }
     ensures still { W.is_truthful swap.new → OnErr result (StandsOver (W.content swap.old) live.old (W.content swap.new) live.new) }
+    ensures spends { budget.new ≤ budget.old }
 {
     match &job.stage {
-        Stage::File(FileDeed::Save(this), path) => keep_saved(
-            job.efun, *this, path, live, swap, stack, job.low, budget,
-        ),
-        Stage::File(FileDeed::Restore(this), path) => keep_restored(
-            job.efun, *this, path, live, swap, stack, job.low, budget,
-        ),
+        Stage::File(deed, path) => {
+            keep_deed(job.efun, deed, path, live, swap, stack, job.low, budget)
+        }
         _ => unreachable!(),
     }
 }
