@@ -24,9 +24,9 @@ use Rattle.lp_world.proofs.Keeping.{live_same}
 use Rattle.lp_efuns.specs.declared.caller.Caller.{Caller}
 use Rattle.lp_efuns.specs.declared.caller.Turn.{Turn}
 use Rattle.lp_efuns.specs.Subjects.{is_living_row, number_of}
-use Rattle.lp_efuns.specs.Turns.{At, Setting}
+use Rattle.lp_efuns.specs.Turns.{At}
 use Rattle.lp_efuns.proofs.Looking.{connection_same, living_same, object_same}
-use Rattle.lp_settling.proofs.Still.{onward, still}
+use Rattle.lp_settling.proofs.Still.{still}
 use Rattle.lp_calling.specs.declared.job.Applied.TheVariants as applies
 use Rattle.lp_calling.specs.declared.job.Audience.{Audience}
 use Rattle.lp_calling.specs.declared.job.Begun.TheVariants as begun
@@ -34,17 +34,17 @@ use Rattle.lp_calling.specs.declared.job.Question.TheVariants as questions
 use Rattle.lp_calling.specs.declared.job.Stage.{Stage}
 use Rattle.lp_calling.specs.declared.job.Stage.TheVariants as stages
 use Rattle.lp_calling.specs.declared.job.Step.TheVariants as steps
-use Rattle.lp_calling.specs.Audiences.{AreDone, Hears, Holds, IsAudienceIn, IsDone, IsHeard, IsToBeAsked, LiesIn, Speaks, told_by}
-use Rattle.lp_calling.specs.Beginning.{Settled, Starts}
-use Rattle.lp_calling.specs.Entering.{Advances, IsAudiencePoised, IsTold, is_told}
+use Rattle.lp_calling.specs.Audiences.{AreDone, Holds, IsAudienceIn, IsDone, IsHeard, IsToBeAsked, LiesIn, Speaks, told_by}
+use Rattle.lp_calling.specs.Beginning.{Starts}
+use Rattle.lp_calling.specs.Entering.{Advances, IsTold, is_told}
 use Rattle.lp_calling.specs.Going.{StageGoes, StageTakes}
-use Rattle.lp_calling.specs.Jobs.{ended, listeners_behind, listeners_left, say_around, stage_course, telling}
+use Rattle.lp_calling.specs.Jobs.{ended, listeners_behind, say_around, telling}
 use Rattle.lp_calling.specs.Targets.{reader}
 use Rattle.lp_calling.proofs.Courses.{asked_on, then_on}
 use Rattle.lp_calling.proofs.Entering.{settled_onward}
 use Rattle.lp_calling.proofs.Lists.{left_at}
 use Rattle.lp_calling.proofs.Settled.{settled_here}
-use Rattle.lp_calling.proofs.Telling.{at_told, live_at, tell_to, telling as telling_is}
+use Rattle.lp_calling.proofs.Telling.{at_told, live_at, telling as telling_is}
 
 -- Places
 

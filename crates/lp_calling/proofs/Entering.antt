@@ -1,5 +1,5 @@
 -- Jobs come to what they ask next, and go on from there.
-use Rattle.std.proofs.Common.{◌≡◌, ◌∙◌, ◌++◌, ℕ, true, false, List, All, refl, ap, sym, subst}
+use Rattle.std.proofs.Common.{◌≡◌, ◌∙◌, ℕ, true, List, All, refl, sym, subst}
 use Rattle.lp_values.specs.declared.value.Value.{Value}
 use Rattle.lp_cells.specs.Cells.{IsThere, KeepsThere}
 use Rattle.lp_instr.specs.declared.efun.Efun.{Efun}
@@ -9,7 +9,7 @@ use Rattle.lp_world.specs.Closed.{IsClosed}
 use Rattle.lp_world.specs.declared.live.Live.{Live}
 use Rattle.lp_step.specs.Steps.{IsFit}
 use Rattle.lp_efuns.specs.declared.caller.Turn.{Turn}
-use Rattle.lp_efuns.specs.Turns.{At, Setting}
+use Rattle.lp_efuns.specs.Turns.{Setting}
 use Rattle.lp_settling.specs.Settling.{Settles}
 use Rattle.lp_settling.proofs.Still.{onward}
 use Rattle.lp_calling.specs.declared.job.Job.{Job}

@@ -8,7 +8,7 @@ use Rattle.lp_values.specs.declared.value.Value.TheVariants as values
 use Rattle.lp_code.specs.declared.program.RawProgram.{RawProgram}
 use Rattle.lp_swapfile.specs.Device.{Bytes}
 use Rattle.lp_instr.specs.declared.efun.Efun.{Efun}
-use Rattle.lp_places.specs.Places.{Shadowing, is_object, may_shadow}
+use Rattle.lp_places.specs.Places.{Shadowing}
 use Rattle.lp_language.specs.World.{World, is_live}
 use Rattle.lp_language.specs.Course.{Asks, Course, Gives, Over, State, Stops, and_then, gives, zero_value}
 use Rattle.lp_meaning.specs.Askers.{Asker}
@@ -20,7 +20,7 @@ use Rattle.lp_efuns.specs.Turns.{At, Setting}
 use Rattle.lp_filing.specs.Filing.{Comes, EndsWith, Follows, Shows}
 use Rattle.lp_filing.specs.declared.outcome.Outcome.TheVariants as outcomes
 use Rattle.lp_shadows.specs.Shadows.{shadowed_if}
-use Rattle.lp_settling.specs.Settling.{AreShadowsLive, Settles}
+use Rattle.lp_settling.specs.Settling.{Settles}
 use Rattle.lp_settling.proofs.Still.{still}
 use Rattle.lp_calling.specs.declared.job.Stage.{Stage}
 use Rattle.lp_calling.specs.declared.job.Stage.TheVariants as stages

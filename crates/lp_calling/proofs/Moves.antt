@@ -10,13 +10,13 @@ use Rattle.lp_cells.specs.Cells.{Store}
 use Rattle.lp_ops.specs.Operands.{Opened, Number, Chars, Array, Mapping, Object, operand}
 use Rattle.lp_instr.specs.declared.efun.Efun.{Efun}
 use Rattle.lp_instr.specs.declared.efun.Efun.TheVariants as efuns
-use Rattle.lp_language.specs.World.{World, is_live}
+use Rattle.lp_language.specs.World.{World}
 use Rattle.lp_language.specs.Course.{Course, Failed, State, and_then, gives, stops, zero_value}
 use Rattle.lp_language.specs.Operations.{cells_of, living}
 use Rattle.lp_meaning.specs.Askers.{Asker}
 use Rattle.lp_meaning.specs.CallingEfuns.{calls, move_object, move_to}
 use Rattle.lp_meaning.specs.EfunArguments.{arg, opened_args, text_arg, text_in, value_arg}
-use Rattle.lp_meaning.specs.FileLoads.{live_object, load_value, text_target}
+use Rattle.lp_meaning.specs.FileLoads.{live_object, load_value}
 use Rattle.lp_meaning.specs.WorldSteps.{as_name, is_clone_name}
 use Rattle.lp_world.specs.Rows.{live_in}
 use Rattle.lp_world.specs.declared.live.Live.{Live}

@@ -1,18 +1,18 @@
 -- Objects are searched for what a text names.
-use Rattle.std.proofs.Common.{◌≡◌, ◌∙◌, ◌+◌, ◌-◌, ◌<◌, ◌≤◌, ◌++◌, ◌∷◌, [], ℕ, pos, Bool, true, false, ◌||◌, List, Option, Some, None, cond, refl, ap, sym, subst, codes, drop, length, map, slice_get, take, unwrap_or, arith, length-append, if◌then◌else◌}
+use Rattle.std.proofs.Common.{◌≡◌, ◌∙◌, ◌+◌, ◌-◌, ◌<◌, ◌≤◌, ◌++◌, ◌∷◌, [], ℕ, Bool, true, false, ◌||◌, List, Option, Some, None, cond, refl, ap, sym, subst, codes, drop, length, map, slice_get, take, arith, length-append, if◌then◌else◌}
 use Rattle.std.proofs.lemmas.List.{drop_all, drop_at, take_at}
 use Rattle.lp_values.specs.declared.id.ObjId.{ObjId}
 use Rattle.lp_values.specs.declared.value.Value.{Value}
 use Rattle.lp_values.specs.declared.value.Value.TheVariants as values
 use Rattle.lp_values.specs.Read.{is_zero}
 use Rattle.lp_cells.specs.Cells.{Store}
-use Rattle.lp_ops.specs.Operands.{Chars, Object, Opened, opened, operand}
+use Rattle.lp_ops.specs.Operands.{Chars, Object, Opened, operand}
 use Rattle.lp_instr.specs.declared.efun.Efun.{Efun}
 use Rattle.lp_instr.specs.declared.efun.Efun.TheVariants as efuns
 use Rattle.lp_language.specs.World.{is_live}
 use Rattle.lp_language.specs.Course.{Course, Other, Scene, State, and_then, gives, zero_value}
 use Rattle.lp_language.specs.Operations.{cells_of, is_false, living}
-use Rattle.lp_places.specs.Places.{environment, inventory, is_at}
+use Rattle.lp_places.specs.Places.{environment, is_at}
 use Rattle.lp_meaning.specs.Askers.{Asker, ask_value}
 use Rattle.lp_meaning.specs.CallingEfuns.{calls, is_beside, nobody, present, present_among, present_in, present_text}
 use Rattle.lp_meaning.specs.EfunArguments.{arg, object_arg, opened_args, text_arg, text_in}
@@ -35,8 +35,8 @@ use Rattle.lp_calling.specs.Audiences.{Holds, LiesIn}
 use Rattle.lp_calling.specs.Beginning.{Starts}
 use Rattle.lp_calling.specs.Entering.{Advances, IsSearchPoised}
 use Rattle.lp_calling.specs.Going.{StageGoes, StageTakes}
-use Rattle.lp_calling.specs.Jobs.{ended, objects_behind, objects_left, search_around, searching, sought, stage_course}
-use Rattle.lp_calling.specs.Searches.{ArePassed, IsBeside, IsFirstSearch, IsLiveAt, IsSearchIn, IsSkipped, SearchesAround, SearchesIn, is_in, is_near}
+use Rattle.lp_calling.specs.Jobs.{ended, objects_behind, objects_left, search_around, searching, sought}
+use Rattle.lp_calling.specs.Searches.{ArePassed, IsBeside, IsFirstSearch, IsLiveAt, IsSkipped, SearchesAround, SearchesIn, is_in, is_near}
 use Rattle.lp_calling.specs.Targets.{target_of}
 use Rattle.lp_calling.proofs.Courses.{asked_on, goes_alike, then_on}
 use Rattle.lp_calling.proofs.Lists.{left_at, left_split}

@@ -5,7 +5,7 @@ use Rattle.lp_values.specs.declared.id.ObjId.{ObjId}
 use Rattle.lp_values.specs.declared.error.ErrorKind.{ErrorKind}
 use Rattle.lp_values.specs.Errors.{plain}
 use Rattle.lp_values.specs.declared.value.Value.{Value}
-use Rattle.lp_cells.specs.Cells.{IsThere, KeepsThere}
+use Rattle.lp_cells.specs.Cells.{IsThere, KeepsThere, Store}
 use Rattle.lp_code.specs.declared.program.RawProgram.{RawProgram}
 use Rattle.lp_instr.specs.declared.efun.Efun.{Efun}
 use Rattle.lp_language.specs.World.{World}
@@ -23,7 +23,6 @@ use Rattle.lp_world.specs.Stands.{Stands}
 use Rattle.lp_world.specs.declared.live.Live.{Live}
 use Rattle.lp_step.specs.Steps.{IsFit}
 use Rattle.lp_efuns.specs.declared.caller.Turn.{Turn}
-use Rattle.lp_efuns.specs.Turns.{At, Setting}
 use Rattle.lp_settling.proofs.Still.{onward, still}
 use Rattle.lp_calling.specs.declared.job.Applied.TheVariants as applies
 use Rattle.lp_calling.specs.declared.job.Question.TheVariants as questions
@@ -165,10 +164,10 @@ advance_on stage0 stage1 stage2 live0 live1 live2 turn0 turn1 turn2 f k e own g 
 
 -- what stays where the cells do
 pub fit_moved : (live0 live1 : Live) (stack : List Value) → live1.cells ≡ live0.cells → IsClosed live1 → IsFit live0 stack → IsFit live1 stack
-fit_moved live0 live1 stack q c h = record { closed = c; there = subst (λ cells. All (IsThere cells) stack) (sym q) h.there }
+fit_moved live0 live1 stack q c h = record { closed = c; there = subst (λ (cells : Store). All (IsThere cells) stack) (sym q) h.there }
 
 pub stay_moved : (live0 live1 : Live) → live1.cells ≡ live0.cells → KeepsThere live0.cells live1.cells
-stay_moved live0 live1 q = subst (λ cells. KeepsThere live0.cells cells) (sym q) (λ v h. h)
+stay_moved live0 live1 q = subst (λ (cells : Store). KeepsThere live0.cells cells) (sym q) (λ v h. h)
 
 -- Asking
 

@@ -1,9 +1,7 @@
 -- Objects are given a text, one after another.
-use Rattle.std.specs.Prelude.{◌≡◌, ◌≤◌, ◌<◌, ◌∷◌, ◌++◌, [], ⊤, ℕ, List, Bool, true, false, Option, Some, None, drop, length, slice_get, if◌then◌else◌}
+use Rattle.std.specs.Prelude.{◌≡◌, ◌≤◌, ◌<◌, ◌∷◌, ◌++◌, [], ℕ, List, Bool, true, false, Option, None, drop, length}
 use Rattle.lp_values.specs.declared.id.ObjId.{ObjId}
-use Rattle.lp_values.specs.declared.value.Value.{Value}
 use Rattle.lp_events.specs.declared.out.Out.TheVariants as outs
-use Rattle.lp_instr.specs.declared.efun.Efun.{Efun}
 use Rattle.lp_language.specs.Course.{State}
 use Rattle.lp_meaning.specs.Askers.{Asker}
 use Rattle.lp_meaning.specs.CallingEfuns.{speaker}

@@ -1,5 +1,5 @@
 -- `move_object` as a job: what it still does.
-use Rattle.std.specs.Prelude.{ℕ, ◌+◌, ◌<◌, ◌≤◌, ⊤, List, Option, drop, length, map}
+use Rattle.std.specs.Prelude.{◌+◌, ◌<◌, ◌≤◌, ⊤, List, Option, drop, length, map}
 use Rattle.lp_values.specs.declared.id.ObjId.{ObjId}
 use Rattle.lp_values.specs.declared.value.Value.{Value}
 use Rattle.lp_language.specs.Course.{Course, State, and_then, gives, zero_value}

@@ -1,5 +1,5 @@
 -- Objects are searched for what a text names.
-use Rattle.std.specs.Prelude.{◌≡◌, ◌≤◌, ◌<◌, ⊤, ℕ, List, Bool, true, false, ◌||◌, Option, Some, None, drop, length, slice_get}
+use Rattle.std.specs.Prelude.{◌≡◌, ◌≤◌, ◌<◌, ℕ, List, Bool, true, false, ◌||◌, Option, Some, None, drop, length, slice_get}
 use Rattle.lp_values.specs.declared.id.ObjId.{ObjId}
 use Rattle.lp_values.specs.declared.value.Value.{Value}
 use Rattle.lp_instr.specs.declared.efun.Efun.{Efun}
@@ -14,7 +14,7 @@ use Rattle.lp_efuns.specs.Turns.{At, Setting}
 use Rattle.lp_calling.specs.declared.job.Search.{Search}
 use Rattle.lp_calling.specs.declared.job.Stage.{Stage}
 use Rattle.lp_calling.specs.Audiences.{Holds}
-use Rattle.lp_calling.specs.Jobs.{ended, search_around, stage_course, unknown_many}
+use Rattle.lp_calling.specs.Jobs.{ended, search_around, stage_course}
 
 -- whether an object is there, in each state for which the live state stands
 abbrev pub IsBeside : Bool → Live → ObjId → Option ObjId → ObjId → Type 0

@@ -1,4 +1,4 @@
-use Rattle.lp_calling.proofs.Audiences.{to_be_asked, told_done}
+use Rattle.lp_calling.proofs.Audiences.{told_done}
 use Rattle.lp_calling.proofs.audience.tell_listener.Goals as goal
 
 pub returns-in_ok-tell_number-in-Some-clause-hears : goal.returns-in_ok-tell_number-in-Some-clause-hears

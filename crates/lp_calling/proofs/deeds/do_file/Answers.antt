@@ -1,5 +1,5 @@
-use Rattle.std.proofs.Common.{◌≡◌, All, ap, refl, subst, sym}
-use Rattle.std.specs.Option.{option_copied, option_map}
+use Rattle.std.proofs.Common.{All, ap, refl, subst, sym}
+use Rattle.std.specs.Option.{option_map}
 use Rattle.std.specs.Prelude.{string_bytes}
 use Rattle.lp_cells.specs.Cells.{IsThere}
 use Rattle.lp_world.specs.declared.live.Live.{Live}

@@ -97,3 +97,15 @@ returns-in-Move-clause-on c = c.take_moving.ensures.on c.args.low (length c.args
 
 pub returns-in-Move-clause-less : goal.returns-in-Move-clause-less
 returns-in-Move-clause-less c = subst (λ st. stage_left c.take_moving.result < stage_left st) (sym c.in-Move.is) c.take_moving.ensures.less
+
+pub returns-in-Move-clause-ready : goal.returns-in-Move-clause-ready
+returns-in-Move-clause-ready c = c.take_moving.ensures.ready c.args.objects.now
+
+pub returns-in-TellEach-clause-ready : goal.returns-in-TellEach-clause-ready
+returns-in-TellEach-clause-ready c = c.take_told.ensures.ready c.args.objects.now
+
+pub returns-in-Seek-clause-ready : goal.returns-in-Seek-clause-ready
+returns-in-Seek-clause-ready c = IfOk-weaker c.take_sought.result _ _ (λ t k. k c.args.objects.now) c.take_sought.ensures.ready
+
+pub returns-in-Master-clause-ready : goal.returns-in-Master-clause-ready
+returns-in-Master-clause-ready c = IfOk-weaker c.take_leave.result _ _ (λ t k. k c.args.objects.now) c.take_leave.ensures.ready

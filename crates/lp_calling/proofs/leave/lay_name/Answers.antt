@@ -1,6 +1,5 @@
-use Rattle.std.proofs.Common.{◌≡◌, ◌∙◌, ◌++◌, ◌∷◌, [], ap}
+use Rattle.std.proofs.Common.{◌∙◌, ◌++◌, ◌∷◌, [], ap}
 use Rattle.std.specs.Str.{chars}
-use Rattle.lp_instr.specs.EfunList.{efun_name}
 use Rattle.lp_values.specs.declared.value.Value.TheVariants as values
 use Rattle.lp_value_efuns.proofs.ArgumentLemmas.{name_chars}
 use Rattle.lp_calling.proofs.leave.lay_name.Goals as goal

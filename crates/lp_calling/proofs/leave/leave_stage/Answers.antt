@@ -1,5 +1,4 @@
 use Rattle.std.proofs.Common.{◌∙◌, ap, subst, sym}
-use Rattle.lp_world.specs.Rows.{live_in}
 use Rattle.lp_calling.specs.Jobs.{IsStageOn, IsStageReady}
 use Rattle.lp_calling.specs.Leaving.{AsksLeave, master_stage}
 use Rattle.lp_calling.specs.declared.wish.Wish.TheVariants as wishes

@@ -2,10 +2,7 @@ use Rattle.std.proofs.Common.{subst, sym}
 use Rattle.std.proofs.lemmas.Result.{IfOk-weaker}
 use Rattle.lp_world.specs.Rows.{live_in}
 use Rattle.lp_calling.specs.Leave.{IsWish}
-use Rattle.lp_calling.specs.Going.{StageTakes}
 use Rattle.lp_calling.specs.Leaving.{GrantedAs}
-use Rattle.lp_calling.specs.declared.job.Stage.TheVariants as stages
-use Rattle.lp_calling.specs.declared.wish.Wish.TheVariants as wishes
 use Rattle.lp_calling.proofs.Leaving.{leave_takes}
 use Rattle.lp_calling.proofs.leave.take_leave.Goals as goal
 

@@ -1,7 +1,5 @@
-use Rattle.std.proofs.Common.{None, Some, subst, sym}
 use Rattle.lp_world.specs.Rows.{live_in}
 use Rattle.lp_efuns.proofs.Enabled.{row_there}
-use Rattle.lp_calling.specs.Leaving.{IsLiveObject}
 use Rattle.lp_calling.proofs.Leaving.{master_takes, no_master_takes}
 use Rattle.lp_calling.proofs.leave.take_master.Goals as goal
 

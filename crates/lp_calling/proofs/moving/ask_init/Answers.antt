@@ -1,4 +1,4 @@
-use Rattle.std.proofs.Common.{◌≡◌, ◌∙◌, ◌<◌, Some, length, slice_get, subst, sym}
+use Rattle.std.proofs.Common.{◌≡◌, ◌∙◌, Some, slice_get, subst, sym}
 use Rattle.lp_efuns.proofs.Enabled.{row_there}
 use Rattle.lp_calling.specs.Moving.{IsNextMade}
 use Rattle.lp_calling.proofs.Lists.{got_read}

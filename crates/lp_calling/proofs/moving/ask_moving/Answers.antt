@@ -2,7 +2,6 @@ use Rattle.std.proofs.Common.{subst, sym}
 use Rattle.std.proofs.lemmas.Result.{IfOk-weaker}
 use Rattle.lp_calling.specs.declared.job.Stage.TheVariants as stages
 use Rattle.lp_calling.specs.Going.{StageGoes}
-use Rattle.lp_calling.specs.Moving.{IsMovePoised}
 use Rattle.lp_calling.proofs.moving.ask_moving.Goals as goal
 
 pub returns-in-Destination-clause-goes : goal.returns-in-Destination-clause-goes

@@ -1,4 +1,4 @@
-use Rattle.std.proofs.Common.{◌≡◌, ◌<◌, ◌≤◌, Some, arith, length, rules, slice_get, subst}
+use Rattle.std.proofs.Common.{◌<◌, ◌≤◌, arith, length, rules, subst}
 use Rattle.lp_calling.specs.Moving.{TellsMade}
 use Rattle.lp_calling.proofs.Lists.{got_read}
 use Rattle.lp_calling.proofs.Visits.{made_next, none_next, none_passed, one_passed}

@@ -1,4 +1,4 @@
-use Rattle.std.proofs.Common.{ap, subst, sym}
+use Rattle.std.proofs.Common.{subst, sym}
 use Rattle.lp_meaning.specs.EfunArguments.{value_arg}
 use Rattle.lp_world.specs.Rows.{live_in}
 use Rattle.lp_calling.specs.declared.job.Stage.TheVariants as stages

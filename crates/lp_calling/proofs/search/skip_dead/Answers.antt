@@ -1,7 +1,10 @@
 use Rattle.std.proofs.Common.{◌≡◌, ◌∙◌, ◌<◌, ◌≤◌, Some, arith, length, slice_get, sym}
 use Rattle.lp_calling.proofs.Lists.{got_read}
-use Rattle.lp_calling.proofs.Searches.{all_passed, one_passed, passed_to}
+use Rattle.lp_calling.proofs.Searches.{all_passed, none_passed, one_passed, passed_to}
 use Rattle.lp_calling.proofs.search.skip_dead.Goals as goal
+
+pub loop-n-init : goal.loop-n-init
+loop-n-init c = record { passed = none_passed c.args.live.now c.args.objects.now c.args.done; more = omega arith }
 
 pub returns-then-is_live : goal.returns-then-is_live
 returns-then-is_live c =
