@@ -58,7 +58,7 @@ pub shows_comes : (of : World → Value) (live : Live) (v : Value) → Shows of 
 shows_comes of live v f told programs s h = (sym (f told programs s.world h), record { stands = h; rest = refl; versions = refl; shadows = refl; lives = λ o. refl })
 
 -- the world afterwards settles
-follows_settles : (told : Option Bytes) (programs : List RawProgram) (live : Live) (s t : State) → Follows told programs live s t → Settles s.world t.world
+pub follows_settles : (told : Option Bytes) (programs : List RawProgram) (live : Live) (s t : State) → Follows told programs live s t → Settles s.world t.world
 follows_settles told programs live s t f = record {
   versions = f.versions;
   shadows = λ a.
@@ -66,7 +66,7 @@ follows_settles told programs live s t f = record {
       (All-weaker (λ (x : Shadowing). is_live s.world x.shadow ≡ true) (λ (x : Shadowing). is_live t.world x.shadow ≡ true) (λ x l. f.lives x.shadow ∙ l) s.world.shadows a);
 }
 
-follows_at : (g : Setting) (live0 live1 : Live) (turn : Turn) (b : ℕ) (s t : State) → live1.outputs ≡ live0.outputs → At g live0 turn b s → Follows g.told g.programs live1 s t → At g live1 turn b t
+pub follows_at : (g : Setting) (live0 live1 : Live) (turn : Turn) (b : ℕ) (s t : State) → live1.outputs ≡ live0.outputs → At g live0 turn b s → Follows g.told g.programs live1 s t → At g live1 turn b t
 follows_at g live0 live1 turn b s t o h f = record {
   stands = f.stands;
   left = ap (λ (x : State). x.budget) f.rest ∙ h.left;

@@ -1,5 +1,6 @@
 -- The master is asked for leave.
 use Rattle.std.proofs.Common.{◌≡◌, ◌∙◌, ◌+◌, ◌≤◌, ◌++◌, ◌∷◌, [], ℕ, suc, pos, Bool, true, false, ◌&&◌, ◌||◌, not, List, Option, Some, None, IfSome, is_some, refl, ap, sym, subst, drop, length, map, arith, append-nil, append_assoc, unwrap_or, slice_get, codes, if◌then◌else◌}
+use mathlib.Core.Path.{fun_ext}
 use Rattle.std.specs.Option.{option_map}
 use Rattle.std.specs.Prelude.{string_bytes}
 use Rattle.std.specs.Str.{chars}
@@ -12,19 +13,20 @@ use Rattle.lp_values.specs.declared.value.Value.TheVariants as values
 use Rattle.lp_values.specs.Read.{is_zero}
 use Rattle.lp_cells.specs.Cells.{Store}
 use Rattle.lp_ops.specs.Operands.{operand}
+use Rattle.lp_save.specs.SaveText.{FaultyLine, Restored, Values, restored_text, saved_text}
 use Rattle.lp_instr.specs.declared.efun.Efun.{Efun}
 use Rattle.lp_instr.specs.declared.efun.Efun.TheVariants as efuns
 use Rattle.lp_instr.specs.EfunList.{efun_name, is_name}
-use Rattle.lp_language.specs.World.{Object as ObjectOf, World, is_live, named_from, no_object, object_named, object_value}
-use Rattle.lp_language.specs.Course.{Apply, Course, State, and_then, gives, zero_value}
-use Rattle.lp_language.specs.Operations.{cells_of, is_false, living}
+use Rattle.lp_language.specs.World.{Object as ObjectOf, World, is_live, named_from, no_object, object_at, object_named, object_value, with_object}
+use Rattle.lp_language.specs.Course.{Apply, Course, Scene, State, and_then, gives, zero_value}
+use Rattle.lp_language.specs.Operations.{cells_of, is_false, living, with_store, with_world}
 use Rattle.lp_meaning.specs.Askers.{Asker, ask_value}
 use Rattle.lp_meaning.specs.CallingEfuns.{may_begin, one_value, with_shadow}
 use Rattle.lp_meaning.specs.EfunArguments.{opened_args, text_arg}
-use Rattle.lp_meaning.specs.FileEfuns.{files, is_path, path_answered, path_if, with_leave, written_to}
+use Rattle.lp_meaning.specs.FileEfuns.{files, is_path, named_value, path_answered, path_if, restored, restoring, restoring_from, saved_bytes, saved_of, saving, with_leave, with_o, with_values, with_variables, written_to}
 use Rattle.lp_meaning.specs.FileLoads.{live_object, load_value, master_call, object_of_value}
 use Rattle.lp_meaning.specs.Questions.{acting}
-use Rattle.lp_meaning.specs.WorldSteps.{master_name}
+use Rattle.lp_meaning.specs.WorldSteps.{file_at, master_name}
 use Rattle.lp_world.specs.Rows.{live_in}
 use Rattle.lp_world.specs.declared.live.Live.{Live}
 use Rattle.lp_world.specs.declared.objects.Object.{Object}
@@ -47,7 +49,7 @@ use Rattle.lp_calling.specs.declared.wish.Wish.TheVariants as wishes
 use Rattle.lp_calling.specs.Beginning.{Starts}
 use Rattle.lp_calling.specs.Going.{StageGoes, StageTakes}
 use Rattle.lp_calling.specs.Jobs.{IsStageOn, IsStageReady, ended, stage_course, stage_rest}
-use Rattle.lp_calling.specs.Leave.{IsWish, asked_in, asker_value, file_deed, granted, leave_function, wish_arguments, wish_function}
+use Rattle.lp_calling.specs.Leave.{IsWish, asked_in, asker_value, file_deed, granted, leave_function, scene_of, wish_arguments, wish_function}
 use Rattle.lp_calling.specs.Leaving.{AsksLeave, AsksToShadow, GrantedAs, IsDeedOf, IsLiveObject, IsMaster, master_stage, where_live}
 use Rattle.lp_calling.specs.Questions.{applied_name}
 use Rattle.lp_calling.proofs.Calling.{FoundBy}
@@ -191,6 +193,44 @@ append_means caller path text vs f t = record {
 pub remove_means : (caller : Caller) (path : List ℕ) (vs : List Value) → ((l : ObjId → Bool) (cells : Store) → path ≡ text_arg (map (operand l cells) vs) 0) → IsDeedOf efuns.Rm caller deeds.Remove path vs
 unfolding files
 remove_means caller path vs f = record { of_files = refl; means = λ by c s sc. ap (λ t. with_leave by c (codes "valid_write") efuns.Rm t s (file_deed deeds.Remove)) (sym (f (living s) (cells_of s))) }
+
+-- saving and restoring look at the object alone
+save_same : (c : Scene) (o : ObjId) → c.this ≡ o → (p : Option (List ℕ)) (s : State) → saving c p s ≡ file_deed (deeds.Save o) p s
+save_same c o e None s = refl
+save_same c o e (Some path) s = ap (λ x. saved_bytes path (saved_text (living s) (cells_of s) (map (named_value (object_at s.world x).variables) (saved_of s.world x))) s) e
+
+restored_same : (c : Scene) (o : ObjId) → c.this ≡ o → (path : List ℕ) (r : Restored) (s : State) → restored c path r s ≡ restored (scene_of o) path r s
+restored_same c o e path (FaultyLine n) s = refl
+restored_same c o e path (Values given cells) s =
+    ap (λ y. let x : ObjectOf = object_at s.world y in let t : State = with_store s cells in gives (values.Int (pos 1)) (with_world t (with_object t.world y (with_variables x (with_values x.variables (saved_of s.world y) given))))) e
+
+restore_same : (c : Scene) (o : ObjId) → c.this ≡ o → (p : Option (List ℕ)) (s : State) → restoring c p s ≡ file_deed (deeds.Restore o) p s
+restore_same c o e None s = refl
+restore_same c o e (Some path) s = by (file_at s.world.files path)
+  where
+    by : (b : Option (List ℕ)) → restoring_from c path b s ≡ restoring_from (scene_of o) path b s
+    by None = refl
+    by (Some bytes) =
+        ap (λ x. restored c path (restored_text (map (λ y. y.name) (saved_of s.world x)) bytes (cells_of s)) s) e
+        ∙ restored_same c o e path (restored_text (map (λ y. y.name) (saved_of s.world o)) bytes (cells_of s)) s
+
+pub save_means : (caller : Caller) (path : List ℕ) (vs : List Value) → ((l : ObjId → Bool) (cells : Store) → path ≡ with_o (text_arg (map (operand l cells) vs) 0)) → IsDeedOf efuns.SaveObject caller (deeds.Save caller.this) path vs
+unfolding files
+save_means caller path vs f = record {
+  of_files = refl;
+  means = λ by c s sc.
+      ap (λ t. with_leave by c (codes "valid_write") efuns.SaveObject t s (saving c)) (sym (f (living s) (cells_of s)))
+      ∙ ap (λ g. with_leave by c (codes "valid_write") efuns.SaveObject path s g) (fun_ext (λ p. fun_ext (λ u. save_same c caller.this sc.this p u)));
+}
+
+pub restore_means : (caller : Caller) (path : List ℕ) (vs : List Value) → ((l : ObjId → Bool) (cells : Store) → path ≡ with_o (text_arg (map (operand l cells) vs) 0)) → IsDeedOf efuns.RestoreObject caller (deeds.Restore caller.this) path vs
+unfolding files
+restore_means caller path vs f = record {
+  of_files = refl;
+  means = λ by c s sc.
+      ap (λ t. with_leave by c (codes "valid_read") efuns.RestoreObject t s (restoring c)) (sym (f (living s) (cells_of s)))
+      ∙ ap (λ g. with_leave by c (codes "valid_read") efuns.RestoreObject path s g) (fun_ext (λ p. fun_ext (λ u. restore_same c caller.this sc.this p u)));
+}
 
 -- Going on
 

@@ -39,6 +39,8 @@ is_calling efuns.ReadFile = true
 is_calling efuns.FileSize = true
 is_calling efuns.WriteFile = true
 is_calling efuns.Rm = true
+is_calling efuns.SaveObject = true
+is_calling efuns.RestoreObject = true
 is_calling _ = false
 
 -- The live state stands for a state, whose world settles from this one.

@@ -24,7 +24,7 @@ use Rattle.lp_calling.specs.declared.job.Round.{Round}
 use Rattle.lp_calling.specs.declared.job.Search.{Search}
 use Rattle.lp_calling.specs.declared.job.Stage.{Stage}
 use Rattle.lp_calling.specs.declared.job.Stage.TheVariants as stages
-use Rattle.lp_calling.specs.Leave.{IsWish, asked_in, file_deed, granted, shadow_deed, wish_arguments, wish_function}
+use Rattle.lp_calling.specs.Leave.{IsWish, asked_in, file_deed, granted, is_keeping, shadow_deed, wish_arguments, wish_function}
 use Rattle.lp_calling.specs.declared.moving.Moving.{Moving}
 use Rattle.lp_calling.specs.declared.moving.Moving.TheVariants as moves
 use Rattle.lp_calling.specs.Moves.{IsMoveAsking, IsMoveOn, move_back, move_course, move_rest}
@@ -311,3 +311,13 @@ IsStageReady objects (stages.Error kind) = ⊤
 
 abbrev pub IsReady : List (Option Object) → Job → Type 0
 IsReady objects job = IsStageReady objects job.stage
+
+-- Programs
+
+-- A stage at which the program of an object is needed, which is to come into memory first.
+abbrev pub stage_needs : Stage → Bool
+stage_needs (stages.File d p) = is_keeping d
+stage_needs _ = false
+
+abbrev pub needs_program : Job → Bool
+needs_program job = stage_needs job.stage

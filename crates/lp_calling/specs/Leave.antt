@@ -1,15 +1,15 @@
 -- What the master is asked for by efuns on files and by `shadow`, and what follows its answer.
-use Rattle.std.specs.Prelude.{◌≡◌, ℕ, ⊤, List, [], ◌∷◌, true, not, Option, Some, None, codes, if◌then◌else◌}
+use Rattle.std.specs.Prelude.{◌≡◌, ℕ, ⊤, List, [], ◌∷◌, Bool, true, false, not, Option, Some, None, codes, if◌then◌else◌}
 use Rattle.lp_values.specs.declared.id.ObjId.{ObjId}
 use Rattle.lp_values.specs.declared.value.Value.{Value}
 use Rattle.lp_values.specs.declared.value.Value.TheVariants.{Obj, Str}
 use Rattle.lp_instr.specs.declared.efun.Efun.{Efun}
 use Rattle.lp_instr.specs.EfunList.{efun_name}
-use Rattle.lp_language.specs.Course.{Apply, Course, State, gives, zero_value}
+use Rattle.lp_language.specs.Course.{Apply, Course, Scene, State, gives, zero_value}
 use Rattle.lp_language.specs.Operations.{seen}
 use Rattle.lp_meaning.specs.Askers.{Asker, ask_value}
 use Rattle.lp_meaning.specs.CallingEfuns.{may_begin, one_value, shadow_answered, with_shadow}
-use Rattle.lp_meaning.specs.FileEfuns.{bytes_of, is_path, path_answered, read_value, removed, size_value, written_to}
+use Rattle.lp_meaning.specs.FileEfuns.{bytes_of, is_path, path_answered, read_value, removed, restoring, saving, size_value, written_to}
 use Rattle.lp_meaning.specs.FileLoads.{live_object}
 use Rattle.lp_calling.specs.declared.wish.FileDeed.{FileDeed}
 use Rattle.lp_calling.specs.declared.wish.FileDeed.TheVariants as deeds
@@ -29,6 +29,8 @@ leave_function deeds.Read = codes "valid_read"
 leave_function deeds.Size = codes "valid_read"
 leave_function (deeds.Write text) = codes "valid_write"
 leave_function deeds.Remove = codes "valid_write"
+leave_function (deeds.Save this) = codes "valid_write"
+leave_function (deeds.Restore this) = codes "valid_read"
 
 -- the function that is asked for a wish
 abbrev pub wish_function : Wish → List ℕ
@@ -47,12 +49,28 @@ IsWish (wishes.Shadow this o) = ⊤
 
 -- Answers
 
+-- a function of an object: saving and restoring look at the object alone
+abbrev pub scene_of : ObjId → Scene
+scene_of this =
+    record { this = this; part = 0; version = record { 0 = 0 }; base = 0; function = []; interactive = None; loads = []; callers = []; depth = 0 }
+
+-- it needs the program of its object in memory
+abbrev pub is_keeping : FileDeed → Bool
+is_keeping deeds.Read = false
+is_keeping deeds.Size = false
+is_keeping (deeds.Write text) = false
+is_keeping deeds.Remove = false
+is_keeping (deeds.Save this) = true
+is_keeping (deeds.Restore this) = true
+
 -- what is done with the file at the path that the master gave, if it gave one
 abbrev pub file_deed : FileDeed → Option (List ℕ) → State → Course Value
 file_deed deeds.Read p s = gives (read_value (bytes_of s.world p)) s
 file_deed deeds.Size p s = gives (size_value (bytes_of s.world p)) s
 file_deed (deeds.Write text) p s = written_to p text s
 file_deed deeds.Remove p s = removed p s
+file_deed (deeds.Save this) p s = saving (scene_of this) p s
+file_deed (deeds.Restore this) p s = restoring (scene_of this) p s
 
 -- an object begins to shadow another one, where it may by now
 abbrev pub shadow_deed : ObjId → ObjId → State → Course Value

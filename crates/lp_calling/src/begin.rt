@@ -17,7 +17,7 @@ use crate::ends::{begin_bad, begin_end};
 use crate::items::begin_items;
 use crate::job::{Begun, CallingFault};
 use crate::laying::above;
-use crate::leave::{begin_append, begin_read, begin_remove, begin_size};
+use crate::leave::{begin_append, begin_read, begin_remove, begin_restore, begin_save, begin_size};
 use crate::load::begin_load;
 use crate::messages::{begin_printf, begin_tell, begin_write};
 use crate::moving::begin_move;
@@ -34,7 +34,8 @@ use lp_world::live::Live;
 use lp_world::objects::ObjectTable;
 
 /// Whether an efun is carried out by a job: `call_other`, `load_object`, `move_object`, `filter`, `map`, `tell_object`, `write`, `printf`,
-/// `tell_room`, `say`, `present`, `read_file`, `file_size`, `write_file` and `rm` are.
+/// `tell_room`, `say`, `present`, `read_file`, `file_size`, `write_file`, `rm`, `save_object`
+/// and `restore_object` are.
 pub fn is_calling(efun: Efun) -> bool
     ensures { result ≡ is_calling efun }
 {
@@ -51,6 +52,7 @@ pub fn is_calling(efun: Efun) -> bool
         | Efun::Say
         | Efun::Present => true,
         Efun::ReadFile | Efun::FileSize | Efun::WriteFile | Efun::Rm => true,
+        Efun::SaveObject | Efun::RestoreObject => true,
         _ => false,
     }
 }
@@ -88,6 +90,8 @@ fn start(
         Efun::FileSize => begin_size(live, caller, stack, low),
         Efun::WriteFile => begin_append(live, caller, stack, low),
         Efun::Rm => begin_remove(live, caller, stack, low),
+        Efun::SaveObject => begin_save(live, caller, stack, low),
+        Efun::RestoreObject => begin_restore(live, caller, stack, low),
         _ => unreachable!(),
     }
 }

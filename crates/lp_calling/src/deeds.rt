@@ -12,7 +12,7 @@ ghost use Rattle.lp_efuns.specs.declared.caller.Turn.{Turn};
 ghost use Rattle.lp_step.specs.Steps.{IsFit, KeepsVariables};
 ghost use Rattle.lp_calling.specs.Entering.{Enters, IsPoised};
 ghost use Rattle.lp_calling.specs.Jobs.{IsStageOn, IsStageReady, stage_left};
-ghost use Rattle.lp_calling.specs.Leave.{file_deed, shadow_deed};
+ghost use Rattle.lp_calling.specs.Leave.{file_deed, is_keeping, shadow_deed};
 
 use crate::job::Stage;
 use crate::laying::put_at;
@@ -37,6 +37,7 @@ fn text_of(text: &Option<String>) -> Option<&str>
 
 /// A deed on the file at the path that the master gave, if it gave one.
 fn do_deed(live: &mut Live, deed: &FileDeed, path: Option<&str>) -> Result<Value, AllocError>
+    requires plain { is_keeping deed.now ≡ false }
     requires closed { IsClosed live.old }
     ensures comes { IfOk result (λ v. Comes (file_deed deed.now (option_copied path.entry)) live.old (D.Value v) live.new) }
     ensures others { live.new ≡ record live.old { store = live.new.store } }
@@ -48,6 +49,8 @@ fn do_deed(live: &mut Live, deed: &FileDeed, path: Option<&str>) -> Result<Value
         FileDeed::Size => Ok(size(live, path)),
         FileDeed::Write(text) => append(live, path, text.as_slice()),
         FileDeed::Remove => remove(live, path),
+        FileDeed::Save(_) => unreachable!(),
+        FileDeed::Restore(_) => unreachable!(),
     }
 }
 
@@ -59,6 +62,7 @@ fn do_file(
     stack: &mut Vec<Value>,
     low: usize,
 ) -> Result<Stage, AllocError>
+    requires plain { is_keeping deed.now ≡ false }
     requires low { low ≤ length stack.old.items }
     requires fit { IsFit live.old stack.old.items }
     ensures enters { IfOk result (λ t. (e : _) (turn : Turn) → Enters e (Stage.File deed.now path.now) low live.old turn stack.old.items t live.new turn stack.new.items) }
@@ -88,6 +92,7 @@ pub(crate) fn enter_file(
     stack: &mut Vec<Value>,
     low: usize,
 ) -> Result<Stage, AllocError>
+    requires plain { is_keeping deed ≡ false }
     requires low { low ≤ length stack.old.items }
     requires fit { IsFit live.old stack.old.items }
     ensures enters { IfOk result (λ t. (e : _) (turn : Turn) → Enters e (Stage.File deed path) low live.old turn stack.old.items t live.new turn stack.new.items) }

@@ -4,7 +4,7 @@ ghost use Rattle.lp_cells.specs.Cells.{KeepsThere};
 ghost use Rattle.lp_world.specs.Closed.{IsClosed};
 ghost use Rattle.lp_step.specs.Steps.{IsFit, KeepsVariables};
 ghost use Rattle.lp_calling.specs.Entering.{Enters, IsPoised, is_direct};
-ghost use Rattle.lp_calling.specs.Jobs.{IsStageOn, IsStageReady, stage_left};
+ghost use Rattle.lp_calling.specs.Jobs.{IsStageOn, IsStageReady, stage_left, stage_needs};
 
 use crate::audience::{enter_audience, enter_say};
 use crate::deeds::{enter_file, enter_shadow};
@@ -40,6 +40,7 @@ fn come(
     stack: &mut Vec<Value>,
     low: usize,
 ) -> Result<Stage, AllocError>
+    requires plain { stage_needs stage ≡ false }
     requires on { IsStageOn stage low (length stack.old.items) }
     requires ready { IsStageReady live.old.objects stage }
     requires fit { IsFit live.old stack.old.items }
@@ -89,6 +90,7 @@ pub(crate) fn enter(
     stack: &mut Vec<Value>,
     low: usize,
 ) -> Result<Stage, AllocError>
+    requires plain { stage_needs stage ≡ false }
     requires on { IsStageOn stage low (length stack.old.items) }
     requires ready { IsStageReady live.old.objects stage }
     requires fit { IsFit live.old stack.old.items }

@@ -5,7 +5,7 @@ ghost use Rattle.lp_values.specs.declared.value.Value.{Value as V};
 ghost use Rattle.lp_cells.specs.Cells.{Store};
 ghost use Rattle.lp_instr.specs.EfunList.{efun_name};
 ghost use Rattle.lp_language.specs.Course.{zero_value};
-ghost use Rattle.lp_meaning.specs.FileEfuns.{is_path as path_test};
+ghost use Rattle.lp_meaning.specs.FileEfuns.{is_path as path_test, with_o};
 ghost use Rattle.lp_meaning.specs.FileLoads.{object_of_value};
 ghost use Rattle.lp_world.specs.Rows.{live_in, row_at};
 ghost use Rattle.lp_world.specs.declared.live.Live.{Live as L};
@@ -22,7 +22,7 @@ ghost use Rattle.lp_calling.specs.Leaving.{AsksLeave, AsksToShadow, GrantedAs, I
 use crate::job::{Applied, Begun, CallingFault, Job, Question, Stage, Step};
 use crate::laying::above;
 use crate::wish::{FileDeed, Wish};
-use lp_efuns::arguments::text_shared;
+use lp_efuns::arguments::{text_at, text_shared};
 use lp_efuns::caller::Caller;
 use lp_filing::leave::{path_of, path_used};
 use lp_instr::efun::Efun;
@@ -205,6 +205,48 @@ pub(crate) fn begin_remove(
     begin_deed(live, caller, stack, low, Efun::Rm, FileDeed::Remove, path)
 }
 
+/// A path with `.o` behind it.
+fn with_o(alloc: Global, path: &[char]) -> Result<Text, AllocError>
+    ensures { IfOk result (λ t. t ≡ with_o path.now) }
+{
+    let mut all = Vec::from_slice(alloc, path)?;
+    all.push('.')?;
+    all.push('o')?;
+    Text::from_vec(alloc, all)
+}
+
+/// `save_object` begins.
+pub(crate) fn begin_save(
+    live: &Live,
+    caller: &Caller<'_>,
+    stack: &Vec<Value>,
+    low: usize,
+) -> Result<Begun, CallingFault>
+    requires low { low ≤ length stack.now.items }
+    ensures starts { IfOk result (λ r. Starts r Efun.SaveObject caller.now live.now low stack.now.items stack.now.items) }
+    ensures there { IfOk result (λ r. (cells : Store) → IsBegunThere cells r) }
+    ensures ready { IfOk result (IsBegunReady live.now.objects) }
+{
+    let path = with_o(live.alloc, text_at(above(stack, low), 0))?;
+    begin_deed(live, caller, stack, low, Efun::SaveObject, FileDeed::Save(caller.this), path)
+}
+
+/// `restore_object` begins.
+pub(crate) fn begin_restore(
+    live: &Live,
+    caller: &Caller<'_>,
+    stack: &Vec<Value>,
+    low: usize,
+) -> Result<Begun, CallingFault>
+    requires low { low ≤ length stack.now.items }
+    ensures starts { IfOk result (λ r. Starts r Efun.RestoreObject caller.now live.now low stack.now.items stack.now.items) }
+    ensures there { IfOk result (λ r. (cells : Store) → IsBegunThere cells r) }
+    ensures ready { IfOk result (IsBegunReady live.now.objects) }
+{
+    let path = with_o(live.alloc, text_at(above(stack, low), 0))?;
+    begin_deed(live, caller, stack, low, Efun::RestoreObject, FileDeed::Restore(caller.this), path)
+}
+
 /// The job of `shadow` that asks the master whether an object may shadow another one, once nothing else stands in the way; the master is
 /// loaded first where it does not live. So many values lie below its arguments, which it needs no longer. Takes no memory.
 pub fn ask_to_shadow(live: &Live, low: usize, this: ObjId, o: ObjId) -> Job
@@ -244,6 +286,8 @@ fn applied_for(deed: &FileDeed) -> Applied
         FileDeed::Size => Applied::ValidRead,
         FileDeed::Write(_) => Applied::ValidWrite,
         FileDeed::Remove => Applied::ValidWrite,
+        FileDeed::Save(_) => Applied::ValidWrite,
+        FileDeed::Restore(_) => Applied::ValidRead,
     }
 }
 

@@ -1,11 +1,11 @@
 //! What jobs do next.
-ghost use Rattle.std.specs.Prelude.{◌≡◌, ◌≤◌, IfOk, OnOk, length, take};
+ghost use Rattle.std.specs.Prelude.{◌≡◌, ◌≤◌, IfOk, OnOk, false, length, take};
 ghost use Rattle.lp_cells.specs.Cells.{KeepsThere};
 ghost use Rattle.lp_world.specs.Closed.{IsClosed};
 ghost use Rattle.lp_step.specs.Steps.{IsFit, KeepsVariables};
 ghost use Rattle.lp_calling.specs.Entering.{IsPoised, JobEnters};
 ghost use Rattle.lp_calling.specs.Going.{Goes, IsAskedThere, IsStepThere, StageGoes, Waits};
-ghost use Rattle.lp_calling.specs.Jobs.{IsJobOn, IsReady, IsStageOn, IsStageReady, player_back, questions_left};
+ghost use Rattle.lp_calling.specs.Jobs.{IsJobOn, IsReady, IsStageOn, IsStageReady, needs_program, player_back, questions_left};
 
 use crate::audience::ask_listener;
 use crate::call::ask_call;
@@ -20,6 +20,7 @@ use crate::load::ask_load;
 use crate::messages::{step_tell, step_write};
 use crate::moving::ask_moving;
 use crate::search::ask_object;
+use crate::wish::FileDeed;
 use lp_efuns::caller::Turn;
 use lp_instr::efun::Efun;
 use lp_values::value::Value;
@@ -79,6 +80,7 @@ fn enter_job(
     turn: &mut Turn,
     stack: &mut Vec<Value>,
 ) -> Result<(), AllocError>
+    requires plain { needs_program job.old ≡ false }
     requires on { IsJobOn job.old stack.old.items }
     requires ready { IsReady live.old.objects job.old }
     requires fit { IsFit live.old stack.old.items }
@@ -98,6 +100,18 @@ fn enter_job(
     Ok(())
 }
 
+/// Whether the program of an object is to come into memory before a job goes on: it saves or restores the variables of the object then.
+/// Such a job does not go on here. Takes no memory.
+pub fn needs_program(job: &Job) -> bool
+    ensures { result ≡ needs_program job.now }
+{
+    match &job.stage {
+        Stage::File(FileDeed::Save(_), _) => true,
+        Stage::File(FileDeed::Restore(_), _) => true,
+        _ => false,
+    }
+}
+
 /// A job goes on: it tells what it asks, with how many arguments on top of the stack, or how it ends. Then nothing is left of
 /// it on the stack, and the price of its value is paid. Where that cannot be paid the budget is spent. Those whom it tells something by
 /// their connections are told at once. `this_player()` may be another one while it asks.
@@ -111,6 +125,7 @@ pub fn next(
     stack: &mut Vec<Value>,
     budget: &mut u64,
 ) -> Result<Step, AllocError>
+    requires plain { needs_program job.old ≡ false }
     requires on { IsJobOn job.old stack.old.items }
     requires ready { IsReady live.old.objects job.old }
     requires fit { IsFit live.old stack.old.items }

@@ -13,6 +13,10 @@ pub enum FileDeed {
     Write(Text),
     /// It is removed.
     Remove,
+    /// The saved variables of this object become its text.
+    Save(ObjId),
+    /// The saved variables of this object come from it.
+    Restore(ObjId),
 }
 
 /// What the master is asked leave for.

@@ -5,7 +5,7 @@ use Rattle.lp_calling.specs.declared.job.Stage.{Stage}
 use Rattle.lp_calling.specs.declared.job.Stage.TheVariants as stages
 use Rattle.lp_cells.specs.Cells.{KeepsThere, Store}
 use Rattle.lp_calling.specs.Entering.{Enters, is_direct}
-use Rattle.lp_calling.specs.Jobs.{IsStageOn, stage_left}
+use Rattle.lp_calling.specs.Jobs.{IsStageOn, stage_left, stage_needs}
 use Rattle.lp_calling.proofs.Entering.{advanced, fit_still, stay_still}
 use Rattle.lp_calling.proofs.Visits.{fit_moved, stay_moved}
 use Rattle.lp_calling.proofs.enter.come.Goals as goal
@@ -205,3 +205,6 @@ unreachable-requires-in-Zero c = is_indirect c.args.stage (subst (λ st. is_dire
 
 pub unreachable-requires-in-Error : goal.unreachable-requires-in-Error
 unreachable-requires-in-Error c = is_indirect c.args.stage (subst (λ st. is_direct st ≡ true) (sym c.in-Error.is) refl) c.requires.indirect
+
+pub enter_file-requires-clause-plain : goal.enter_file-requires-clause-plain
+enter_file-requires-clause-plain c = subst (λ s. stage_needs s ≡ false) c.in-File.is c.requires.plain
