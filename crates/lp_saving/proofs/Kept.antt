@@ -43,7 +43,7 @@ use Rattle.lp_calling.proofs.Ending.{cut_to, spends_less, value_over}
 use Rattle.lp_calling.proofs.Granted.{follows_at, follows_settles}
 use Rattle.lp_calling.proofs.Settled.{over_onward}
 use Rattle.lp_saving.specs.Saving.{IsKeeper, IsOnlyKept, Keeps, KeepsOver, KeepsWith, Reads, StandsOver, did_of}
-use Rattle.lp_saving.proofs.Keeper.{row_of}
+use Rattle.lp_saving.proofs.InMemory.{row_of}
 
 -- Ends
 

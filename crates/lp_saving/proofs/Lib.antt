@@ -1,2 +1,2 @@
-pub mod Keeper
+pub mod InMemory
 pub mod Kept

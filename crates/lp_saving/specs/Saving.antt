@@ -39,9 +39,9 @@ abbrev pub StandsOver : Option Bytes → Live → Option Bytes → Live → Type
 StandsOver told0 live0 told1 live1 = (programs : List RawProgram) (w : World) → Stands told0 programs live0 w → Stands told1 programs live1 w
 
 -- an object is in memory with its program, which is this one
-pub record IsKeeper (live : Live) (o : ObjId) (code : RawProgram) : Type 0 where
+pub record IsKeeper (live : Live) (o : ObjId) (raw : RawProgram) : Type 0 where
   pub here : IsSome (variables_at live.objects o)
-  pub code : (x : Object) → row_at live.objects o.0 ≡ Some x → program_at live.versions x.program ≡ Some code
+  pub code : (x : Object) → row_at live.objects o.0 ≡ Some x → program_at live.versions x.program ≡ Some raw
 
 -- Deeds
 

@@ -1,5 +1,5 @@
 use Rattle.lp_targets.proofs.Memory.{brings_err, brings_no_memory, brings_ok, own_version_there, stays_same}
-use Rattle.lp_saving.proofs.Keeper.{keeper, row_of}
+use Rattle.lp_saving.proofs.InMemory.{keeper, row_of}
 use Rattle.lp_saving.proofs.keeper.bring_own.Goals as goal
 
 pub version_of-requires : goal.version_of-requires

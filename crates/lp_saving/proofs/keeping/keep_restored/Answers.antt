@@ -1,7 +1,7 @@
-use Rattle.std.proofs.Common.{subst}
+use Rattle.std.proofs.Common.{subst, sym}
 use Rattle.std.specs.Option.{option_copied}
 use Rattle.lp_calling.specs.declared.wish.FileDeed.TheVariants as deeds
-use Rattle.lp_saving.specs.Saving.{KeepsOver}
+use Rattle.lp_saving.specs.Saving.{IsKeeper, KeepsOver}
 use Rattle.lp_saving.proofs.Kept.{brought_stay, brought_variables, kept_over, only_brought, reads_no_memory, reads_of, reads_ok, still_brought}
 use Rattle.lp_targets.proofs.Memory.{brings_err}
 use Rattle.lp_saving.proofs.keeping.keep_restored.Goals as goal
@@ -21,7 +21,7 @@ returns-in-Ok-restore-clause-keeps g c = λ t.
     let told = g.W.SwapFile.content a.swap.now in
     subst (λ p. KeepsOver c.in-Ok-restore.a a.efun (deeds.Restore a.this) p told a.live.now a.stack.now.items a.low a.budget.now c.restore.new.live c.restore.new.stack.items c.restore.new.budget) c.text_of.ensures
     (kept_over c.in-Ok-restore.a a.efun (deeds.Restore a.this) (option_copied c.text_of.result) a.this c.raw.result.now told (g.W.SwapFile.content c.bring_keeper.new.swap) a.live.now c.bring_keeper.new.live c.restore.new.live a.stack.now.items c.restore.new.stack.items a.low a.budget.now c.restore.new.budget
-    c.in-Ok.ensures.brings.kept c.in-Ok.ensures.brings.stays (c.in-Ok.ensures.stands t) c.in-Ok.ensures.keeper c.in-Ok-restore.ensures.keeps)
+    c.in-Ok.ensures.brings.kept c.in-Ok.ensures.brings.stays (c.in-Ok.ensures.stands t) (subst (λ x. IsKeeper c.bring_keeper.new.live a.this x) (sym c.raw.ensures.same) c.in-Ok.ensures.keeper) c.in-Ok-restore.ensures.keeps)
 
 pub returns-in-Ok-restore-clause-stay : goal.returns-in-Ok-restore-clause-stay
 returns-in-Ok-restore-clause-stay g c = brought_stay c.args.live.now c.bring_keeper.new.live c.restore.new.live c.in-Ok.ensures.brings.stays c.in-Ok-restore.ensures.stay
