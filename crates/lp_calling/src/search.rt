@@ -181,8 +181,8 @@ pub(crate) fn begin_present(
 // Going on
 
 /// How many objects are done, once those that are destructed are passed up to one that is live. Costs a look at each.
-fn skip_dead(live: &Live, objects: &[ObjId], done: usize) -> usize
-    ensures { IsSkipped live.now objects.now done result }
+fn skip_dead(live: &Live, objects: &Vec<ObjId>, done: usize) -> usize
+    ensures { IsSkipped live.now objects.now.items done result }
 {
     let mut n = done;
     while n < objects.len() {
@@ -203,7 +203,7 @@ fn enter_place(live: &Live, place: ObjId, text: Text) -> Result<Stage, AllocErro
     ensures left { IfOk result (λ t. stage_left t ≤ unknown_many) }
 {
     let objects = live.places.inventory(place).to_vec(live.alloc)?;
-    let n = skip_dead(live, objects.as_slice(), 0);
+    let n = skip_dead(live, &objects, 0);
     if n < objects.len() {
         return Ok(Stage::Seek(Search {
             text,
@@ -251,7 +251,7 @@ pub(crate) fn enter_search(search: Search, live: &Live) -> Result<Stage, AllocEr
     ensures ready { IfOk result (λ t. (objects : List (Option Object)) → IsStageReady objects t) }
     ensures left { IfOk result (λ t. stage_left t ≤ length search.objects.items - search.done + left_around search.around) }
 {
-    let n = skip_dead(live, search.objects.as_slice(), search.done);
+    let n = skip_dead(live, &search.objects, search.done);
     if n < search.objects.len() {
         return Ok(Stage::Seek(Search {
             text: search.text,

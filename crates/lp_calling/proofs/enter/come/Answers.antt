@@ -22,7 +22,8 @@ returns-in-Say-clause-enters c =
     (advanced a.efun (stages.Say c.in-Say.this c.in-Say.text) t a.low a.live.now c.enter_say.new.live a.turn.now a.turn.now a.stack.now.items k)) c.enter_say.ensures.advances
 
 pub returns-in-Say-clause-fit : goal.returns-in-Say-clause-fit
-returns-in-Say-clause-fit c = fit_still c.args.live.now c.enter_say.new.live c.args.stack.now.items c.enter_say.ensures.same c.enter_say.ensures.closed c.requires.fit
+returns-in-Say-clause-fit c =
+    IfOk-weaker c.enter_say.result _ _ (λ t k. fit_still c.args.live.now c.enter_say.new.live c.args.stack.now.items c.enter_say.ensures.same c.enter_say.ensures.closed c.requires.fit) c.enter_say.ensures.poised
 
 pub returns-in-Say-clause-stay : goal.returns-in-Say-clause-stay
 returns-in-Say-clause-stay c = stay_still c.args.live.now c.enter_say.new.live c.enter_say.ensures.same
@@ -41,7 +42,8 @@ returns-in-TellEach-clause-enters c =
     (advanced a.efun (stages.TellEach c.in-TellEach.audience) t a.low a.live.now c.enter_audience.new.live a.turn.now a.turn.now a.stack.now.items (k a.turn.now))) c.enter_audience.ensures.advances
 
 pub returns-in-TellEach-clause-fit : goal.returns-in-TellEach-clause-fit
-returns-in-TellEach-clause-fit c = fit_still c.args.live.now c.enter_audience.new.live c.args.stack.now.items c.enter_audience.ensures.same c.enter_audience.ensures.closed c.requires.fit
+returns-in-TellEach-clause-fit c =
+    IfOk-weaker c.enter_audience.result _ _ (λ t k. fit_still c.args.live.now c.enter_audience.new.live c.args.stack.now.items c.enter_audience.ensures.same c.enter_audience.ensures.closed c.requires.fit) c.enter_audience.ensures.poised
 
 pub returns-in-TellEach-clause-stay : goal.returns-in-TellEach-clause-stay
 returns-in-TellEach-clause-stay c = stay_still c.args.live.now c.enter_audience.new.live c.enter_audience.ensures.same
@@ -111,7 +113,8 @@ pub returns-in-Move-clause-variables : goal.returns-in-Move-clause-variables
 returns-in-Move-clause-variables c = same_variables c.args.live.now.objects c.enter_moving.new.live.objects c.enter_moving.ensures.objects
 
 pub returns-in-Move-clause-fit : goal.returns-in-Move-clause-fit
-returns-in-Move-clause-fit c = fit_moved c.args.live.now c.enter_moving.new.live c.args.stack.now.items c.enter_moving.ensures.cells c.enter_moving.ensures.closed c.requires.fit
+returns-in-Move-clause-fit c =
+    IfOk-weaker c.enter_moving.result _ _ (λ t k. fit_moved c.args.live.now c.enter_moving.new.live c.args.stack.now.items c.enter_moving.ensures.cells c.enter_moving.ensures.closed c.requires.fit) c.enter_moving.ensures.poised
 
 pub returns-in-Say-clause-poised : goal.returns-in-Say-clause-poised
 returns-in-Say-clause-poised c = IfOk-weaker c.enter_say.result _ _ (λ t k. k c.args.turn.now) c.enter_say.ensures.poised

@@ -4,11 +4,11 @@ use Rattle.lp_calling.proofs.Searches.{all_passed, none_passed, one_passed, pass
 use Rattle.lp_calling.proofs.search.skip_dead.Goals as goal
 
 pub loop-n-init : goal.loop-n-init
-loop-n-init c = record { passed = none_passed c.args.live.now c.args.objects.now c.args.done; more = omega arith }
+loop-n-init c = record { passed = none_passed c.args.live.now c.args.objects.now.items c.args.done; more = omega arith }
 
 pub returns-then-is_live : goal.returns-then-is_live
 returns-then-is_live c =
-    let os = c.args.objects.now in
+    let os = c.args.objects.now.items in
     let o = c.index.result.now in
     let within : c.loop-n.n < length os = omega arith in
     let at : slice_get os c.loop-n.n ≡ Some o = got_read os c.loop-n.n o within c.index.ensures in
@@ -16,7 +16,7 @@ returns-then-is_live c =
 
 pub loop-n-preserved : goal.loop-n-preserved
 loop-n-preserved c =
-    let os = c.args.objects.now in
+    let os = c.args.objects.now.items in
     let o = c.index.result.now in
     let within : c.loop-n.n < length os = omega arith in
     let at : slice_get os c.loop-n.n ≡ Some o = got_read os c.loop-n.n o within c.index.ensures in
@@ -27,5 +27,5 @@ loop-n-preserved c =
 
 pub returns : goal.returns
 returns c =
-    let out : length c.args.objects.now ≤ c.loop-n.n = omega arith in
-    all_passed c.args.live.now c.args.objects.now c.args.done c.loop-n.n out c.loop-n.invariant.more c.loop-n.invariant.passed
+    let out : length c.args.objects.now.items ≤ c.loop-n.n = omega arith in
+    all_passed c.args.live.now c.args.objects.now.items c.args.done c.loop-n.n out c.loop-n.invariant.more c.loop-n.invariant.passed
