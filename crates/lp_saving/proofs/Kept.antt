@@ -1,5 +1,5 @@
 -- How jobs end that save and restore.
-use Rattle.std.proofs.Common.{◌≡◌, ◌∙◌, ◌++◌, ◌≤◌, ℕ, List, Option, Some, None, IsSome, All, Result, Ok, Err, IfOk, refl, ap, sym, subst, arith, length, take}
+use Rattle.std.proofs.Common.{◌≡◌, ◌∙◌, ◌≤◌, ℕ, List, Option, All, Result, Ok, Err, refl, ap, sym, subst, arith, take}
 use Rattle.std.specs.Prelude.{OnErr, OnOk}
 use Rattle.std.proofs.lemmas.List.Elements.{All-take, All-weaker}
 use Rattle.lp_values.specs.declared.id.ObjId.{ObjId}
@@ -10,18 +10,18 @@ use Rattle.lp_swapfile.specs.Device.{Bytes, Last}
 use Rattle.lp_instr.specs.declared.efun.Efun.{Efun}
 use Rattle.lp_language.specs.World.{World}
 use Rattle.lp_language.specs.Resolve.{heritage_of}
-use Rattle.lp_language.specs.Course.{Asks, Course, Failed, Gives, Over, State, Stops, and_then, here}
+use Rattle.lp_language.specs.Course.{Asks, Course, Gives, Over, State, Stops, and_then}
 use Rattle.lp_meaning.specs.Askers.{Asker}
 use Rattle.lp_part_laws.specs.Versions.{FitsVersion}
 use Rattle.lp_world.specs.Closed.{IsClosed}
 use Rattle.lp_world.specs.declared.live.Live.{Live}
 use Rattle.lp_world.specs.declared.objects.Object.{Object}
-use Rattle.lp_world.specs.Rows.{live_in, row_at, variables_at}
+use Rattle.lp_world.specs.Rows.{live_in, row_at}
 use Rattle.lp_world.specs.Stands.{Stands}
 use Rattle.lp_residence.specs.declared.answers.EnterFault.{EnterFault}
 use Rattle.lp_residence.specs.declared.answers.EnterFault.TheVariants.{NoMemory}
 use Rattle.lp_step.specs.Steps.{IsFit, KeepsVariables}
-use Rattle.lp_targets.specs.Brought.{Brings, StaysInMemory, program_at}
+use Rattle.lp_targets.specs.Brought.{Brings, StaysInMemory}
 use Rattle.lp_targets.specs.Callees.{IsWorldOf}
 use Rattle.lp_targets.proofs.Memory.{some_row}
 use Rattle.lp_targets.proofs.Worlds.{whole_fits}
@@ -29,7 +29,6 @@ use Rattle.lp_filing.specs.Filing.{ComesWith, EndsWith, Follows, IsOutcomeThere,
 use Rattle.lp_filing.specs.declared.outcome.Outcome.{Outcome}
 use Rattle.lp_filing.specs.declared.outcome.Outcome.TheVariants as outcomes
 use Rattle.lp_efuns.specs.declared.answer.Answer.{Answer}
-use Rattle.lp_efuns.specs.declared.answer.Answer.TheVariants as answers
 use Rattle.lp_efuns.specs.declared.caller.Turn.{Turn}
 use Rattle.lp_efuns.specs.Plain.{Finishes, IsEnd}
 use Rattle.lp_efuns.specs.Turns.{At, Setting}

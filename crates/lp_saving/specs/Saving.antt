@@ -17,7 +17,7 @@ use Rattle.lp_world.specs.Rows.{row_at, variables_at}
 use Rattle.lp_world.specs.Stands.{Stands}
 use Rattle.lp_residence.specs.Entering.{IsHonest, is_read_fault}
 use Rattle.lp_residence.specs.declared.answers.EnterFault.{EnterFault}
-use Rattle.lp_targets.specs.Brought.{Brings, IsFaultOf, program_at}
+use Rattle.lp_targets.specs.Brought.{IsFaultOf, program_at}
 use Rattle.lp_targets.specs.Callees.{IsWorldOf}
 use Rattle.lp_filing.specs.declared.outcome.Outcome.{Outcome}
 use Rattle.lp_filing.specs.declared.outcome.Outcome.TheVariants as outcomes

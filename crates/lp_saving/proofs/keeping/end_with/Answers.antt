@@ -1,4 +1,4 @@
-use Rattle.std.proofs.Common.{subst, sym}
+use Rattle.std.proofs.Common.{subst}
 use Rattle.lp_world.specs.Rows.{live_in}
 use Rattle.lp_efuns.specs.Plain.{Finishes}
 use Rattle.lp_saving.proofs.Kept.{kept_spends}
