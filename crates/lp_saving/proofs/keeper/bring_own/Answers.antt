@@ -2,8 +2,8 @@ use Rattle.lp_targets.proofs.Memory.{brings_err, brings_no_memory, brings_ok, ow
 use Rattle.lp_saving.proofs.InMemory.{keeper, row_of}
 use Rattle.lp_saving.proofs.keeper.bring_own.Goals as goal
 
-pub version_of-requires : goal.version_of-requires
-version_of-requires g c = row_of c.args.live.now.objects c.args.ob c.requires.here
+pub version_of-version-requires : goal.version_of-version-requires
+version_of-version-requires g c = row_of c.args.live.now.objects c.args.ob c.requires.here
 
 pub bring_program-requires-clause-there : goal.bring_program-requires-clause-there
 bring_program-requires-clause-there g c =
