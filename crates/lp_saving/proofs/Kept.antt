@@ -1,5 +1,5 @@
 -- How jobs end that save and restore.
-use Rattle.std.proofs.Common.{◌≡◌, ◌∙◌, ◌≤◌, ℕ, List, Option, All, Result, Ok, Err, refl, ap, sym, subst, arith, take}
+use Rattle.std.proofs.Common.{◌≡◌, ◌∙◌, ◌≤◌, ℕ, Bool, List, Option, All, Result, Ok, Err, refl, ap, sym, subst, arith, take}
 use Rattle.std.specs.Prelude.{OnErr, OnOk}
 use Rattle.std.proofs.lemmas.List.Elements.{All-take, All-weaker}
 use Rattle.lp_values.specs.declared.id.ObjId.{ObjId}
