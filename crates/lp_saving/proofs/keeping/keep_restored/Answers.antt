@@ -19,8 +19,8 @@ pub returns-in-Ok-restore-clause-keeps : goal.returns-in-Ok-restore-clause-keeps
 returns-in-Ok-restore-clause-keeps g c = λ t.
     let a = c.args in
     let told = g.W.SwapFile.content a.swap.now in
-    subst (λ p. KeepsOver c.in-Ok-restore.a a.efun (deeds.Restore a.this) p told a.live.now a.stack.now.items a.low a.budget.now c.restore.new.live c.restore.new.stack.items c.restore.new.budget) c.text_of.ensures
-    (kept_over c.in-Ok-restore.a a.efun (deeds.Restore a.this) (option_copied c.text_of.result) a.this c.raw.result.now told (g.W.SwapFile.content c.bring_keeper.new.swap) a.live.now c.bring_keeper.new.live c.restore.new.live a.stack.now.items c.restore.new.stack.items a.low a.budget.now c.restore.new.budget
+    subst (λ p. KeepsOver c.in-Ok-restore.a a.efun (deeds.Restore a.this) p told a.live.now a.stack.now.items a.low a.budget.now c.restore.new.live c.restore.new.stack.items c.restore.new.budget) c.text_of-in-Ok.ensures
+    (kept_over c.in-Ok-restore.a a.efun (deeds.Restore a.this) (option_copied c.text_of-in-Ok.result) a.this c.raw.result.now told (g.W.SwapFile.content c.bring_keeper.new.swap) a.live.now c.bring_keeper.new.live c.restore.new.live a.stack.now.items c.restore.new.stack.items a.low a.budget.now c.restore.new.budget
     c.in-Ok.ensures.brings.kept c.in-Ok.ensures.brings.stays (c.in-Ok.ensures.stands t) (subst (λ x. IsKeeper c.bring_keeper.new.live a.this x) (sym c.raw.ensures.same) c.in-Ok.ensures.keeper) c.in-Ok-restore.ensures.keeps)
 
 pub returns-in-Ok-restore-clause-stay : goal.returns-in-Ok-restore-clause-stay

@@ -7,7 +7,7 @@ use Rattle.lp_saving.proofs.Kept.{kept_with, only_variables}
 use Rattle.lp_saving.proofs.keeping.restore.Goals as goal
 
 pub end_with-requires : goal.end_with-requires
-end_with-requires c = c.in_ok-outcome.ensures.there c.restore_object.new.live.cells
+end_with-requires c = record { there = c.in_ok-outcome.ensures.there c.restore_object.new.live.cells }
 
 pub returns-clause-keeps : goal.returns-clause-keeps
 returns-clause-keeps c =

@@ -7,7 +7,7 @@ use Rattle.lp_saving.proofs.Kept.{cells_there, kept_with, objects_there, only_st
 use Rattle.lp_saving.proofs.keeping.save.Goals as goal
 
 pub end_with-requires : goal.end_with-requires
-end_with-requires c = c.in_ok-outcome.ensures.there c.save_object.new.live.cells
+end_with-requires c = record { there = c.in_ok-outcome.ensures.there c.save_object.new.live.cells }
 
 pub returns-clause-keeps : goal.returns-clause-keeps
 returns-clause-keeps c =
@@ -23,3 +23,6 @@ returns-clause-stay c = cells_there c.args.live.now.cells c.save_object.new.live
 
 pub returns-clause-variables : goal.returns-clause-variables
 returns-clause-variables c = objects_there c.args.live.now.objects c.save_object.new.live.objects (ap (λ (l : Live). l.objects) c.in_ok-outcome.ensures.others)
+
+pub returns-in_err-outcome-clause-variables : goal.returns-in_err-outcome-clause-variables
+returns-in_err-outcome-clause-variables c = objects_there c.args.live.now.objects c.save_object.new.live.objects (ap (λ (l : Live). l.objects) c.in_err-outcome.ensures.others)
