@@ -11,7 +11,7 @@ returns-clause-keeps g c = λ t.
     let a = c.args in
     let k = c.keep_deed in
     IfOk-weaker c.keep_deed.result _ _
-    (λ r h. job_kept r a.job.now (stages.File c.in-File.deed.now c.in-File.path.now) c.in-File.deed.now (option_map string_bytes c.in-File.path.now) (g.W.SwapFile.content a.swap.now) a.live.now c.keep_deed.new.live a.stack.now.items c.keep_deed.new.stack.items a.budget.now c.keep_deed.new.budget c.in-File.is (λ own by s. refl) h) (c.keep_deed.ensures.keeps t)
+    (λ r h. job_kept r a.job.now (stages.File c.in-File.deed c.in-File.path) c.in-File.deed (option_map string_bytes c.in-File.path) (g.W.SwapFile.content a.swap.now) a.live.now c.keep_deed.new.live a.stack.now.items c.keep_deed.new.stack.items a.budget.now c.keep_deed.new.budget c.in-File.is (λ own by s. refl) h) (c.keep_deed.ensures.keeps t)
 
 pub returns-clause-fit : goal.returns-clause-fit
 returns-clause-fit g c =
