@@ -9,12 +9,11 @@ use Rattle.lp_ops.specs.Operands.{operand}
 use Rattle.lp_instr.specs.EfunKinds.{kinds}
 use Rattle.lp_instr.specs.EfunList.{efun_name}
 use Rattle.lp_instr.specs.declared.efun.Efun.{Efun}
-use Rattle.lp_instr.specs.declared.efun.Efun.TheVariants as efuns
 use Rattle.lp_language.specs.Course.{Failed, Over, Scene, Spent, State, Stops, here}
 use Rattle.lp_language.specs.Operations.{cells_of, living, with_store}
 use Rattle.lp_meaning.specs.Askers.{Asker}
 use Rattle.lp_meaning.specs.EfunArguments.{first_bad, opened_args, price_before}
-use Rattle.lp_meaning.specs.Questions.{Calls, acting, efun_in, group, kinds_looked_at}
+use Rattle.lp_meaning.specs.Questions.{efun_in, kinds_looked_at}
 use Rattle.lp_world.specs.Rows.{live_in}
 use Rattle.lp_world.specs.declared.live.Live.{Live}
 use Rattle.lp_world.proofs.Keeping.{live_same}
@@ -25,20 +24,9 @@ use Rattle.lp_efuns.specs.Turns.{At, Setting}
 use Rattle.lp_efuns.proofs.Parted.{price_same}
 use Rattle.lp_calling.specs.declared.job.Begun.{Begun}
 use Rattle.lp_calling.specs.declared.job.Begun.TheVariants as begun
-use Rattle.lp_calling.specs.Beginning.{Begins, Starts, acts, is_calling, whole}
+use Rattle.lp_calling.specs.Beginning.{Begins, Starts, acts, whole}
 use Rattle.lp_settling.proofs.Still.{still}
 use Rattle.lp_calling.proofs.Ending.{cut_to}
-
--- an efun that is carried out here calls LPC
-pub calling_group : (e : Efun) → is_calling e ≡ true → group e ≡ Calls
-calling_group efuns.CallOther p = refl
-calling_group efuns.LoadObject p = refl
-calling_group efuns.Filter p = refl
-calling_group efuns.Map p = refl
-calling_group efuns.TellObject p = refl
-calling_group efuns.Write p = refl
-calling_group efuns.Printf p = refl
-calling_group _ p = cc
 
 -- less is left of the budget
 at_budget : (g : Setting) (live : Live) (turn : Turn) (b : ℕ) (s : State) (k : ℕ) → At g live turn b s → At g live turn k (record s { budget = k })
@@ -109,32 +97,30 @@ module _ (e : Efun) (live : Live) (stack0 : List Value) (n args old : ℕ) (ther
   }
 
   -- the arguments are paid and of their kinds
-  acting_course : (before : ℕ) (low vs : List Value) (g : Setting) (turn : Turn) (by : Asker) (c : Scene) (s : State) → stack0 ≡ low ++ vs → length vs ≡ args → At g live turn old s → is_calling e ≡ true
-      → nat_lt old before ≡ false
+  acting_course : (before : ℕ) (low vs : List Value) (g : Setting) (turn : Turn) (by : Asker) (c : Scene) (s : State) → stack0 ≡ low ++ vs → length vs ≡ args → At g live turn old s → nat_lt old before ≡ false
       → ((t : State) → living t ≡ live_in live.objects → cells_of t ≡ live.cells → before ≡ price_before e (drop n stack0) t)
       → ((cells : Store) → None ≡ first_bad 1 (kinds e) (map (operand (live_in live.objects) cells) (drop n stack0)))
       → whole e vs by c s ≡ acts e vs by c (record s { budget = s.budget - before })
-  acting_course before low vs g turn by c s q k h is less f d =
+  acting_course before low vs g turn by c s q k h less f d =
       course before None vs by c s (before_is before low vs g turn s q k h f) (bad_is None low vs g turn s q k h d)
       ∙ ap (λ b. if b then Over (Stops (here Spent) (record s { budget = 0 })) else kinds_looked_at e by c vs None (record s { budget = s.budget - before })) (ap (λ k. nat_lt k before) h.left ∙ less)
-      ∙ ap (λ k. acting k e by c vs (opened_args s vs) (record s { budget = s.budget - before })) (calling_group e is)
 
-  pub start_begins : (r : Begun) (before paid : ℕ) (caller : Caller) (stack1 : List Value) → is_calling e ≡ true → nat_lt old before ≡ false → paid ≡ old - before
+  pub start_begins : (r : Begun) (before paid : ℕ) (caller : Caller) (stack1 : List Value) → nat_lt old before ≡ false → paid ≡ old - before
       → ((t : State) → living t ≡ live_in live.objects → cells_of t ≡ live.cells → before ≡ price_before e (drop n stack0) t)
       → ((cells : Store) → None ≡ first_bad 1 (kinds e) (map (operand (live_in live.objects) cells) (drop n stack0)))
       → Starts r e caller live n stack0 stack1 → Begins r e caller live stack0 args old stack1 paid
-  start_begins (begun.Ends a) before paid caller stack1 is less z f d st turn low vs q k =
+  start_begins (begun.Ends a) before paid caller stack1 less z f d st turn low vs q k =
       let i = st turn paid low vs q (top low vs q k) in record {
         stack = i.stack;
         course = λ g by c s sc h. let j = i.course g by c (record s { budget = s.budget - before }) sc (paid_at before paid g turn s z h) in
-            (j.0, acting_course before low vs g turn by c s q k h is less f d ∙ j.1, j.2);
+            (j.0, acting_course before low vs g turn by c s q k h less f d ∙ j.1, j.2);
       }
-  start_begins (begun.Runs job) before paid caller stack1 is less z f d st turn low vs q k =
+  start_begins (begun.Runs job) before paid caller stack1 less z f d st turn low vs q k =
       let i = st turn paid low vs q (top low vs q k) in record {
         own = i.own;
         stack = i.stack;
         height = i.height;
         fits = i.fits;
         course = λ g by c s sc h. let j = i.course g by c (record s { budget = s.budget - before }) sc (paid_at before paid g turn s z h) in
-            (j.0, j.1, acting_course before low vs g turn by c s q k h is less f d ∙ j.2);
+            (j.0, j.1, acting_course before low vs g turn by c s q k h less f d ∙ j.2);
       }

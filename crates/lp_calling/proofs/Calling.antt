@@ -42,6 +42,7 @@ use Rattle.lp_calling.specs.Beginning.{Starts, acts}
 use Rattle.lp_calling.specs.Going.{StageGoes, StageTakes}
 use Rattle.lp_calling.specs.Jobs.{ended, stage_rest}
 use Rattle.lp_calling.specs.Targets.{IsNamed, IsTarget, IsUnnamedTarget, MeansName, Targeted, target_of}
+use Rattle.lp_calling.proofs.Courses.{asked_on}
 use Rattle.lp_calling.proofs.Ending.{cut_to}
 use Rattle.lp_calling.proofs.Settled.{settled_here}
 
@@ -229,7 +230,7 @@ no_call_starts caller live n stack0 stack1 t f =
 
 -- the further arguments lie on top
 pub call_asks : (e : Efun) (o : ObjId) (name : List ℕ) (below n : ℕ) (stack : List Value) (live : Live) (turn : Turn) (budget : ℕ) → n ≡ length (drop 2 (drop below stack))
-    → StageGoes (steps.Asks (questions.Other o name) n) e (stages.Call o name) below live turn stack budget live stack budget
+    → StageGoes (steps.Asks (questions.Other o name) n) e (stages.Call o name) below live turn stack budget live turn stack budget
 call_asks e o name below n stack live turn budget c low own q k =
     let same : drop below stack ≡ own = ap (drop below) q ∙ drop_at low own below k in
     record {
@@ -241,7 +242,7 @@ call_asks e o name below n stack live turn budget c low own q k =
       fits = omega (arith, length-append low (take 2 own), k);
       is_asking = tt;
       with_these = tt;
-      course = λ g by s h. (s, settled_here g live turn budget s h, refl);
+      course = λ g by s h. (s, settled_here g live turn budget s h, asked_on e (stages.Call o name) (take 2 own) by (ask_value (Other o name) (drop 2 own) by s) (λ p. refl));
     }
 
 -- Answers

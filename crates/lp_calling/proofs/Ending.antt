@@ -56,7 +56,7 @@ pub error_over : (g : Setting) (live : Live) (turn : Turn) (b : ℕ) (x : RunErr
 error_over g live turn b x s h = (Stops (here (Failed x)) s, refl, (refl, settled_here g live turn b s h))
 
 pub value_goes : (e : Efun) (live : Live) (turn : Turn) (below : ℕ) (stack0 stack1 : List Value) (old new : ℕ) (v : Value) (a : Answer) → slice_get stack0 below ≡ Some v → stack1 ≡ take below stack0
-    → IsThere live.cells v → Finishes e (live_in live.objects) live.cells (did.Value v) old a new → StageGoes (steps.Ends a) e stages.Value below live turn stack0 old live stack1 new
+    → IsThere live.cells v → Finishes e (live_in live.objects) live.cells (did.Value v) old a new → StageGoes (steps.Ends a) e stages.Value below live turn stack0 old live turn stack1 new
 value_goes e live turn below stack0 stack1 old new v a at t i f low own q k =
     let z : below + 0 ≡ below = omega arith in
     let first : first_value own ≡ v =
@@ -67,7 +67,7 @@ value_goes e live turn below stack0 stack1 old new v a at t i f low own q k =
     }
 
 pub zero_goes : (e : Efun) (live : Live) (turn : Turn) (below : ℕ) (stack0 stack1 : List Value) (old new : ℕ) (a : Answer) → stack1 ≡ take below stack0
-    → Finishes e (live_in live.objects) live.cells (did.Value zero_value) old a new → StageGoes (steps.Ends a) e stages.Zero below live turn stack0 old live stack1 new
+    → Finishes e (live_in live.objects) live.cells (did.Value zero_value) old a new → StageGoes (steps.Ends a) e stages.Zero below live turn stack0 old live turn stack1 new
 zero_goes e live turn below stack0 stack1 old new a t f low own q k = record {
   stack = cut_to stack0 stack1 low own below t q k;
   course = λ g by s h. value_over g live turn old new e zero_value a s h tt f;
@@ -75,7 +75,7 @@ zero_goes e live turn below stack0 stack1 old new a t f low own q k = record {
 
 -- an error
 pub error_goes : (e : Efun) (kind : ErrorKind) (below : ℕ) (stack0 stack1 : List Value) (live : Live) (turn : Turn) (budget : ℕ) → stack1 ≡ take below stack0
-    → StageGoes (steps.Ends (answers.Error (plain kind))) e (stages.Error kind) below live turn stack0 budget live stack1 budget
+    → StageGoes (steps.Ends (answers.Error (plain kind))) e (stages.Error kind) below live turn stack0 budget live turn stack1 budget
 error_goes e kind below stack0 stack1 live turn budget t low own q k = record {
   stack = cut_to stack0 stack1 low own below t q k;
   course = λ g by s h. error_over g live turn budget (plain kind) s h;

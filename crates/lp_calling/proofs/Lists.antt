@@ -141,3 +141,13 @@ pub part_at : {A : Type 0} (xs : List A) (i : ℕ) (x : A) → slice_get xs i �
 part_at xs i x e =
     let z : i + 1 - i ≡ 1 = omega arith in
     ap (λ n. take n (drop i xs)) z ∙ ap (take 1) (left_at xs i x e)
+
+-- what there is at a place lies within
+pub got_within : {A : Type 0} (xs : List A) (i : ℕ) (v : A) → slice_get xs i ≡ Some v → i < length xs
+got_within [] i v h = cc
+got_within (x ∷ xs) zero v h = omega arith
+got_within (x ∷ xs) (suc i) v h = let l : i < length xs = got_within xs i v h in omega (arith, l)
+
+-- and it is what was read there
+pub read_got : {A : Type 0} (xs : List A) (i : ℕ) (v y : A) → slice_get xs i ≡ Some v → y ≡ get_or xs i y → v ≡ y
+read_got xs i v y h e = let z : Some v ≡ Some y = sym h ∙ got_read xs i y (got_within xs i v h) e in cc

@@ -31,13 +31,13 @@ use Rattle.lp_calling.specs.Going.{StageGoes, StageTakes}
 use Rattle.lp_calling.specs.Jobs.{called_in, ended}
 use Rattle.lp_calling.specs.Targets.{IsLoadable, IsUnnamed, MeansName}
 use Rattle.lp_calling.proofs.Calling.{FoundBy, error_starts}
-use Rattle.lp_calling.proofs.Courses.{then_on}
+use Rattle.lp_calling.proofs.Courses.{asked_on, then_on}
 use Rattle.lp_calling.proofs.Settled.{settled_here}
 
 -- Names
 
 -- what a text comes to, by the object with the name that it means
-led : (by : Asker) (t : List ℕ) (s : State) (name : List ℕ) (r : Option ObjId) → name ≡ as_name t → object_named s.world name ≡ r → text_target by t s ≡ elim r as (λ _. Course Value) [
+pub led : (by : Asker) (t : List ℕ) (s : State) (name : List ℕ) (r : Option ObjId) → name ≡ as_name t → object_named s.world name ≡ r → text_target by t s ≡ elim r as (λ _. Course Value) [
   | Some o ↦ gives (values.Obj o) s
   | None ↦ if is_clone_name name then stops (Failed (plain BadTarget)) s else load_value by name s
 ]
@@ -61,7 +61,7 @@ unnamed_led live vs name is g turn b by s m u c h =
 
 -- Beginning
 
-one_above : (low : List Value) (v : Value) (n : ℕ) (stack : List Value) → stack ≡ low ++ v ∷ [] → length low ≡ n → n < length stack
+pub one_above : (low : List Value) (v : Value) (n : ℕ) (stack : List Value) → stack ≡ low ++ v ∷ [] → length low ≡ n → n < length stack
 one_above low v n stack e k = let z : length stack ≡ length low + 1 = ap length e ∙ length-append low (v ∷ []) in omega arith
 
 -- a live object takes the place of the arguments
@@ -114,7 +114,7 @@ no_load_starts caller live n stack0 stack1 name t m u o =
 
 -- nothing lies on top of the job's own values
 pub load_asks : (e : Efun) (name : List ℕ) (below : ℕ) (stack : List Value) (live : Live) (turn : Turn) (budget : ℕ) → below ≤ length stack
-    → StageGoes (steps.Asks (questions.Load name) 0) e (stages.Load name) below live turn stack budget live stack budget
+    → StageGoes (steps.Asks (questions.Load name) 0) e (stages.Load name) below live turn stack budget live turn stack budget
 load_asks e name below stack live turn budget le low own q k = record {
   own = own;
   arguments = [];
@@ -124,11 +124,11 @@ load_asks e name below stack live turn budget le low own q k = record {
   fits = subst (λ l. below ≤ length l) q le;
   is_asking = tt;
   with_these = refl;
-  course = λ g by s h. (s, settled_here g live turn budget s h, refl);
+  course = λ g by s h. (s, settled_here g live turn budget s h, asked_on e (stages.Load name) own by (load_value by name s) (λ p. refl));
 }
 
 pub target_asks : (e : Efun) (name fun : List ℕ) (below : ℕ) (stack : List Value) (live : Live) (turn : Turn) (budget : ℕ) → below ≤ length stack
-    → StageGoes (steps.Asks (questions.Load name) 0) e (stages.Target name fun) below live turn stack budget live stack budget
+    → StageGoes (steps.Asks (questions.Load name) 0) e (stages.Target name fun) below live turn stack budget live turn stack budget
 target_asks e name fun below stack live turn budget le low own q k = record {
   own = own;
   arguments = [];
@@ -138,7 +138,7 @@ target_asks e name fun below stack live turn budget le low own q k = record {
   fits = subst (λ l. below ≤ length l) q le;
   is_asking = tt;
   with_these = refl;
-  course = λ g by s h. (s, settled_here g live turn budget s h, then_on (load_value by name s) (λ v s. called_in fun (drop 2 own) by v s) (ended e));
+  course = λ g by s h. (s, settled_here g live turn budget s h, then_on (load_value by name s) (λ v s. called_in fun (drop 2 own) by v s) (ended e) ∙ asked_on e (stages.Target name fun) own by (load_value by name s) (λ p. refl));
 }
 
 -- Answers

@@ -52,7 +52,7 @@ use Rattle.lp_calling.specs.Beginning.{Starts, acts}
 use Rattle.lp_calling.specs.Going.{StageGoes, StageTakes}
 use Rattle.lp_calling.specs.Jobs.{added, answered, ended, further, going, items_left, round_efun, taken, taken_by}
 use Rattle.lp_calling.proofs.Calling.{error_starts}
-use Rattle.lp_calling.proofs.Courses.{pays_nothing, then_on}
+use Rattle.lp_calling.proofs.Courses.{asked_on, pays_nothing, then_on}
 use Rattle.lp_calling.proofs.Ending.{cut_to}
 use Rattle.lp_calling.proofs.Settled.{end_settled, settled_here, value_settles}
 use Rattle.lp_calling.proofs.Lists.{further_is, get_above, item_first, item_got, left_behind, left_split, part_at, part_kept, taken_grown}
@@ -171,7 +171,7 @@ next_item r own l d =
 pub item_asks : (e : Efun) (r : Round) (below n : ℕ) (stack0 stack1 : List Value) (live : Live) (turn : Turn) (budget : ℕ) → below + (r.arguments + r.count) ≤ length stack0 → r.done < r.count
     → live_in live.objects r.object ≡ true → n ≡ 1 + (r.arguments - 3)
     → stack1 ≡ stack0 ++ (take 1 (drop (below + (r.arguments + r.done)) stack0) ++ take (r.arguments - 3) (drop (below + 3) stack0))
-    → StageGoes (steps.Asks (questions.Other r.object r.function) n) e (stages.Items r) below live turn stack0 budget live stack1 budget
+    → StageGoes (steps.Asks (questions.Other r.object r.function) n) e (stages.Items r) below live turn stack0 budget live turn stack1 budget
 item_asks e r below n stack0 stack1 live turn budget room d l c t low own q k =
     let inside : r.arguments + r.count ≤ length own = left_size r low own stack0 below q k room in
     let next = next_item r own inside d in
@@ -193,13 +193,14 @@ item_asks e r below n stack0 stack1 live turn budget room d l c t low own q k =
       course = λ g by s h. (
         s,
         settled_here g live turn budget s h,
-        item_asked e r own (drop (r.done + 1) (take r.count (drop r.arguments own))) next.0 by s (sym (ap (λ f. f r.object) (live_same g.told g.programs live s.world h.stands)) ∙ l) next.1,
+        item_asked e r own (drop (r.done + 1) (take r.count (drop r.arguments own))) next.0 by s (sym (ap (λ f. f r.object) (live_same g.told g.programs live s.world h.stands)) ∙ l) next.1
+            ∙ asked_on e (stages.Items r) own by (ask_value (Other r.object r.function) (next.0 ∷ further r own) by s) (λ p. refl),
       );
     }
 
 pub item_ends : (e : Efun) (r : Round) (below : ℕ) (stack0 stack1 : List Value) (live : Live) (turn : Turn) (budget : ℕ) → below + (r.arguments + r.count) ≤ length stack0 → r.done < r.count
     → live_in live.objects r.object ≡ false → stack1 ≡ take below stack0
-    → StageGoes (steps.Ends (answers.Error (plain BadTarget))) e (stages.Items r) below live turn stack0 budget live stack1 budget
+    → StageGoes (steps.Ends (answers.Error (plain BadTarget))) e (stages.Items r) below live turn stack0 budget live turn stack1 budget
 item_ends e r below stack0 stack1 live turn budget room d l t low own q k =
     let next = next_item r own (left_size r low own stack0 below q k room) d in
     record {
@@ -223,7 +224,7 @@ pub items_end : (e : Efun) (r : Round) (below : ℕ) (stack0 stack1 : List Value
     → r.count ≤ r.done → stack1 ≡ take below stack0 → v ≡ values.Arr (record { 0 = length live.cells })
     → part ≡ with_cell live.cells (content.Array (drop (below + (r.arguments + r.count)) stack0)) → IsThere part v
     → Finishes e (live_in live.objects) part (did.Value v) old a new
-    → StageGoes (steps.Ends a) e (stages.Items r) below live turn stack0 old (record live { cells = part }) stack1 new
+    → StageGoes (steps.Ends a) e (stages.Items r) below live turn stack0 old (record live { cells = part }) turn stack1 new
 items_end e r below stack0 stack1 live part turn old new v a room d t is made there f low own q k =
     let inside : r.arguments + r.count ≤ length own = left_size r low own stack0 below q k room in
     let size : length (take r.count (drop r.arguments own)) ≡ r.count = length-take-le r.count (drop r.arguments own) (omega (arith, length-drop r.arguments own)) in

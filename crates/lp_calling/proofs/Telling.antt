@@ -28,6 +28,7 @@ use Rattle.lp_efuns.specs.Subjects.{number_of}
 use Rattle.lp_efuns.specs.Turns.{At, Setting}
 use Rattle.lp_efuns.proofs.Looking.{connection_same, object_same}
 use Rattle.lp_calling.specs.declared.job.Begun.TheVariants as begun
+use Rattle.lp_calling.specs.declared.job.Applied.TheVariants as applies
 use Rattle.lp_calling.specs.declared.job.Question.TheVariants as questions
 use Rattle.lp_calling.specs.declared.job.Stage.{Stage}
 use Rattle.lp_calling.specs.declared.job.Stage.TheVariants as stages
@@ -38,7 +39,7 @@ use Rattle.lp_calling.specs.Beginning.{Settled, Starts}
 use Rattle.lp_calling.specs.Going.{StageGoes}
 use Rattle.lp_calling.specs.Jobs.{IsStageOn, IsStageReady, ended, stage_course}
 use Rattle.lp_calling.specs.Targets.{reader, told_stage}
-use Rattle.lp_calling.proofs.Courses.{then_on}
+use Rattle.lp_calling.proofs.Courses.{asked_on, then_on}
 use Rattle.lp_calling.proofs.Settled.{over_onward, settled_here}
 
 differ : false ≡ true → ⊥
@@ -78,9 +79,9 @@ closed_told live os h = record {
 }
 
 -- what ends with 0 in another state ends so here
-pub ends_as : (r : Step) (e : Efun) (stage : Stage) (below : ℕ) (live0 live1 : Live) (turn : Turn) (stack0 stack1 : List Value) (b0 b1 : ℕ) → StageGoes r e stages.Zero below live1 turn stack0 b0 live1 stack1 b1
+pub ends_as : (r : Step) (e : Efun) (stage : Stage) (below : ℕ) (live0 live1 : Live) (turn : Turn) (stack0 stack1 : List Value) (b0 b1 : ℕ) → StageGoes r e stages.Zero below live1 turn stack0 b0 live1 turn stack1 b1
     → ((own : List Value) (g : Setting) (by : Asker) (s : State) → At g live0 turn b0 s → (t : State) × Settled s.world g live1 turn b0 t × (stage_course e stage own by s ≡ ended e zero_value t))
-    → StageGoes r e stage below live0 turn stack0 b0 live1 stack1 b1
+    → StageGoes r e stage below live0 turn stack0 b0 live1 turn stack1 b1
 ends_as (steps.Ends a) e stage below live0 live1 turn stack0 stack1 b0 b1 z f low own q k =
     let i = z low own q k in record {
       stack = i.stack;
@@ -91,7 +92,7 @@ ends_as (steps.Asks c n) e stage below live0 live1 turn stack0 stack1 b0 b1 z f 
 -- Telling
 
 -- a message to a live object, by its connection
-abbrev tell_to : Asker → ObjId → List ℕ → State → Option ℕ → Course Value
+abbrev pub tell_to : Asker → ObjId → List ℕ → State → Option ℕ → Course Value
 tell_to by o text s None = and_then (ask_value (Apply o (codes "catch_tell")) (values.Str text ∷ []) by s) (λ v s. gives zero_value s)
 tell_to by o text s (Some k) = gives zero_value (told (outs.Text k text ∷ []) s)
 
@@ -100,13 +101,13 @@ told_to : (by : Asker) (o : ObjId) (text : List ℕ) (s : State) (c : Option ℕ
 told_to by o text s None = refl
 told_to by o text s (Some k) = refl
 
-telling : (by : Asker) (o : ObjId) (text : List ℕ) (s : State) (b : Bool) (c : Option ℕ) → is_live s.world o ≡ b → connection_of s.world o ≡ c → tell by o text s ≡ (if b then tell_to by o text s c else gives zero_value s)
+pub telling : (by : Asker) (o : ObjId) (text : List ℕ) (s : State) (b : Bool) (c : Option ℕ) → is_live s.world o ≡ b → connection_of s.world o ≡ c → tell by o text s ≡ (if b then tell_to by o text s c else gives zero_value s)
 telling by o text s b c l e =
     ap (λ x. if is_live s.world o then x else gives zero_value s) (told_to by o text s (connection_of s.world o))
     ∙ ap (λ x. if x then tell_to by o text s (connection_of s.world o) else gives zero_value s) l
     ∙ ap (λ x. if b then tell_to by o text s x else gives zero_value s) e
 
-live_at : (g : Setting) (live : Live) (turn : Turn) (b : ℕ) (s : State) (o : ObjId) (is : Bool) → At g live turn b s → live_in live.objects o ≡ is → is_live s.world o ≡ is
+pub live_at : (g : Setting) (live : Live) (turn : Turn) (b : ℕ) (s : State) (o : ObjId) (is : Bool) → At g live turn b s → live_in live.objects o ≡ is → is_live s.world o ≡ is
 live_at g live turn b s o is h l = sym (ap (λ f. f o) (live_same g.told g.programs live s.world h.stands)) ∙ l
 
 pub dead_told : (e : Efun) (o : ObjId) (text : List ℕ) (live : Live) (turn : Turn) (b : ℕ) → live_in live.objects o ≡ false
@@ -122,7 +123,7 @@ connection_told e o text live live1 turn b k l c q own g by s h = (
 )
 
 pub tell_asks : (e : Efun) (o : ObjId) (text : List ℕ) (below : ℕ) (stack0 stack1 : List Value) (live : Live) (turn : Turn) (budget : ℕ) → below ≤ length stack0 → live_in live.objects o ≡ true → None ≡ number_of live o
-    → stack1 ≡ stack0 ++ values.Str text ∷ [] → StageGoes (steps.Asks (questions.CatchTell o) 1) e (stages.Tell o text) below live turn stack0 budget live stack1 budget
+    → stack1 ≡ stack0 ++ values.Str text ∷ [] → StageGoes (steps.Asks (questions.Apply o applies.CatchTell) 1) e (stages.Tell o text) below live turn stack0 budget live turn stack1 budget
 tell_asks e o text below stack0 stack1 live turn budget le l c t low own q k = record {
   own = own;
   arguments = values.Str text ∷ [];
@@ -136,7 +137,8 @@ tell_asks e o text below stack0 stack1 live turn budget le l c t low own q k = r
     s,
     settled_here g live turn budget s h,
     ap (λ c. and_then c (ended e)) (telling by o text s true None (live_at g live turn budget s o true h l) (connection_same g live turn budget s o h ∙ sym c))
-        ∙ then_on (ask_value (Apply o (codes "catch_tell")) (values.Str text ∷ []) by s) (λ v s. gives zero_value s) (ended e),
+        ∙ then_on (ask_value (Apply o (codes "catch_tell")) (values.Str text ∷ []) by s) (λ v s. gives zero_value s) (ended e)
+        ∙ asked_on e (stages.Tell o text) own by (ask_value (Apply o (codes "catch_tell")) (values.Str text ∷ []) by s) (λ p. refl),
   );
 }
 
@@ -165,7 +167,7 @@ logged by (Some q) t s e = by_live (is_live s.world q) refl e
 
 -- what goes on as telling does
 pub writes_as : (r : Step) (e : Efun) (o : ObjId) (t : List ℕ) (below : ℕ) (live0 live1 : Live) (turn : Turn) (stack0 stack1 : List Value) (b0 b1 : ℕ) → Some o ≡ reader (live_in live0.objects) turn.player
-    → StageGoes r e (stages.Tell o t) below live0 turn stack0 b0 live1 stack1 b1 → StageGoes r e (stages.Write t) below live0 turn stack0 b0 live1 stack1 b1
+    → StageGoes r e (stages.Tell o t) below live0 turn stack0 b0 live1 turn stack1 b1 → StageGoes r e (stages.Write t) below live0 turn stack0 b0 live1 turn stack1 b1
 writes_as (steps.Ends a) e o t below live0 live1 turn stack0 stack1 b0 b1 is z low own q k =
     let i = z low own q k in
     let p = reader_is (live_in live0.objects) turn.player o is in

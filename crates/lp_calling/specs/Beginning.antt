@@ -5,11 +5,10 @@ use Rattle.lp_cells.specs.Cells.{Store}
 use Rattle.lp_instr.specs.declared.efun.Efun.{Efun}
 use Rattle.lp_instr.specs.declared.efun.Efun.TheVariants as efuns
 use Rattle.lp_language.specs.World.{World}
-use Rattle.lp_language.specs.Course.{Course, End, Over, Scene, State, and_then}
+use Rattle.lp_language.specs.Course.{Course, End, Over, Scene, State}
 use Rattle.lp_meaning.specs.Askers.{Asker}
-use Rattle.lp_meaning.specs.CallingEfuns.{calls}
 use Rattle.lp_meaning.specs.EfunArguments.{opened_args}
-use Rattle.lp_meaning.specs.Questions.{efun_in}
+use Rattle.lp_meaning.specs.Questions.{acting, efun_in, group}
 use Rattle.lp_world.specs.declared.live.Live.{Live}
 use Rattle.lp_world.specs.declared.objects.Object.{Object}
 use Rattle.lp_settling.specs.Settling.{Settles}
@@ -21,17 +20,27 @@ use Rattle.lp_efuns.specs.Turns.{At, IsScene, Setting}
 use Rattle.lp_calling.specs.declared.job.Begun.{Begun}
 use Rattle.lp_calling.specs.declared.job.Begun.TheVariants as begun
 use Rattle.lp_calling.specs.declared.job.Job.{Job}
-use Rattle.lp_calling.specs.Jobs.{IsJobOn, IsReady, course_of, ended}
+use Rattle.lp_calling.specs.Jobs.{IsJobOn, IsReady, course_of}
 
 -- the efuns that are carried out here
 abbrev pub is_calling : Efun → Bool
 is_calling efuns.CallOther = true
 is_calling efuns.LoadObject = true
+is_calling efuns.MoveObject = true
 is_calling efuns.Filter = true
 is_calling efuns.Map = true
 is_calling efuns.TellObject = true
 is_calling efuns.Write = true
 is_calling efuns.Printf = true
+is_calling efuns.TellRoom = true
+is_calling efuns.Say = true
+is_calling efuns.Present = true
+is_calling efuns.ReadFile = true
+is_calling efuns.FileSize = true
+is_calling efuns.WriteFile = true
+is_calling efuns.Rm = true
+is_calling efuns.SaveObject = true
+is_calling efuns.RestoreObject = true
 is_calling _ = false
 
 -- The live state stands for a state, whose world settles from this one.
@@ -52,7 +61,7 @@ abbrev pub whole : Efun → List Value → Wanted
 whole e vs by c s = efun_in e by c vs s
 
 abbrev pub acts : Efun → List Value → Wanted
-acts e vs by c s = and_then (calls e by c s vs (opened_args s vs)) (ended e)
+acts e vs by c s = acting (group e) e by c vs (opened_args s vs) s
 
 -- It goes on as a job, whose values lie above what lay below the arguments: from each state for which the live state stands the
 -- course wanted is that of the job, in a state for which the live state stands, with this budget, and whose world settles from

@@ -1,4 +1,12 @@
 pub mod Targets
+pub mod Questions
+pub mod Leave
+pub mod Moves
 pub mod Jobs
 pub mod Beginning
+pub mod Moving
+pub mod Entering
+pub mod Audiences
+pub mod Searches
 pub mod Going
+pub mod Leaving

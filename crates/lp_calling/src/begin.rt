@@ -11,13 +11,17 @@ ghost use Rattle.lp_step.specs.Steps.{IsFit};
 ghost use Rattle.lp_efuns.specs.Names.{AreNamed};
 ghost use Rattle.lp_calling.specs.Beginning.{Begins, IsBegunReady, IsBegunThere, Starts, is_calling};
 
+use crate::audience::{begin_room, begin_say};
 use crate::call::begin_call;
 use crate::ends::{begin_bad, begin_end};
 use crate::items::begin_items;
 use crate::job::{Begun, CallingFault};
 use crate::laying::above;
+use crate::leave::{begin_append, begin_read, begin_remove, begin_restore, begin_save, begin_size};
 use crate::load::begin_load;
 use crate::messages::{begin_printf, begin_tell, begin_write};
+use crate::moving::begin_move;
+use crate::search::begin_present;
 use lp_cells::cells::Cells;
 use lp_efuns::answer::Answer;
 use lp_efuns::caller::Caller;
@@ -29,18 +33,26 @@ use lp_values::value::Value;
 use lp_world::live::Live;
 use lp_world::objects::ObjectTable;
 
-/// Whether an efun is carried out by a job: `call_other`, `load_object`, `filter`, `map`, `tell_object`, `write` and `printf` are.
+/// Whether an efun is carried out by a job: `call_other`, `load_object`, `move_object`, `filter`, `map`, `tell_object`, `write`, `printf`,
+/// `tell_room`, `say`, `present`, `read_file`, `file_size`, `write_file`, `rm`, `save_object`
+/// and `restore_object` are.
 pub fn is_calling(efun: Efun) -> bool
     ensures { result ≡ is_calling efun }
 {
     match efun {
         Efun::CallOther
         | Efun::LoadObject
+        | Efun::MoveObject
         | Efun::Filter
         | Efun::Map
         | Efun::TellObject
         | Efun::Write
-        | Efun::Printf => true,
+        | Efun::Printf
+        | Efun::TellRoom
+        | Efun::Say
+        | Efun::Present => true,
+        Efun::ReadFile | Efun::FileSize | Efun::WriteFile | Efun::Rm => true,
+        Efun::SaveObject | Efun::RestoreObject => true,
         _ => false,
     }
 }
@@ -65,11 +77,21 @@ fn start(
     match efun {
         Efun::CallOther => begin_call(live, stack, low),
         Efun::LoadObject => begin_load(live, stack, low),
+        Efun::MoveObject => begin_move(live, stack, low),
         Efun::Filter => begin_items(live, caller, stack, low, true),
         Efun::Map => begin_items(live, caller, stack, low, false),
         Efun::TellObject => begin_tell(live, stack, low),
         Efun::Write => begin_write(live, stack, low),
         Efun::Printf => begin_printf(live, stack, low),
+        Efun::TellRoom => begin_room(live, stack, low),
+        Efun::Say => begin_say(live, caller, stack, low),
+        Efun::Present => begin_present(live, caller, stack, low),
+        Efun::ReadFile => begin_read(live, caller, stack, low),
+        Efun::FileSize => begin_size(live, caller, stack, low),
+        Efun::WriteFile => begin_append(live, caller, stack, low),
+        Efun::Rm => begin_remove(live, caller, stack, low),
+        Efun::SaveObject => begin_save(live, caller, stack, low),
+        Efun::RestoreObject => begin_restore(live, caller, stack, low),
         _ => unreachable!(),
     }
 }

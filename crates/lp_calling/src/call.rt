@@ -161,7 +161,7 @@ pub(crate) fn ask_call(
     low: usize,
 ) -> Result<Step, AllocError>
     requires low { low ≤ length stack.now.items }
-    ensures goes { IfOk result (λ r. (live : _) (turn : Turn) (budget : _) → StageGoes r efun (Stage.Call o name.now) low live turn stack.now.items budget live stack.now.items budget) }
+    ensures goes { IfOk result (λ r. (live : _) (turn : Turn) (budget : _) → StageGoes r efun (Stage.Call o name.now) low live turn stack.now.items budget live turn stack.now.items budget) }
     ensures there { IfOk result (λ r. (cells : Store) → IsStepThere cells r) }
     ensures asked { IfOk result (λ r. (objects : _) → IsSome (row_at objects o.0) → IsAskedThere objects r) }
 {

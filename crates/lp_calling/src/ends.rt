@@ -77,7 +77,7 @@ pub(crate) fn end_value(
 ) -> Step
     requires low { low < length stack.old.items }
     requires fit { IsFit live.now stack.old.items }
-    ensures goes { (turn : Turn) → StageGoes result efun Stage.Value low live.now turn stack.old.items budget.old live.now stack.new.items budget.new }
+    ensures goes { (turn : Turn) → StageGoes result efun Stage.Value low live.now turn stack.old.items budget.old live.now turn stack.new.items budget.new }
     ensures fit { IsFit live.now stack.new.items }
     ensures there { IsStepThere live.now.cells result }
     ensures asked { (objects : List (Option Object)) → IsAskedThere objects result }
@@ -96,7 +96,7 @@ pub(crate) fn end_zero(
     budget: &mut u64,
 ) -> Step
     requires fit { IsFit live.now stack.old.items }
-    ensures goes { (turn : Turn) → StageGoes result efun Stage.Zero low live.now turn stack.old.items budget.old live.now stack.new.items budget.new }
+    ensures goes { (turn : Turn) → StageGoes result efun Stage.Zero low live.now turn stack.old.items budget.old live.now turn stack.new.items budget.new }
     ensures fit { IsFit live.now stack.new.items }
     ensures there { IsStepThere live.now.cells result }
     ensures asked { (objects : List (Option Object)) → IsAskedThere objects result }
@@ -120,7 +120,7 @@ pub(crate) fn end_error(
     kind: ErrorKind,
 ) -> Result<Step, AllocError>
     ensures ends { IfOk result (λ r. (r ≡ S.Ends (A.Error (plain kind))) × (stack.new.items ≡ take low stack.old.items)) }
-    ensures goes { IfOk result (λ r. (efun : Ef) (live : L) (turn : Turn) (budget : ℕ) → StageGoes r efun (Stage.Error kind) low live turn stack.old.items budget live stack.new.items budget) }
+    ensures goes { IfOk result (λ r. (efun : Ef) (live : L) (turn : Turn) (budget : ℕ) → StageGoes r efun (Stage.Error kind) low live turn stack.old.items budget live turn stack.new.items budget) }
     ensures there { IfOk result (λ r. (cells : Store) → IsStepThere cells r) }
     ensures asked { IfOk result (λ r. (objects : List (Option Object)) → IsAskedThere objects r) }
     ensures keeps { OnOk result ((live : _) → IsFit live stack.old.items → IsFit live stack.new.items) }

@@ -150,7 +150,7 @@ fn lay_question(
 fn ask_item(round: &Round, stack: &mut Vec<Value>, low: usize) -> Result<Step, AllocError>
     requires room { low + (round.now.arguments + round.now.count) ≤ length stack.old.items }
     requires left { round.now.done < round.now.count }
-    ensures goes { IfOk result (λ r. (efun : _) (live : L) (turn : Turn) (budget : _) → live_in live.objects round.now.object ≡ true → StageGoes r efun (Stage.Items round.now) low live turn stack.old.items budget live stack.new.items budget) }
+    ensures goes { IfOk result (λ r. (efun : _) (live : L) (turn : Turn) (budget : _) → live_in live.objects round.now.object ≡ true → StageGoes r efun (Stage.Items round.now) low live turn stack.old.items budget live turn stack.new.items budget) }
     ensures fit { OnOk result ((l : L) → IsFit l stack.old.items → IsFit l stack.new.items) }
     ensures there { IfOk result (λ r. (cells : Store) → IsStepThere cells r) }
     ensures asked { IfOk result (λ r. (objects : List (Option Object)) → live_in objects round.now.object ≡ true → IsAskedThere objects r) }
@@ -195,7 +195,7 @@ fn end_items(
     requires room { low + (round.now.arguments + round.now.count) ≤ length stack.old.items }
     requires done { round.now.count ≤ round.now.done }
     requires fit { IsFit live.old stack.old.items }
-    ensures goes { IfOk result (λ r. (turn : Turn) → StageGoes r efun (Stage.Items round.now) low live.old turn stack.old.items budget.old live.new stack.new.items budget.new) }
+    ensures goes { IfOk result (λ r. (turn : Turn) → StageGoes r efun (Stage.Items round.now) low live.old turn stack.old.items budget.old live.new turn stack.new.items budget.new) }
     ensures closed { IsClosed live.new }
     ensures fit { OnOk result (IsFit live.new stack.new.items) }
     ensures there { IfOk result (IsStepThere live.new.cells) }
@@ -221,7 +221,7 @@ fn end_dead(
     requires room { low + (round.now.arguments + round.now.count) ≤ length stack.old.items }
     requires left { round.now.done < round.now.count }
     requires dead { live_in live.now.objects round.now.object ≡ false }
-    ensures goes { IfOk result (λ r. (efun : _) (turn : Turn) (budget : _) → StageGoes r efun (Stage.Items round.now) low live.now turn stack.old.items budget live.now stack.new.items budget) }
+    ensures goes { IfOk result (λ r. (efun : _) (turn : Turn) (budget : _) → StageGoes r efun (Stage.Items round.now) low live.now turn stack.old.items budget live.now turn stack.new.items budget) }
     ensures fit { OnOk result ((l : L) → IsFit l stack.old.items → IsFit l stack.new.items) }
     ensures there { IfOk result (λ r. (cells : Store) → IsStepThere cells r) }
     ensures asked { IfOk result (λ r. (objects : List (Option Object)) → IsAskedThere objects r) }
@@ -241,7 +241,7 @@ pub(crate) fn step_items(
     requires room { low + (round.now.arguments + round.now.count) ≤ length stack.old.items }
     requires done { round.now.done ≤ round.now.count }
     requires fit { IsFit live.old stack.old.items }
-    ensures goes { IfOk result (λ r. (turn : Turn) → StageGoes r efun (Stage.Items round.now) low live.old turn stack.old.items budget.old live.new stack.new.items budget.new) }
+    ensures goes { IfOk result (λ r. (turn : Turn) → StageGoes r efun (Stage.Items round.now) low live.old turn stack.old.items budget.old live.new turn stack.new.items budget.new) }
     ensures closed { IsClosed live.new }
     ensures fit { OnOk result (IsFit live.new stack.new.items) }
     ensures there { IfOk result (IsStepThere live.new.cells) }

@@ -1,7 +1,11 @@
 //! Jobs: efuns that call LPC, as they stand between their questions.
 ghost use Rattle.std.specs.Prelude.{◌≡◌};
+ghost use Rattle.std.specs.Str.{chars};
+ghost use Rattle.lp_calling.specs.Questions.{applied_name};
 ghost use Rattle.lp_calling.specs.declared.job.CallingFault.TheVariants.{NoMemory};
 
+use crate::moving::Moving;
+use crate::wish::{FileDeed, Wish};
 use lp_efuns::answer::{Answer, EfunFault};
 use lp_instr::efun::Efun;
 use lp_values::error::ErrorKind;
@@ -10,13 +14,44 @@ use lp_values::text::Text;
 use std::alloc::{AllocError, AllocFailed};
 use thiserror::Error;
 
+/// A function that efuns apply.
+#[derive(Clone, Copy, Debug, PartialEq, Eq)]
+pub enum Applied {
+    /// `catch_tell`, with a text.
+    CatchTell,
+    /// `init`, where living objects meet.
+    Init,
+    /// `query_allow_shadow` of the master.
+    QueryAllowShadow,
+    /// `valid_read` of the master.
+    ValidRead,
+    /// `valid_write` of the master.
+    ValidWrite,
+}
+
+impl Applied {
+    /// Its name, in letters of ASCII. Takes no memory.
+    pub fn name(self) -> &'static str
+        ensures bytes { result.now ≡ applied_name self }
+        ensures letters { chars result.now ≡ applied_name self }
+    {
+        match self {
+            Applied::CatchTell => "catch_tell",
+            Applied::Init => "init",
+            Applied::QueryAllowShadow => "query_allow_shadow",
+            Applied::ValidRead => "valid_read",
+            Applied::ValidWrite => "valid_write",
+        }
+    }
+}
+
 /// What a job asks.
 #[derive(Drop)]
 pub enum Question {
     /// A function of an object, by its name, as another object calls it.
     Other(ObjId, Text),
-    /// `catch_tell` of an object, as the driver applies it.
-    CatchTell(ObjId),
+    /// A function of an object, as the driver applies it.
+    Apply(ObjId, Applied),
     /// An object is loaded, by its name, for LPC. That takes no arguments; the value is the object.
     Load(Text),
 }
@@ -39,6 +74,32 @@ pub struct Round {
     pub is_filter: bool,
 }
 
+/// Objects are given a text, one after another.
+#[derive(Drop)]
+pub struct Audience {
+    /// The text.
+    pub text: Text,
+    /// An object that is left out, if there is one.
+    pub but: Option<ObjId>,
+    /// The objects, the first one first.
+    pub listeners: Vec<ObjId>,
+    /// How many of them are done.
+    pub done: usize,
+}
+
+/// An object is searched for that a text names, among some objects, one after another.
+#[derive(Drop)]
+pub struct Search {
+    /// The text.
+    pub text: Text,
+    /// The objects, the first one first.
+    pub objects: Vec<ObjId>,
+    /// How many of them are done.
+    pub done: usize,
+    /// The object in whose environment is searched next, if it is none of them.
+    pub around: Option<ObjId>,
+}
+
 /// Where a job stands.
 #[derive(Drop)]
 pub enum Stage {
@@ -49,12 +110,28 @@ pub enum Stage {
     Target(Text, Text),
     /// It loads the object of this name, and comes to that.
     Load(Text),
+    /// It moves an object.
+    Move(Moving),
     /// It calls a function for the items that are left.
     Items(Round),
     /// It gives an object a text.
     Tell(ObjId, Text),
     /// It gives `this_player()` a text.
     Write(Text),
+    /// It gives a text to those around `this_player()`, or around this object.
+    Say(ObjId, Text),
+    /// It gives a text to the objects that are left.
+    TellEach(Audience),
+    /// It searches among the objects that are left.
+    Seek(Search),
+    /// It loads the master, to ask it for leave.
+    MasterLoad(Wish),
+    /// It asks the master, which is this object, for leave.
+    Master(ObjId, Wish),
+    /// The master gave leave for a deed on the file at this path, or refused it.
+    File(FileDeed, Option<String>),
+    /// The first object begins to shadow the second one, where it may by then.
+    Shadow(ObjId, ObjId),
     /// It has come to the first of its values on the stack.
     Value,
     /// It has come to 0.

@@ -113,8 +113,8 @@ pub(crate) fn begin_load(
 
 /// The object of a name is to be loaded, without arguments.
 pub(crate) fn ask_load(name: &Text) -> Result<Step, AllocError>
-    ensures target { IfOk result (λ r. (e : _) (fun : List ℕ) (low : ℕ) (live : L) (turn : Turn) (stack : List V) (budget : ℕ) → low ≤ length stack → StageGoes r e (Stage.Target name.now fun) low live turn stack budget live stack budget) }
-    ensures load { IfOk result (λ r. (e : _) (low : ℕ) (live : L) (turn : Turn) (stack : List V) (budget : ℕ) → low ≤ length stack → StageGoes r e (Stage.Load name.now) low live turn stack budget live stack budget) }
+    ensures target { IfOk result (λ r. (e : _) (fun : List ℕ) (low : ℕ) (live : L) (turn : Turn) (stack : List V) (budget : ℕ) → low ≤ length stack → StageGoes r e (Stage.Target name.now fun) low live turn stack budget live turn stack budget) }
+    ensures load { IfOk result (λ r. (e : _) (low : ℕ) (live : L) (turn : Turn) (stack : List V) (budget : ℕ) → low ≤ length stack → StageGoes r e (Stage.Load name.now) low live turn stack budget live turn stack budget) }
     ensures there { IfOk result (λ r. (cells : Store) → IsStepThere cells r) }
     ensures asked { IfOk result (λ r. (objects : List (Option Object)) → IsAskedThere objects r) }
 {

@@ -27,7 +27,7 @@ ghost use Rattle.lp_calling.specs.Going.{IsAskedThere, IsStepThere, StageGoes};
 ghost use Rattle.lp_calling.specs.Targets.{Prints, reader, told_stage};
 
 use crate::ends::{begin_end, end_zero};
-use crate::job::{Begun, CallingFault, Job, Question, Stage, Step};
+use crate::job::{Applied, Begun, CallingFault, Job, Question, Stage, Step};
 use crate::laying::above;
 use lp_efuns::answer::Answer;
 use lp_efuns::arguments::text_shared;
@@ -179,9 +179,10 @@ pub(crate) fn begin_printf(
 // Going on
 
 /// One more output.
-fn put_out(live: &mut Live, out: Out) -> Result<(), AllocError>
+pub(crate) fn put_out(live: &mut Live, out: Out) -> Result<(), AllocError>
     requires closed { IsClosed live.old }
     ensures out { OnOk result (live.new ≡ record live.old { outputs = live.old.outputs ++ out ∷ [] }) }
+    ensures same { live.new ≡ record live.old { outputs = live.new.outputs } }
     ensures closed { IsClosed live.new }
     ensures cells { live.new.cells ≡ live.old.cells }
     ensures objects { live.new.objects ≡ live.old.objects }
@@ -200,7 +201,7 @@ fn tell_out(
     budget: &mut u64,
 ) -> Result<Step, AllocError>
     requires fit { IsFit live.old stack.old.items }
-    ensures told { IfOk result (λ r. (live.new ≡ record live.old { outputs = live.old.outputs ++ out ∷ [] }) × ((turn : T) → StageGoes r efun Stage.Zero low live.new turn stack.old.items budget.old live.new stack.new.items budget.new)) }
+    ensures told { IfOk result (λ r. (live.new ≡ record live.old { outputs = live.old.outputs ++ out ∷ [] }) × ((turn : T) → StageGoes r efun Stage.Zero low live.new turn stack.old.items budget.old live.new turn stack.new.items budget.new)) }
     ensures closed { IsClosed live.new }
     ensures fit { OnOk result (IsFit live.new stack.new.items) }
     ensures there { IfOk result (IsStepThere live.new.cells) }
@@ -215,13 +216,13 @@ fn tell_out(
 }
 
 /// `catch_tell` is asked, with the text on top.
-fn ask_tell(o: ObjId, text: &Text, stack: &mut Vec<Value>) -> Result<Step, AllocError>
-    ensures asks { IfOk result (λ r. (r ≡ Step.Asks (Question.CatchTell o) 1) × (stack.new.items ≡ stack.old.items ++ V.Str text.now ∷ [])) }
+pub(crate) fn ask_tell(o: ObjId, text: &Text, stack: &mut Vec<Value>) -> Result<Step, AllocError>
+    ensures asks { IfOk result (λ r. (r ≡ Step.Asks (Question.Apply o Applied.CatchTell) 1) × (stack.new.items ≡ stack.old.items ++ V.Str text.now ∷ [])) }
     ensures fit { OnOk result ((l : L) → IsFit l stack.old.items → IsFit l stack.new.items) }
     ensures there { IfOk result (λ r. (cells : Store) → IsStepThere cells r) }
 {
     stack.push(Value::Str(text.copy()?))?;
-    Ok(Step::Asks(Question::CatchTell(o), 1))
+    Ok(Step::Asks(Question::Apply(o, Applied::CatchTell), 1))
 }
 
 /// A text goes to a live object: to its connection, and where it has none `catch_tell` is asked.
@@ -237,7 +238,7 @@ fn tell_live(
     requires low { low ≤ length stack.old.items }
     requires fit { IsFit live.old stack.old.items }
     requires live { live_in live.old.objects o ≡ true }
-    ensures goes { IfOk result (λ r. (turn : T) → StageGoes r efun (Stage.Tell o text.now) low live.old turn stack.old.items budget.old live.new stack.new.items budget.new) }
+    ensures goes { IfOk result (λ r. (turn : T) → StageGoes r efun (Stage.Tell o text.now) low live.old turn stack.old.items budget.old live.new turn stack.new.items budget.new) }
     ensures closed { IsClosed live.new }
     ensures fit { OnOk result (IsFit live.new stack.new.items) }
     ensures there { IfOk result (IsStepThere live.new.cells) }
@@ -268,7 +269,7 @@ pub(crate) fn step_tell(
 ) -> Result<Step, AllocError>
     requires low { low ≤ length stack.old.items }
     requires fit { IsFit live.old stack.old.items }
-    ensures goes { IfOk result (λ r. (turn : T) → StageGoes r efun (Stage.Tell o text.now) low live.old turn stack.old.items budget.old live.new stack.new.items budget.new) }
+    ensures goes { IfOk result (λ r. (turn : T) → StageGoes r efun (Stage.Tell o text.now) low live.old turn stack.old.items budget.old live.new turn stack.new.items budget.new) }
     ensures closed { IsClosed live.new }
     ensures fit { OnOk result (IsFit live.new stack.new.items) }
     ensures there { IfOk result (IsStepThere live.new.cells) }
@@ -285,7 +286,7 @@ pub(crate) fn step_tell(
 }
 
 /// Who reads what is written.
-fn reader(player: Option<ObjId>, objects: &ObjectTable) -> Option<ObjId>
+pub(crate) fn reader(player: Option<ObjId>, objects: &ObjectTable) -> Option<ObjId>
     ensures { result ≡ reader (live_in objects.now) player }
 {
     match player {
@@ -306,7 +307,7 @@ pub(crate) fn step_write(
 ) -> Result<Step, AllocError>
     requires low { low ≤ length stack.old.items }
     requires fit { IsFit live.old stack.old.items }
-    ensures goes { IfOk result (λ r. StageGoes r efun (Stage.Write text.now) low live.old turn.now stack.old.items budget.old live.new stack.new.items budget.new) }
+    ensures goes { IfOk result (λ r. StageGoes r efun (Stage.Write text.now) low live.old turn.now stack.old.items budget.old live.new turn.now stack.new.items budget.new) }
     ensures closed { IsClosed live.new }
     ensures fit { OnOk result (IsFit live.new stack.new.items) }
     ensures there { IfOk result (IsStepThere live.new.cells) }

@@ -22,7 +22,7 @@ pub enum CallTarget {
 }
 
 /// What a value names as the target of a call.
-fn target_of<L: Living>(v: &Value, live: &L) -> CallTarget
+pub(crate) fn target_of<L: Living>(v: &Value, live: &L) -> CallTarget
     ensures value { (cells : Store) → result ≡ target_of (operand (L.live live.now) cells v.now) }
     ensures live { IsTargetLive (L.live live.now) result }
 {

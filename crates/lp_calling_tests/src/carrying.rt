@@ -3,11 +3,12 @@ ghost use Rattle.std.specs.Prelude.{◌≡◌, IfOk, OnOk};
 ghost use Rattle.lp_calling_tests.specs.Whole.{CanAllGo, CanGo, IsWhole, WaitsIf};
 
 use crate::happening::{Reply, answer};
-use crate::telling::{say, say_asked, say_end, say_outputs};
+use crate::telling::{say, say_asked, say_end, say_kept, say_outputs, say_player};
 use crate::values::{Arg, has_all, lay};
 use lp_calling::begin::{begin, is_calling};
 use lp_calling::job::{Begun, CallingFault, Job, Step};
-use lp_calling::next::{next, stop};
+use lp_calling::leave::ask_to_shadow;
+use lp_calling::next::{needs_program, next, stop};
 use lp_efuns::caller::{Caller, Turn};
 use lp_instr::efun::Efun;
 use lp_values::id::ObjId;
@@ -48,11 +49,12 @@ fn start(
     }
 }
 
-/// A job goes on: whether it asked. What it asked, or its end, is told.
+/// A job goes on: whether it asked. What it asked, or its end, is told. One that saves or restores variables is stopped where it needs
+/// the program of its object, and what it was about to do is told.
 fn go_on(
     rt: &impl Abort,
     live: &mut Live,
-    turn: &Turn,
+    turn: &mut Turn,
     stack: &mut Vec<Value>,
     job: &mut Job,
     budget: &mut u64,
@@ -67,9 +69,16 @@ fn go_on(
         has_all(&live.cells, stack.as_slice()),
         "the stack is there"
     );
+    if needs_program(job) {
+        say_kept(live.alloc, log, job)?;
+        stop(job, turn, stack);
+        return Ok(false);
+    }
+    let before = turn.player;
     match next(job, live, turn, stack, budget)? {
         Step::Asks(question, n) => {
             say_asked(rt, live, log, stack, &question, n)?;
+            say_player(live.alloc, log, before, turn.player)?;
             Ok(true)
         }
         Step::Ends(answer) => {
@@ -83,7 +92,7 @@ fn go_on(
 fn carry(
     rt: &impl Abort,
     live: &mut Live,
-    turn: &Turn,
+    turn: &mut Turn,
     stack: &mut Vec<Value>,
     job: &mut Job,
     replies: &[Reply],
@@ -97,11 +106,11 @@ fn carry(
         if !go_on(rt, live, turn, stack, job, budget, log)? {
             return Ok(());
         }
-        answer(rt, live, stack, job, *reply)?;
+        answer(rt, live, turn, stack, job, *reply)?;
     }
     if go_on(rt, live, turn, stack, job, budget, log)? {
         say(live.alloc, log, "and is stopped")?;
-        stop(job, stack);
+        stop(job, turn, stack);
     }
     Ok(())
 }
@@ -110,7 +119,7 @@ fn carry(
 fn finish(
     rt: &impl Abort,
     live: &mut Live,
-    turn: &Turn,
+    turn: &mut Turn,
     stack: &mut Vec<Value>,
     job: Option<Job>,
     replies: &[Reply],
@@ -134,7 +143,7 @@ fn finish(
 pub fn outcome(
     rt: &impl Abort,
     live: &mut Live,
-    turn: &Turn,
+    turn: &mut Turn,
     efun: Efun,
     args: &[Arg],
     replies: &[Reply],
@@ -166,5 +175,44 @@ pub fn outcome(
         say(live.alloc, &mut log, " and leaves values")?;
     }
     say_outputs(live, &mut log)?;
+    Ok(log)
+}
+
+/// The job of `shadow` that asks the master, above the values on a stack.
+fn shadow_job(live: &Live, stack: &Vec<Value>, this: ObjId, o: ObjId) -> Job
+    ensures { CanGo live.now stack.now.items result }
+{
+    ask_to_shadow(live, stack.len(), this, o)
+}
+
+/// What `shadow` of an object, called by a function of another one, comes to once nothing else stands in the way: what it asks, and how
+/// it ends. Below it lies a value, and at the end that alone, or it is told.
+pub fn shadow_outcome(
+    rt: &impl Abort,
+    live: &mut Live,
+    turn: &mut Turn,
+    this: ObjId,
+    o: ObjId,
+    replies: &[Reply],
+) -> Result<Vec<char>, Fail>
+    requires { IsWhole live.old }
+{
+    let mut log = Vec::new(live.alloc);
+    let mut stack = vec![in live.alloc; Value::Int(99)]?;
+    let mut budget = 1000;
+    let mut job = shadow_job(live, &stack, this, o);
+    carry(
+        rt,
+        live,
+        turn,
+        &mut stack,
+        &mut job,
+        replies,
+        &mut budget,
+        &mut log,
+    )?;
+    if stack.len() != 1 {
+        say(live.alloc, &mut log, " and leaves values")?;
+    }
     Ok(log)
 }

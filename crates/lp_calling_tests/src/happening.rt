@@ -2,10 +2,11 @@
 ghost use Rattle.std.specs.Prelude.{OnOk};
 ghost use Rattle.lp_calling_tests.specs.Whole.{CanGo, DoesWait, IsWhole};
 
-use crate::state::destruct;
+use crate::state::{destruct, put};
 use crate::values::{Arg, Item, has_all, make_item, value};
 use lp_calling::feed::feed;
 use lp_calling::job::Job;
+use lp_efuns::caller::Turn;
 use lp_values::id::{CellId, ObjId};
 use lp_values::value::Value;
 use lp_world::live::Live;
@@ -18,6 +19,8 @@ use std::test::Fail;
 pub enum Event {
     /// An object is destructed.
     Dies(u64),
+    /// An object comes into another one.
+    Leaves(u64, u64),
     /// An item of the array that the efun was given is written, at a place from 0.
     Writes(u64, Item),
 }
@@ -62,6 +65,7 @@ fn happen(live: &mut Live, stack: &[Value], event: Event) -> Result<(), Fail>
 {
     match event {
         Event::Dies(ob) => destruct(live, ObjId(ob)),
+        Event::Leaves(item, dest) => put(live, item, dest),
         Event::Writes(i, item) => write(live, stack, i, item),
     }
 }
@@ -90,6 +94,7 @@ fn reply_of(live: &mut Live, stack: &[Value], reply: Reply) -> Result<Value, Fai
 pub fn answer(
     rt: &impl Abort,
     live: &mut Live,
+    turn: &mut Turn,
     stack: &mut Vec<Value>,
     job: &mut Job,
     reply: Reply,
@@ -105,6 +110,6 @@ pub fn answer(
         has_all(&live.cells, stack.as_slice()),
         "the stack is there"
     );
-    feed(job, live, stack, v)?;
+    feed(job, live, turn, stack, v)?;
     Ok(())
 }

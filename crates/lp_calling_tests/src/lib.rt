@@ -4,9 +4,13 @@
 #![tactic(auto)]
 
 #[cfg(test)]
+mod bytes;
+#[cfg(test)]
 mod calls;
 #[cfg(test)]
 mod carrying;
+#[cfg(test)]
+mod files;
 #[cfg(test)]
 mod happening;
 #[cfg(test)]
@@ -16,9 +20,17 @@ mod loads;
 #[cfg(test)]
 mod messages;
 #[cfg(test)]
+mod moves;
+#[cfg(test)]
 mod prices;
 #[cfg(test)]
+mod rooms;
+#[cfg(test)]
 mod rows;
+#[cfg(test)]
+mod searches;
+#[cfg(test)]
+mod shadows;
 #[cfg(test)]
 mod state;
 #[cfg(test)]

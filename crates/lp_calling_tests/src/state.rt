@@ -10,15 +10,19 @@ use lp_code::name::Name;
 use lp_code::program::{FunRow, Program, RawProgram};
 use lp_code::slots::Slots;
 use lp_code::tables::Tables;
-use lp_efuns::caller::Turn;
+use lp_efuns::caller::{Caller, Turn};
+use lp_efuns::plain::call_plain;
+use lp_filing::writing::append;
+use lp_instr::efun::Efun;
 use lp_instr::instr::Instr;
+use lp_moving::moving::move_into;
 use lp_objects::objects::Objects;
 use lp_residence::adding::{add_object, add_version};
 use lp_residence::ending::destroy;
 use lp_tree::path::FilePath;
 use lp_tree::pragma::Pragmas;
 use lp_values::id::{ObjId, ProgId};
-use lp_values::text::Text;
+use lp_values::text::{Text, code_points};
 use lp_values::value::Living;
 use lp_verify::verify::verify;
 use lp_world::additions::empty_state;
@@ -140,6 +144,16 @@ fn end(live: &mut Live, ob: ObjId)
     }
 }
 
+/// A file is there, with this text.
+fn write_doc(live: &mut Live, path: &str, text: &str) -> Result<(), Fail>
+    requires { IsClosed live.old }
+    ensures { OnOk result (IsClosed live.new) }
+{
+    let letters = code_points(live.alloc, text)?;
+    append(live, Some(path), letters.as_slice())?;
+    Ok(())
+}
+
 /// All of it comes to a state.
 fn fill(live: &mut Live) -> Result<(), Fail>
     requires { IsClosed live.old }
@@ -149,6 +163,7 @@ fn fill(live: &mut Live) -> Result<(), Fail>
     let program = add_version(live, path, program(live.alloc)?)?;
     add_objects(live, program, &NAMES)?;
     end(live, ObjId(6));
+    write_doc(live, "/doc/hello", "hello")?;
     connect(live, 1, 4)
 }
 
@@ -161,7 +176,7 @@ fn set_names(live: &mut Live, table: Objects)
     live.names = table;
 }
 
-/// The state of the tests, whose objects are those of `NAMES`. Player 1 (4) has connection 1.
+/// The state of the tests, whose objects are those of `NAMES`. Player 1 (4) has connection 1. The file `/doc/hello` holds `hello`.
 pub fn some_state(alloc: Global) -> Result<Live, Fail>
     ensures { IfOk result IsWhole }
 {
@@ -181,6 +196,58 @@ pub fn destruct(live: &mut Live, ob: ObjId) -> Result<(), Fail>
     end(live, ob);
     set_names(live, table);
     Ok(())
+}
+
+/// An object becomes living.
+fn animate(live: &mut Live, ob: u64) -> Result<(), Fail>
+    requires { IsWhole live.old }
+    ensures { OnOk result (IsWhole live.new) }
+{
+    let caller = Caller {
+        this: ObjId(ob),
+        interactive: None,
+        callers: &[],
+    };
+    let mut turn = turn_of(live.alloc, None);
+    let mut budget = 1000;
+    match call_plain(
+        live,
+        &mut turn,
+        &caller,
+        Efun::EnableCommands,
+        &[],
+        &mut budget,
+    ) {
+        Ok(_) => Ok(()),
+        Err(_) => Err(AllocError)?,
+    }
+}
+
+/// An object comes into another one.
+pub fn put(live: &mut Live, item: u64, dest: u64) -> Result<(), Fail>
+    requires { IsWhole live.old }
+    ensures { OnOk result (IsWhole live.new) }
+{
+    match move_into(live, ObjId(item), ObjId(dest)) {
+        Ok(_) => Ok(()),
+        Err(_) => Err(AllocError)?,
+    }
+}
+
+/// The state of the tests, where the players (4 and 5), a sword (1) and another one (2) that player 1 holds are in the hall (3). The
+/// players and the first sword are living. The player who came last, player 2, stands first there, then player 1, then the sword.
+pub fn some_hall(alloc: Global) -> Result<Live, Fail>
+    ensures { IfOk result IsWhole }
+{
+    let mut live = some_state(alloc)?;
+    animate(&mut live, 1)?;
+    animate(&mut live, 4)?;
+    animate(&mut live, 5)?;
+    put(&mut live, 1, 3)?;
+    put(&mut live, 4, 3)?;
+    put(&mut live, 5, 3)?;
+    put(&mut live, 2, 4)?;
+    Ok(live)
 }
 
 /// A turn of a player, in which no command runs.

@@ -3,12 +3,13 @@ ghost use Rattle.std.specs.Prelude.{◌≡◌, ◌-◌, ◌≤◌, OnOk, length,
 ghost use Rattle.lp_calling_tests.specs.Whole.{IsWhole};
 
 use crate::values::has_all;
-use lp_calling::job::Question;
+use lp_calling::job::{Job, Question, Stage};
 use lp_efuns::answer::Answer;
 use lp_efuns::known::KnownObjects;
 use lp_events::out::Out;
 use lp_format::sprintf::sprintf;
 use lp_values::decimal::spelling;
+use lp_values::id::ObjId;
 use lp_values::text::{Text, code_points};
 use lp_values::value::Value;
 use lp_world::live::Live;
@@ -83,9 +84,10 @@ fn say_question(alloc: Global, log: &mut Vec<char>, question: &Question) -> Resu
             say(alloc, log, ".")?;
             log.extend_from_slice(name.as_slice())
         }
-        Question::CatchTell(o) => {
+        Question::Apply(o, applied) => {
             say_number(alloc, log, o.0)?;
-            say(alloc, log, "!catch_tell")
+            say(alloc, log, "!")?;
+            say(alloc, log, applied.name())
         }
         Question::Load(name) => {
             say(alloc, log, "load ")?;
@@ -115,6 +117,26 @@ pub fn say_asked(
     Ok(())
 }
 
+/// `this_player()` where it is another one than before.
+pub fn say_player(
+    alloc: Global,
+    log: &mut Vec<char>,
+    before: Option<ObjId>,
+    now: Option<ObjId>,
+) -> Result<(), AllocError> {
+    if now == before {
+        return Ok(());
+    }
+    match now {
+        Some(o) => {
+            say(alloc, log, "as ")?;
+            say_number(alloc, log, o.0)?;
+            say(alloc, log, " ")
+        }
+        None => say(alloc, log, "as nobody "),
+    }
+}
+
 /// An end: a value as `%O` tells it, a thrown one behind an exclamation mark, the text of an error behind a star, or that the
 /// budget is spent.
 pub fn say_end(
@@ -137,6 +159,17 @@ pub fn say_end(
             say_value(rt, live, log, &v)
         }
         Answer::Spent => Ok(say(live.alloc, log, "spent")?),
+    }
+}
+
+/// At which path a job saves or restores the variables of an object, or that it does not.
+pub fn say_kept(alloc: Global, log: &mut Vec<char>, job: &Job) -> Result<(), AllocError> {
+    match &job.stage {
+        Stage::File(_, Some(path)) => {
+            say(alloc, log, "keeps at ")?;
+            say(alloc, log, path.as_str())
+        }
+        _ => say(alloc, log, "keeps nothing"),
     }
 }
 

@@ -52,8 +52,8 @@ pub record StopsAt (bytes : List ℕ) (xs : List Item) : Type 0 where
   pub begins : Holds bytes (xs ++ item ∷ [])
   pub turns : has_turn item ≡ true
 
--- An item stands here that a replay does not carry out yet: a tick, or the start or an event in whose turn something is asked that
--- is not carried out yet.
+-- An item stands here that a replay does not carry out yet: the start or an event in whose turn something is asked that is not carried
+-- out yet.
 pub record IsNotRunYet (bytes : List ℕ) (xs : List Item) (at : ℕ) : Type 0 where
   pub stops : StopsAt bytes xs
   pub place : at ≡ length (spellings xs)

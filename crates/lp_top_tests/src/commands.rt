@@ -171,7 +171,7 @@ fn actions_of_a_line(rt: HostRuntime) -> Result<(), Fail> {
 }
 
 /// What a player is told where no action does a line.
-const FAILURES: [Game; 10] = [
+const FAILURES: [Game; 12] = [
     // The text of the last `notify_fail` of this line, whichever action gave it; the next line begins with `What?` again.
     (
         &[(
@@ -335,6 +335,41 @@ int b(string s) { int i; while (i < 200000) i++; return 0; }
         "connect 1\nline 1 1\nx\nline 1 1\ny\nend\n",
         "log 91\nerror: Too long evaluation. Execution aborted. [a of /secure/master, object /secure/master]\nto 1 64\nYour sensitive mind notices a wrongness in the fabric of space.\n\nto 1 6\nWhat?\n\nend\n",
     ),
+    // Each command tells its own text, the inner one before the outer.
+    (
+        &[(
+            "/secure/master.c",
+            "object connect() { return this_object(); }
+int logon() { enable_commands(); add_action(\"go\", \"go\"); add_action(\"in\", \"in\"); add_action(\"deep\", \"deep\"); return 1; }
+int go(string s) { notify_fail(\"Not out.\\n\"); write(command(\"in\") + command(\"none\") + command(\"\") + \"\\n\"); return 0; }
+int in(string s) { notify_fail(\"Not in.\\n\"); command(\"deep\"); return 0; }
+int deep(string s) { notify_fail(\"Not deep.\\n\"); notify_fail(\"Nor here.\\n\"); return 0; }
+",
+        )],
+        "connect 1\nline 1 2\ngo\nend\n",
+        "to 1 35\nNor here.\nNot in.\nWhat?\n0\nNot out.\n\nend\n",
+    ),
+    // A player whose connection LPC closes in a line hears nothing more, and its next lines do nothing.
+    (
+        &[
+            (
+                "/player.c",
+                "int logon() { enable_commands(); add_action(\"quit\", \"quit\"); add_action(\"look\", \"look\"); return 1; }
+int quit(string s) { write(\"Bye.\\n\"); remove_interactive(this_object()); write(\"late\\n\"); return 0; }
+int look(string s) { write(sizeof(users()) + \" here\\n\"); return 1; }
+void catch_tell(string s) { tell_object(users()[0], \"catch: \" + s); }
+",
+            ),
+            (
+                "/secure/master.c",
+                "object connect() { return clone_object(\"/player\"); }
+void disconnect(object o, string s) { write(\"gone\\n\"); }
+",
+            ),
+        ],
+        "connect 1\nconnect 2\nline 2 4\nlook\nline 1 4\nquit\nline 1 4\nlook\nline 2 4\nlook\ngone 1\ngone 2\nend\n",
+        "to 2 7\n2 here\n\nto 1 5\nBye.\n\nclose 1\nto 2 25\ncatch: late\ncatch: What?\n\nto 2 7\n1 here\n\nlog 5\ngone\n\nend\n",
+    ),
 ];
 
 #[test]
@@ -343,7 +378,7 @@ fn lines_that_no_action_does(rt: HostRuntime) -> Result<(), Fail> {
 }
 
 /// The efun `command`.
-const IN_COMMANDS: [Game; 8] = [
+const IN_COMMANDS: [Game; 10] = [
     // Who calls it carries out the line as `this_player()`, who is as before afterwards.
     (
         &[
@@ -482,6 +517,48 @@ int show(string s) { write(n); return 1; }
         "connect 1\nline 1 5\nagain\nline 1 4\nshow\nend\n",
         "log 74\nerror: Too deep recursion [again of /secure/master, object /secure/master]\nto 1 64\nYour sensitive mind notices a wrongness in the fabric of space.\n\nto 1 3\n100\nend\n",
     ),
+    // A player who dies in an inner command goes on in the outer one as nobody, and is told nothing.
+    (
+        &[
+            (
+                "/player.c",
+                "int logon() { enable_commands(); add_action(\"go\", \"go\"); add_action(\"die\", \"die\"); return 1; }
+int go(string s) { int n = command(\"die\"); write(\"after \" + n + query_verb() + (this_player() == 0) + \"\\n\"); return 0; }
+int die(string s) { destruct(this_object()); return 0; }
+",
+            ),
+            (
+                "/secure/master.c",
+                "object connect() { return clone_object(\"/player\"); }
+",
+            ),
+        ],
+        "connect 1\nline 1 2\ngo\nend\n",
+        "close 1\nlog 11\nafter 0go1\n\nend\n",
+    ),
+    // A command of an object without a connection tells it by `catch_tell`; who asks is `this_interactive()` throughout.
+    (
+        &[
+            (
+                "/n.c",
+                "void live() { enable_commands(); add_action(\"x\", \"x\"); }
+int x(string s) { \"/secure/master\"->note(object_name(this_player()) + object_name(this_interactive()) + object_name(previous_object()) + \"\\n\"); notify_fail(\"no x\\n\"); return 0; }
+void catch_tell(string s) { \"/secure/master\"->note(\"/n: \" + s); }
+void act() { command(\"x 1\"); command(\"y\"); }
+",
+            ),
+            (
+                "/secure/master.c",
+                "object connect() { return this_object(); }
+int logon() { \"/n\"->live(); enable_commands(); add_action(\"go\", \"go\"); return 1; }
+int go(string s) { \"/n\"->act(); return 1; }
+void note(string s) { tell_object(this_object(), s); }
+",
+            ),
+        ],
+        "connect 1\nline 1 2\ngo\nend\n",
+        "to 1 38\n/n/secure/master/n\n/n: no x\n/n: What?\n\nend\n",
+    ),
 ];
 
 #[test]
@@ -490,7 +567,7 @@ fn commands_in_commands(rt: HostRuntime) -> Result<(), Fail> {
 }
 
 /// Lines for which a function waits.
-const INPUTS: [Game; 6] = [
+const INPUTS: [Game; 9] = [
     // The function takes the line, and a hidden input is shown again.
     (
         &[(
@@ -580,6 +657,64 @@ int kill(string s) { destruct(find_object(s)); return 1; }
         ],
         "connect 1\nconnect 2\nline 1 4\nname\nline 2 14\nkill /player#1\nline 1 2\nBo\nline 2 4\nlook\nend\n",
         "to 1 6\nName: \nhide 1\nclose 1\nto 2 6\nWhat?\n\nend\n",
+    ),
+    // A function that waits stays with the connection: the object that has it by then is the player, and the one that asked has the function.
+    (
+        &[
+            (
+                "/body.c",
+                "void live() { enable_commands(); }
+",
+            ),
+            (
+                "/player.c",
+                "int logon() { enable_commands(); add_action(\"name\", \"name\"); add_action(\"take\", \"take\"); return 1; }
+int name(string s) { write(\"Name: \"); write(input_to(\"named\", 1, \"!\") + \"\\n\"); return 1; }
+void named(string s, string t) { write(\"Hi \" + s + t + object_name() + object_name(this_player()) + object_name(this_interactive()) + \"\\n\"); }
+int take(string s) { \"/body\"->live(); write(exec(load_object(\"/body\"), find_object(s)) + \"\" + exec(load_object(\"/body\"), this_object()) + interactive(find_object(s)) + \"\\n\"); return 1; }
+void catch_tell(string s) { \"/secure/master\"->note(s); }
+",
+            ),
+            (
+                "/secure/master.c",
+                "object connect() { return clone_object(\"/player\"); }
+void note(string s) { write(\"note \" + s); }
+void disconnect(object o, string s) { write(object_name(o) + s + \"\\n\"); }
+",
+            ),
+        ],
+        "connect 1\nconnect 2\nline 1 4\nname\nline 2 14\ntake /player#1\nline 1 2\nBo\nline 1 2\nBo\ngone 1\nend\n",
+        "to 1 6\nName: \nhide 1\nto 1 2\n1\n\nto 1 4\n100\n\nshow 1\nto 1 26\nHi Bo!/player#1/body/body\n\nto 1 6\nWhat?\n\nlog 6\n/body\n\nend\n",
+    ),
+    // Nobody waits for who has no connection, and a function that is missing is looked for last.
+    (
+        &[(
+            "/secure/master.c",
+            "object connect() { write(input_to(\"none\") + \"\\n\"); return this_object(); }
+int logon() { write(catch(input_to(\"none\"))); write(input_to(\"got\") + \"\" + input_to(\"none\") + input_to(\"got\", 1) + \"\\n\"); return 1; }
+private void got(string s) { write(\"[\" + s + \"]\\n\"); remove_interactive(this_object()); write(input_to(\"got\") + \"\\n\"); }
+",
+        )],
+        "connect 1\nline 1 1\na\nline 1 1\nb\nend\n",
+        "log 2\n0\n\nto 1 22\n*No such function\n100\n\nto 1 4\n[a]\n\nclose 1\nend\n",
+    ),
+    // What waits ends with its connection, and its error is that of a line.
+    (
+        &[
+            (
+                "/player.c",
+                "int logon() { input_to(\"got\", 1); return 1; }
+void got(string s) { if (s == \"again\") input_to(\"got\"); 1 / 0; }
+",
+            ),
+            (
+                "/secure/master.c",
+                "object connect() { return clone_object(\"/player\"); }
+",
+            ),
+        ],
+        "connect 1\nline 1 5\nagain\nline 1 1\nx\nline 1 1\nx\nconnect 2\ngone 2\nconnect 3\nline 3 2\né\nend\n",
+        "hide 1\nshow 1\nlog 58\nerror: Division by zero [got of /player, object /player#1]\nto 1 64\nYour sensitive mind notices a wrongness in the fabric of space.\n\nlog 58\nerror: Division by zero [got of /player, object /player#1]\nto 1 64\nYour sensitive mind notices a wrongness in the fabric of space.\n\nto 1 6\nWhat?\n\nhide 2\nhide 3\nshow 3\nlog 58\nerror: Division by zero [got of /player, object /player#3]\nto 3 64\nYour sensitive mind notices a wrongness in the fabric of space.\n\nend\n",
     ),
 ];
 

@@ -36,4 +36,12 @@ mod games;
 #[cfg(test)]
 mod moments;
 #[cfg(test)]
+mod moves;
+#[cfg(test)]
+mod shadows;
+#[cfg(test)]
+mod storing;
+#[cfg(test)]
 mod swapping;
+#[cfg(test)]
+mod visits;

@@ -16,7 +16,7 @@ fn are_replayed_at_times(rt: &impl Abort, alloc: Global, games: &[Game]) -> Resu
 }
 
 /// Call-outs.
-const CALL_OUTS: [Game; 12] = [
+const CALL_OUTS: [Game; 14] = [
     // Those of one moment in order of making; one that is made in a tick is called in the next one.
     (
         &[(
@@ -190,6 +190,39 @@ void after() { tell_object(this_object(), \"after\\n\"); }
         "connect 1\ntick 1\nend\n",
         "log 94\nerror: Too long evaluation. Execution aborted. [spin of /secure/master, object /secure/master]\nto 1 6\nafter\n\nend\n",
     ),
+    // One that is made, taken back and due in a tick is not called, and those behind it are; the earliest of a name is taken.
+    (
+        &[(
+            "/secure/master.c",
+            "object connect() { return this_object(); }
+int logon() { call_out(\"a\", 1); call_out(\"d\", 3, \"first\"); call_out(\"d\", 2, \"second\"); call_out(\"d\", 2, \"third\"); return 1; }
+void a() { call_out(\"b\", 0); call_out(\"b\", 1); tell_object(this_object(), remove_call_out(\"b\") + \",\" + find_call_out(\"b\") + \",\" + remove_call_out(\"d\") + \",\" + find_call_out(\"d\") + \"\\n\"); }
+void b() { tell_object(this_object(), \"b\\n\"); }
+void d(string s) { tell_object(this_object(), s + \"\\n\"); }
+",
+        )],
+        "connect 1\ntick 1\ntick 1\ntick 2\ntick 3\nend\n",
+        "to 1 8\n0,1,1,1\n\nto 1 8\nthird\nb\n\nto 1 6\nfirst\n\nend\n",
+    ),
+    // A function is called whatever its modifiers are; negative delays, missing functions and those who ended make none.
+    (
+        &[
+            (
+                "/o.c",
+                "string go() { destruct(this_object()); return call_out(\"none\", -1) + \",\" + find_call_out(\"f\") + remove_call_out(\"f\"); }
+",
+            ),
+            (
+                "/secure/master.c",
+                "object connect() { return this_object(); }
+int logon() { write(catch(call_out(\"f\", -1)) + catch(call_out(\"none\", -1)) + catch(call_out(\"none\", 1)) + \"/o\"->go() + call_out(\"f\", 1, this_object(), ({ 1 })) + \"\\n\"); return 1; }
+private void f(object o, int *a) { tell_object(o, a[0] + object_name(o) + this_player() + previous_object() + this_interactive() + \"\\n\"); }
+",
+            ),
+        ],
+        "connect 1\ntick 1\nend\n",
+        "to 1 82\n*Bad argument 2 to call_out\n*Bad argument 2 to call_out\n*No such function\n0,-1-10\n\nto 1 19\n1/secure/master000\n\nend\n",
+    ),
 ];
 
 #[test]
@@ -198,7 +231,7 @@ fn call_outs_at_ticks(rt: HostRuntime) -> Result<(), Fail> {
 }
 
 /// Heart beats.
-const BEATS: [Game; 5] = [
+const BEATS: [Game; 7] = [
     // One that ends in an error is the last one.
     (
         &[
@@ -294,6 +327,78 @@ void heart_beat() { write(\"thump\\n\"); throw(\"x\"); }
         "connect 1\ntick 2\ntick 4\nend\n",
         "to 1 6\nthump\n\nlog 80\nerror: Throw without catch [heart_beat of /secure/master, object /secure/master]\nto 1 64\nYour sensitive mind notices a wrongness in the fabric of space.\n\nend\n",
     ),
+    // One that is switched off and on is the last one, and beats two seconds later; so does one that is switched on at the tick.
+    (
+        &[
+            (
+                "/a.c",
+                "inherit \"/h\";
+int n;
+void heart_beat() { ::heart_beat(); if (!n++) { \"/b\"->again(); \"/e\"->again(); } }
+",
+            ),
+            (
+                "/b.c",
+                "inherit \"/h\";
+",
+            ),
+            (
+                "/c.c",
+                "inherit \"/h\";
+void heart_beat() { ::heart_beat(); write(set_heart_beat(0) + \"\" + set_heart_beat(0) + set_heart_beat(5) + set_heart_beat(-1)); }
+",
+            ),
+            (
+                "/d.c",
+                "inherit \"/h\";
+",
+            ),
+            (
+                "/e.c",
+                "inherit \"/h\";
+",
+            ),
+            (
+                "/h.c",
+                "void on() { set_heart_beat(1); }
+void again() { set_heart_beat(0); set_heart_beat(1); }
+void heart_beat() { tell_object(load_object(\"/secure/master\"), load_name()); }
+",
+            ),
+            (
+                "/secure/master.c",
+                "object connect() { return this_object(); }
+int logon() { \"/a\"->on(); \"/b\"->on(); \"/c\"->on(); \"/d\"->on(); return 1; }
+",
+            ),
+        ],
+        "connect 1\ntick 2\ntick 3\ntick 4\nend\n",
+        "to 1 4\n/a/c\nlog 4\n1010\nto 1 2\n/d\nto 1 10\n/a/d/b/e/c\nlog 4\n1010\nend\n",
+    ),
+    // A heart beats without a function too; one that ended has none, and switches none on.
+    (
+        &[
+            (
+                "/a.c",
+                "string go() { string s = set_heart_beat(1) + \"\"; destruct(this_object()); return s + set_heart_beat(0) + set_heart_beat(1); }
+void heart_beat() { 1 / 0; }
+",
+            ),
+            (
+                "/b.c",
+                "void create() { set_heart_beat(1); }
+",
+            ),
+            (
+                "/secure/master.c",
+                "object connect() { return this_object(); }
+int logon() { write(\"/a\"->go() + \"\\n\"); load_object(\"/b\"); return 1; }
+",
+            ),
+        ],
+        "connect 1\ntick 2\ntick 4\nend\n",
+        "to 1 4\n100\n\nend\n",
+    ),
 ];
 
 #[test]
@@ -302,7 +407,7 @@ fn heart_beats_at_ticks(rt: HostRuntime) -> Result<(), Fail> {
 }
 
 /// `reset` and `clean_up`, and the order of a tick.
-const WATCHES: [Game; 5] = [
+const WATCHES: [Game; 6] = [
     // Call-outs by their moment, beats, resets, clean-ups; the next ones count from the tick.
     (
         &[
@@ -406,6 +511,28 @@ int clean_up(int x) { tell_object(this_object(), \"clean\\n\"); return 1 / 0; }
         )],
         "connect 1\ntick 3600\ntick 7200\nend\n",
         "to 1 6\nreset\n\nlog 75\nerror: Throw without catch [reset of /secure/master, object /secure/master]\nto 1 6\nclean\n\nlog 75\nerror: Division by zero [clean_up of /secure/master, object /secure/master]\nto 1 6\nreset\n\nlog 75\nerror: Throw without catch [reset of /secure/master, object /secure/master]\nend\n",
+    ),
+    // What ends, or is made, in the reset or clean-up of another: the one is passed over, the other comes later.
+    (
+        &[
+            (
+                "/a.c",
+                "void reset() { \"/secure/master\"->note(\"reset \" + object_name()); \"/secure/master\"->next(); }
+int clean_up(int n) { \"/secure/master\"->note(\"clean \" + object_name()); destruct(this_object()); return 1; }
+",
+            ),
+            (
+                "/secure/master.c",
+                "object connect() { return this_object(); }
+object *all;
+int logon() { int i; load_object(\"/a\"); all = ({ }); for (i = 0; i < 3; i++) all += ({ clone_object(\"/a\") }); return 1; }
+void next() { if (all[1]) { destruct(all[1]); all[1] = 0; clone_object(\"/a\"); } }
+void note(string s) { tell_object(this_object(), s + \"\\n\"); }
+",
+            ),
+        ],
+        "connect 1\ntick 1800\ntick 1801\ntick 3600\ntick 5399\ntick 5400\nend\n",
+        "to 1 31\nreset /a\nreset /a#1\nreset /a#3\n\nto 1 73\nreset /a\nreset /a#1\nreset /a#3\nreset /a#4\nclean /a\nclean /a#1\nclean /a#3\n\nto 1 22\nreset /a#4\nclean /a#4\n\nend\n",
     ),
 ];
 

@@ -216,7 +216,7 @@ fn nobody_can_tell(rt: HostRuntime) -> Result<(), Fail> {
 
 /// The words of a replay, a game, how often the swap file is then read, and the fronts of the transcript by the turns before those that
 /// read it.
-type Reading = (&'static [&'static str], Game, u64, &'static [&'static str]);
+pub(crate) type Reading = (&'static [&'static str], Game, u64, &'static [&'static str]);
 
 const READINGS: [Reading; 2] = [
     (&["replay"], TWICE, 4, &["", "log 2\n7\n\n"]),
@@ -242,13 +242,18 @@ fn is_one_of(bytes: &[u8], texts: &[&str]) -> bool {
 }
 
 /// Whether a replay ends at the read with this number, behind the turns before it.
-fn ends_at(alloc: Global, row: Reading, troubles: Troubles, n: u64) -> Result<bool, AllocError> {
+pub(crate) fn ends_at(
+    alloc: Global,
+    row: Reading,
+    troubles: Troubles,
+    n: u64,
+) -> Result<bool, AllocError> {
     let trial = tried(alloc, row.0, row.1, troubles, 65536)?;
     Ok(trial.status == 7 && trial.calls.0 == n && is_one_of(trial.bytes.as_slice(), row.3))
 }
 
 /// Whether a replay is done and has written the whole transcript, with so many reads.
-fn is_done(
+pub(crate) fn is_done(
     alloc: Global,
     row: Reading,
     troubles: Troubles,
@@ -259,13 +264,13 @@ fn is_done(
 }
 
 /// How often a replay reads and writes the swap file.
-fn calls_of(alloc: Global, row: Reading) -> Result<(u64, u64), AllocError> {
+pub(crate) fn calls_of(alloc: Global, row: Reading) -> Result<(u64, u64), AllocError> {
     let trial = tried(alloc, row.0, row.1, NONE, 65536)?;
     Ok(trial.calls)
 }
 
 /// The read with this number fails.
-fn failing(n: u64) -> Troubles {
+pub(crate) fn failing(n: u64) -> Troubles {
     Troubles {
         read: n,
         lie: 0,
@@ -274,7 +279,7 @@ fn failing(n: u64) -> Troubles {
 }
 
 /// The read with this number lies.
-fn lying(n: u64) -> Troubles {
+pub(crate) fn lying(n: u64) -> Troubles {
     Troubles {
         read: 0,
         lie: n,
@@ -283,7 +288,7 @@ fn lying(n: u64) -> Troubles {
 }
 
 /// The write with this number fails.
-fn refusing(n: u64) -> Troubles {
+pub(crate) fn refusing(n: u64) -> Troubles {
     Troubles {
         read: 0,
         lie: 0,

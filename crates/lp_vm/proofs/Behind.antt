@@ -4,7 +4,7 @@ use Rattle.lp_values.specs.declared.value.Value.{Value}
 use Rattle.lp_code.specs.declared.program.RawProgram.{RawProgram}
 use Rattle.lp_events.specs.declared.out.Out.{Out}
 use Rattle.lp_swapfile.specs.Device.{Bytes}
-use Rattle.lp_language.specs.Course.{CanAnswer, Course, Over, End, Failed, Gives, IsFaulty, IsSound, Load, Outcome, Plain, Reply, State, Stops, Wanted, WasRead, after, and_then, end_of_outcome, end_of_reply, here, outcome_of, zero_value}
+use Rattle.lp_language.specs.Course.{CanAnswer, Course, Over, End, Failed, Gives, IsFaulty, IsSound, Load, Outcome, Plain, Reply, State, Stops, Wanted, WasRead, after, and_then, end_of_outcome, end_of_reply, here, in_any_case, outcome_of, zero_value}
 use Rattle.lp_meaning.specs.Askers as meaning
 use Rattle.lp_meaning.specs.Askers.{question}
 use Rattle.lp_meaning.specs.Closing.{Ends, Has}
@@ -12,19 +12,16 @@ use Rattle.lp_meaning.specs.FileLoads.{could_not_load, loaded_value}
 use Rattle.lp_meaning.specs.FrontEnd.{FrontEnd}
 use Rattle.lp_world.specs.declared.live.Live.{Live}
 use Rattle.lp_beginning.specs.Beginning.{Fits}
+use Rattle.lp_beginning.specs.Ends.{IsValueEnd, state_at}
 use Rattle.lp_calling.specs.declared.job.Question.{Question}
 use Rattle.lp_calling.specs.declared.job.Question.TheVariants as questions
-use Rattle.lp_calling.specs.Jobs.{IsAskedWith, asked_of, question_course}
+use Rattle.lp_calling.specs.Questions.{IsAskedWith, asked_of, question_course}
 use Rattle.lp_asking.specs.declared.asker.Asker.{Asker}
-use Rattle.lp_asking.specs.Endings.{plain_end}
-use Rattle.lp_asking.specs.Resuming.{IsEndFor}
 use Rattle.lp_asking.proofs.Courses.{asks_ends, has_of}
 use Rattle.lp_loading.specs.declared.job.Answer.{Answer}
 use Rattle.lp_loading.specs.declared.job.Answer.TheVariants as answers
 use Rattle.lp_loading.specs.declared.job.Purpose.TheVariants as purposes
 use Rattle.lp_loading.specs.Going.{IsAnswerOf, IsAt, state_in}
-use Rattle.lp_vm.specs.Going.{IsOutcome}
-use Rattle.lp_vm.specs.Growing.{Grows}
 use Rattle.lp_vm.specs.Loaded.{loaded_ending}
 use Rattle.lp_vm.specs.Loading.{load_course}
 use Rattle.lp_vm.specs.Working.{IsCall}
@@ -43,17 +40,17 @@ loaded_end name (Stops x s) = Stops x s
 -- what a question gives, which had this outcome
 abbrev pub value_behind : Question → State → Outcome → End Value
 value_behind (questions.Other ob name) t o = end_of_outcome t o
-value_behind (questions.CatchTell ob) t o = end_of_outcome t o
+value_behind (questions.Apply ob applied) t o = end_of_outcome t o
 value_behind (questions.Load name) t o = loaded_end name (end_of_reply o.answer (after t o))
 
 pub call_behind : (q : Question) (t : State) (o : Outcome) → IsCall q → value_behind q t o ≡ end_of_outcome t o
 call_behind (questions.Other ob name) t o call = refl
-call_behind (questions.CatchTell ob) t o call = refl
+call_behind (questions.Apply ob applied) t o call = refl
 call_behind (questions.Load name) t o call = absurd call
 
 -- The course
 
-loaded_then : (name : List ℕ) (e : End Reply) (go : Value → State → Course Value) → and_then (and_then (Over e) (λ r s. loaded_value name r s)) go ≡ and_then (Over (loaded_end name e)) go
+loaded_then : (name : List ℕ) (e : End Reply) (go : End Value → Course Value) → in_any_case (and_then (Over e) (λ r s. loaded_value name r s)) go ≡ go (loaded_end name e)
 loaded_then name (Gives (Plain v) s) go = refl
 loaded_then name (Gives (WasRead items pragmas) s) go = refl
 loaded_then name (Gives IsSound s) go = refl
@@ -61,12 +58,12 @@ loaded_then name (Gives (IsFaulty fs) s) go = refl
 loaded_then name (Stops x s) go = refl
 
 -- what the rest ends with behind an outcome, the whole ends with
-pub behind_ends : (front : FrontEnd) (q : Question) (xs : List Value) (by : meaning.Asker) (t : State) (go : Value → State → Course Value) (o : Outcome) (end : End Value) → IsAskedWith q xs → Has front (question (asked_of q) xs by t) o → CanAnswer (question (asked_of q) xs by t) o
-    → Ends front (and_then (Over (value_behind q t o)) go) end → Ends front (and_then (question_course q xs by t) go) end
-behind_ends front (questions.Other ob name) xs by t go o end given has can h = asks_ends front (question (asked_of (questions.Other ob name)) xs by t) (λ o. and_then (Over (end_of_outcome t o)) go) o end has can h
-behind_ends front (questions.CatchTell ob) xs by t go o end given has can h = asks_ends front (question (asked_of (questions.CatchTell ob)) xs by t) (λ o. and_then (Over (end_of_outcome t o)) go) o end has can h
+pub behind_ends : (front : FrontEnd) (q : Question) (xs : List Value) (by : meaning.Asker) (t : State) (go : End Value → Course Value) (o : Outcome) (end : End Value) → IsAskedWith q xs → Has front (question (asked_of q) xs by t) o → CanAnswer (question (asked_of q) xs by t) o
+    → Ends front (go (value_behind q t o)) end → Ends front (in_any_case (question_course q xs by t) go) end
+behind_ends front (questions.Other ob name) xs by t go o end given has can h = asks_ends front (question (asked_of (questions.Other ob name)) xs by t) (λ o. go (end_of_outcome t o)) o end has can h
+behind_ends front (questions.Apply ob applied) xs by t go o end given has can h = asks_ends front (question (asked_of (questions.Apply ob applied)) xs by t) (λ o. go (end_of_outcome t o)) o end has can h
 behind_ends front (questions.Load name) xs by t go o end given has can h =
-    asks_ends front (question (Load name Wanted) [] by t) (λ o. and_then (and_then (Over (end_of_reply o.answer (after t o))) (λ r s. loaded_value name r s)) go) o end
+    asks_ends front (question (Load name Wanted) [] by t) (λ o. in_any_case (and_then (Over (end_of_reply o.answer (after t o))) (λ r s. loaded_value name r s)) go) o end
     (subst (λ l. Has front (question (Load name Wanted) l by t) o) given has) (subst (λ l. CanAnswer (question (Load name Wanted) l by t) o) given can)
     (subst (λ c. Ends front c end) (sym (loaded_then name (end_of_reply o.answer (after t o)) go)) h)
 
@@ -90,42 +87,24 @@ load_fits told programs before outs live asker budget t (Stops x s) o h = record
 }
 
 -- what it gives is how the load ended
-pub load_end_for : (programs : List RawProgram) (name : List ℕ) (r : Answer) (e : End Reply) (t : State) → IsAnswerOf programs r e → IsEndFor (loaded_ending name r) (value_behind (questions.Load name) t (outcome_of e)) (after t (outcome_of e))
-load_end_for programs name (answers.Value v) (Gives (Plain u) s) t h = ap (λ z. Gives z (after t (outcome_of (Gives (Plain u) s)))) (sym h)
-load_end_for programs name (answers.Value v) (Gives (WasRead items pragmas) s) t h = absurd h
-load_end_for programs name (answers.Value v) (Gives IsSound s) t h = absurd h
-load_end_for programs name (answers.Value v) (Gives (IsFaulty gs) s) t h = absurd h
-load_end_for programs name (answers.Value v) (Stops x s) t h = absurd h
-load_end_for programs name (answers.Faulty fs) (Gives (Plain u) s) t h = absurd h
-load_end_for programs name (answers.Faulty fs) (Gives (WasRead items pragmas) s) t h = absurd h
-load_end_for programs name (answers.Faulty fs) (Gives IsSound s) t h = absurd h
-load_end_for programs name (answers.Faulty fs) (Gives (IsFaulty gs) s) t h = (here (Failed (could_not_load name gs)), refl, ap (λ l. Failed (could_not_load name l)) h)
-load_end_for programs name (answers.Faulty fs) (Stops x s) t h = absurd h
-load_end_for programs name (answers.Stopped stop) (Gives r s) t h = absurd h
-load_end_for programs name (answers.Stopped stop) (Stops x s) t h = (x, refl, h.cause)
+pub load_is : (programs : List RawProgram) (name : List ℕ) (r : Answer) (e : End Reply) (t : State) → IsAnswerOf programs r e → IsValueEnd programs (loaded_ending name r) (value_behind (questions.Load name) t (outcome_of e))
+load_is programs name (answers.Value v) (Gives (Plain u) s) t h = h
+load_is programs name (answers.Value v) (Gives (WasRead items pragmas) s) t h = absurd h
+load_is programs name (answers.Value v) (Gives IsSound s) t h = absurd h
+load_is programs name (answers.Value v) (Gives (IsFaulty gs) s) t h = absurd h
+load_is programs name (answers.Value v) (Stops x s) t h = absurd h
+load_is programs name (answers.Faulty fs) (Gives (Plain u) s) t h = absurd h
+load_is programs name (answers.Faulty fs) (Gives (WasRead items pragmas) s) t h = absurd h
+load_is programs name (answers.Faulty fs) (Gives IsSound s) t h = absurd h
+load_is programs name (answers.Faulty fs) (Gives (IsFaulty gs) s) t h = record { cause = ap (λ l. Failed (could_not_load name l)) h; place = tt }
+load_is programs name (answers.Faulty fs) (Stops x s) t h = absurd h
+load_is programs name (answers.Stopped stop) (Gives r s) t h = absurd h
+load_is programs name (answers.Stopped stop) (Stops x s) t h = h
 
--- and so the function that asked for it ends, where it is stopped
-module _ (told : Option Bytes) (old programs : List RawProgram) (before : List Out) (live : Live) (asker : Asker) (budget : ℕ) (name : List ℕ) (t : State) (grown : Grows old programs) where
-  pub load_outcome : (r : Answer) (e : End Reply) → IsAnswerOf programs r e → Fits (setting told programs before) live asker.turn budget (after t (outcome_of e))
-      → IsOutcome told old before live asker budget (loaded_ending name r) (outcome_of (plain_end (value_behind (questions.Load name) t (outcome_of e))))
-  load_outcome (answers.Value v) (Gives (Plain u) s) h f = record { programs = programs; grown = grown; world = f.world; left = sym f.at.left; player = f.at.player; commands = f.at.commands; outputs = f.at.outputs; answer = h }
-  load_outcome (answers.Value v) (Gives (WasRead items pragmas) s) h f = absurd h
-  load_outcome (answers.Value v) (Gives IsSound s) h f = absurd h
-  load_outcome (answers.Value v) (Gives (IsFaulty gs) s) h f = absurd h
-  load_outcome (answers.Value v) (Stops x s) h f = absurd h
-  load_outcome (answers.Faulty fs) (Gives (Plain u) s) h f = absurd h
-  load_outcome (answers.Faulty fs) (Gives (WasRead items pragmas) s) h f = absurd h
-  load_outcome (answers.Faulty fs) (Gives IsSound s) h f = absurd h
-  load_outcome (answers.Faulty fs) (Gives (IsFaulty gs) s) h f = record {
-    programs = programs;
-    grown = grown;
-    world = f.world;
-    left = sym f.at.left;
-    player = f.at.player;
-    commands = f.at.commands;
-    outputs = f.at.outputs;
-    answer = record { cause = ap (λ l. Failed (could_not_load name l)) h; place = tt };
-  }
-  load_outcome (answers.Faulty fs) (Stops x s) h f = absurd h
-  load_outcome (answers.Stopped stop) (Gives r s) h f = absurd h
-  load_outcome (answers.Stopped stop) (Stops x s) h f = record { programs = programs; grown = grown; world = f.world; left = sym f.at.left; player = f.at.player; commands = f.at.commands; outputs = f.at.outputs; answer = h }
+-- in the state behind it
+pub load_state : (name : List ℕ) (e : End Reply) (t : State) → state_at (value_behind (questions.Load name) t (outcome_of e)) ≡ after t (outcome_of e)
+load_state name (Gives (Plain u) s) t = refl
+load_state name (Gives (WasRead items pragmas) s) t = refl
+load_state name (Gives IsSound s) t = refl
+load_state name (Gives (IsFaulty gs) s) t = refl
+load_state name (Stops x s) t = refl

@@ -1,5 +1,5 @@
 -- What the device did, from one call to the next.
-use Rattle.std.proofs.Common.{◌≡◌, ◌∙◌, ℕ, List, Option, Result, Ok, Err, refl, sym, subst}
+use Rattle.std.proofs.Common.{◌≡◌, ◌∙◌, ℕ, List, Option, Result, Ok, Err, IfErr, ap, refl, sym, subst}
 use Rattle.std.specs.Prelude.{IsErrAnd}
 use Rattle.lp_code.specs.declared.program.RawProgram.{RawProgram}
 use Rattle.lp_swapfile.specs.Counts.{Counts}
@@ -13,6 +13,7 @@ use Rattle.lp_residence.specs.declared.answers.EnterFault.TheVariants as enter_f
 use Rattle.lp_residence.specs.declared.answers.SwapCause.TheVariants as swap_causes
 use Rattle.lp_targets.specs.Brought.{Brings}
 use Rattle.lp_vm.specs.declared.fault.VmFault.{VmFault}
+use Rattle.lp_vm.specs.declared.fault.VmFault.TheVariants as vm_faults
 use Rattle.lp_vm.specs.Causes.{IsReadless, Tells, read_fault, read_of}
 use Rattle.lp_vm.specs.Making.{StandsForOne}
 use Rattle.lp_beginning.specs.Beginning.{BringsFirst}
@@ -33,6 +34,12 @@ pub tells_readless : {told : Option Bytes} {last : Last} {reads0 reads1 writes0 
 tells_readless {told = told} {last = last} {reads0 = reads0} {reads1 = reads1} {writes0 = writes0} {writes1 = writes1} {true0 = true0} {true1 = true1} {honest0 = honest0} {honest1 = honest1} h live1 e less =
     subst (λ x. Tells told last reads0 reads1 writes0 writes1 true0 true1 honest0 honest1 live1 (Err x)) (sym less) (record { cause = tt; faults = h.faults; write_faults = h.write_faults; truthful = h.truthful; honest = h.honest })
 
+-- It stays so where all that can follow is want of memory.
+pub tells_or_full : {A : Type 0} {told : Option Bytes} {last : Last} {reads0 reads1 writes0 writes1 : ℕ} {true0 true1 honest0 honest1 : Type 0} {live : Live} (r : Result A VmFault) → Tells told last reads0 reads1 writes0 writes1 true0 true1 honest0 honest1 live (Ok tt)
+    → IfErr r (λ f. f ≡ vm_faults.NoMemory) → Tells told last reads0 reads1 writes0 writes1 true0 true1 honest0 honest1 live (read_of r)
+tells_or_full (Ok x) h full = h
+tells_or_full {live = live} (Err f) h full = tells_readless h live f (ap read_fault full)
+
 -- One call after another.
 pub tells_more : {told1 told2 : Option Bytes} {last1 last2 : Last} {reads0 reads1 reads2 writes0 writes1 writes2 : ℕ} {true0 true1 true2 honest0 honest1 honest2 : Type 0} {live1 live2 : Live} {r : Result (Unit {0}) EnterFault}
     → Tells told1 last1 reads0 reads1 writes0 writes1 true0 true1 honest0 honest1 live1 (Ok tt) → Tells told2 last2 reads1 reads2 writes1 writes2 true1 true2 honest1 honest2 live2 r
@@ -50,12 +57,12 @@ pub tells_brought : {A : Type 0} {told0 told1 : Option Bytes} {last : Last} {rea
     → Brings told0 told1 last reads0 reads1 writes0 writes1 true0 true1 honest0 honest1 live0 live1 (Ok x) → Tells told1 last reads0 reads1 writes0 writes1 true0 true1 honest0 honest1 live1 (Ok tt)
 tells_brought h = record { cause = tt; faults = h.faults; write_faults = h.write_faults; truthful = h.truthful; honest = λ z. ((h.honest z).0, λ t. tt) }
 
-fault_same : (A : Type 0) (e : EnterFault) → is_read_fault {A = A} (Err e) ≡ is_read_fault {A = Unit {0}} (Err e)
+pub fault_same : (A : Type 0) (e : EnterFault) → is_read_fault {A = A} (Err e) ≡ is_read_fault {A = Unit {0}} (Err e)
 fault_same A (enter_faults.Swap swap_causes.Read) = refl
 fault_same A (enter_faults.Swap (swap_causes.Changed who found)) = refl
 fault_same A enter_faults.NoMemory = refl
 
-fault_kept : (e : EnterFault) → e ≡ read_fault (fault_of e)
+pub fault_kept : (e : EnterFault) → e ≡ read_fault (fault_of e)
 fault_kept (enter_faults.Swap cause) = refl
 fault_kept enter_faults.NoMemory = refl
 

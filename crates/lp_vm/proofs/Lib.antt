@@ -12,6 +12,8 @@ pub mod Askings
 pub mod Reachings
 pub mod Answered
 pub mod Lookings
+pub mod Shadowings
+pub mod Keepings
 pub mod Behind
 pub mod Workings
 pub mod Cycling

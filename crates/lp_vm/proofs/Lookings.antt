@@ -77,7 +77,14 @@ module _ (at : Place) (efun : Efun) (live0 live1 : Live) (stack0 stack1 : List V
 pub begins_alone : (r : EfunBegun) (at : Place) (efun : Efun) (args : ℕ) (live0 live1 : Live) (stack0 stack1 : List Value) (asker0 asker1 : Asker) (budget0 budget1 : ℕ) (told : Option Bytes) → StartsEfun r at efun args live0 stack0 asker0 budget0 live1 stack1 asker1 budget1
     → BeginsEfun r at efun args told live0 stack0 asker0 budget0 told live1 stack1 asker1 budget1
 begins_alone (begun.Answered e) at efun args live0 live1 stack0 stack1 asker0 asker1 budget0 budget1 told h = h told
-begins_alone (begun.Works job) at efun args live0 live1 stack0 stack1 asker0 asker1 budget0 budget1 told h = (refl, h)
+begins_alone (begun.Works job) at efun args live0 live1 stack0 stack1 asker0 asker1 budget0 budget1 told h = record {
+  spends = h.spends;
+  fit = h.fit;
+  on = h.on;
+  ready = h.ready;
+  can = h.can told;
+  answers = h.answers told;
+}
 
 -- Why nothing was answered. Only what came into memory matters to that.
 

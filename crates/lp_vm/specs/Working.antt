@@ -1,5 +1,5 @@
 -- A job of an efun works for a course of the meaning.
-use Rattle.std.specs.Prelude.{◌≡◌, ◌++◌, ⊤, ℕ, List, Option, Some, None, codes, length, map, reverse}
+use Rattle.std.specs.Prelude.{◌≡◌, ◌++◌, ⊤, ℕ, List, Option, Some, None, length, map, reverse}
 use Rattle.lp_values.specs.declared.id.ObjId.{ObjId}
 use Rattle.lp_values.specs.declared.value.Value.{Value}
 use Rattle.lp_code.specs.declared.program.RawProgram.{RawProgram}
@@ -16,6 +16,7 @@ use Rattle.lp_calling.specs.declared.job.Job.{Job}
 use Rattle.lp_calling.specs.declared.job.Question.{Question}
 use Rattle.lp_calling.specs.declared.job.Question.TheVariants as questions
 use Rattle.lp_calling.specs.Jobs.{course_of}
+use Rattle.lp_calling.specs.Questions.{applied_name}
 use Rattle.lp_targets.specs.Callees.{IsWorldOf}
 use Rattle.lp_asking.specs.declared.asker.Asker.{Asker}
 use Rattle.lp_asking.specs.declared.ending.Ending.{Ending}
@@ -31,16 +32,16 @@ use Rattle.lp_vm.specs.Going.{IsOutcome}
 -- What a job asks
 
 -- On behalf of a function of this object that called its efun, a job asks so: for a function of another object as that
--- function would, for `catch_tell` as the driver applies it, with the object as the latest caller, and for a load.
+-- function would, for one as the driver applies it, with the object as the latest caller, and for a load.
 abbrev pub IsAskedSo : Question → Asker → ObjId → Ask → Type 0
 IsAskedSo (questions.Other ob name) asker this a = AsksOutside asker this ob name a
-IsAskedSo (questions.CatchTell ob) asker this a = Applies asker (Some this) ob (codes "catch_tell") a
+IsAskedSo (questions.Apply ob applied) asker this a = Applies asker (Some this) ob (applied_name applied) a
 IsAskedSo (questions.Load name) asker this a = a.what ≡ Load name Wanted
 
 -- it asks for a function
 abbrev pub IsCall : Question → Type 0
 IsCall (questions.Other ob name) = ⊤
-IsCall (questions.CatchTell ob) = ⊤
+IsCall (questions.Apply ob applied) = ⊤
 IsCall (questions.Load name) = ⊥
 
 -- in some world it asks so

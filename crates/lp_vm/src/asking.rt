@@ -12,6 +12,7 @@ ghost use Rattle.lp_vm.specs.Working.{CanReach, FindsAsked};
 use crate::fault::VmFault;
 use crate::naming::{name_of, spell};
 use lp_asking::truth::Truthful;
+use lp_calling::job::Applied;
 use lp_reaching::applying::find_applied;
 use lp_reaching::outside::find_outside;
 use lp_reaching::reached::Reached;
@@ -111,20 +112,21 @@ pub fn reach_other<W: Truthful>(
     reach_long(live, swap, this, ob, name)
 }
 
-/// `catch_tell` of an object, as an efun of this object applies it. What is needed for the function comes into memory.
+/// A function of an object, as an efun of this object applies it. What is needed for the function comes into memory.
 ///
 /// # Errors
 /// `NoMemory` and `Swap` as where a running function asks.
-pub fn reach_catch_tell<W: Truthful>(
+pub fn reach_applied<W: Truthful>(
     live: &mut Live,
     swap: &mut W,
     this: ObjId,
     ob: ObjId,
+    applied: Applied,
 ) -> Result<Option<Reached>, VmFault>
     requires closed { IsClosed live.old }
     requires object { IsSome (row_at live.old.objects ob.0) }
-    requires can { CanReach this (questions.CatchTell ob) (W.content swap.old) live.old }
-    ensures found { IfOk result (λ r. FindsAsked this (questions.CatchTell ob) (W.content swap.old) live.old (W.content swap.new) live.new r) }
+    requires can { CanReach this (questions.Apply ob applied) (W.content swap.old) live.old }
+    ensures found { IfOk result (λ r. FindsAsked this (questions.Apply ob applied) (W.content swap.old) live.old (W.content swap.new) live.new r) }
     ensures there { IfOk result (λ r. IfSome r (λ x. IsInMemory live.new x.callee x.code)) }
     ensures closed { IsClosed live.new }
     ensures home { KeepsVariables live.old.objects live.new.objects }
@@ -134,5 +136,5 @@ pub fn reach_catch_tell<W: Truthful>(
     ensures tells { Tells (W.content swap.new) (W.last swap.new) (W.read_faults swap.old) (W.read_faults swap.new) (W.write_faults swap.old) (W.write_faults swap.new)
         (W.is_truthful swap.old) (W.is_truthful swap.new) (W.is_honest swap.old) (W.is_honest swap.new) live.new (read_of result) }
 {
-    Ok(find_applied(live, swap, Some(this), ob, "catch_tell")?)
+    Ok(find_applied(live, swap, Some(this), ob, applied.name())?)
 }

@@ -1,6 +1,6 @@
 //! What is asked is answered: functions run, efuns work, commands are carried out, and files are loaded.
-ghost use Rattle.std.specs.Prelude.{IfOk, IsAscii, IsSome};
-ghost use Rattle.lp_calling.specs.Jobs.{IsJobOn, IsReady};
+ghost use Rattle.std.specs.Prelude.{IfOk, IsAscii, IsSome, Some};
+ghost use Rattle.lp_calling.specs.Jobs.{IsAsking, IsJobOn, IsReady};
 ghost use Rattle.lp_cloning.specs.declared.job.Cloning.TheVariants as stages;
 ghost use Rattle.lp_instr.specs.declared.efun.Efun.TheVariants as efuns;
 ghost use Rattle.lp_loading.specs.declared.job.Going.TheVariants as goings;
@@ -13,6 +13,7 @@ ghost use Rattle.lp_vm.specs.Cloning.{CanClone, Clones};
 ghost use Rattle.lp_vm.specs.Commanding.{CanCarryOut, CanObey, CarriesOut, Obeys};
 ghost use Rattle.lp_vm.specs.Cycle.{Answers, Finishes, Works};
 ghost use Rattle.lp_vm.specs.Going.{CanGo};
+ghost use Rattle.lp_vm.specs.Jobs.{StaysOn, StaysOnLoaded, TakesAnswer, TakesLoad, WorkTurnsTo};
 ghost use Rattle.lp_vm.specs.Loading.{CanLoad, CanLoadOn, Loads, LoadsOn};
 ghost use Rattle.lp_vm.specs.Making.{CanMake, Makes};
 ghost use Rattle.lp_vm.specs.Working.{CanWork};
@@ -29,7 +30,7 @@ use crate::loading::{answer_of, begin_load, feed_load, letters_of, pop_load, ste
 use crate::looking::start_efun;
 use crate::making::{ask_next, feed_on};
 use crate::request::Request;
-use crate::working::{Stepped, feed_back, step_job};
+use crate::working::{Stepped, feed_back, feed_loaded, step_job};
 use lp_asking::asker::Asker;
 use lp_asking::ending::{Ending, Place};
 use lp_asking::truth::Truthful;
@@ -80,6 +81,99 @@ pub fn answer<W: Truthful>(
     }
 }
 
+/// A job asks what reaches this, with so many arguments on top of the stack, which are taken: it goes on with what it is answered,
+/// or ends with that. Where `this_player()` was another one for the question it is put back.
+#[cycle(calls)]
+fn answer_job<W: Truthful>(
+    alloc: Global,
+    live: &mut Live,
+    swap: &mut W,
+    stack: &mut Vec<Value>,
+    asker: &mut Asker,
+    job: &mut Job,
+    reached: Option<Reached>,
+    args: u32,
+    budget: &mut u64,
+) -> Result<Option<Ending>, VmFault>
+    requires asking { IsAsking job.old }
+    requires fit { IsFit live.old stack.old.items }
+    requires can { CanServe (W.content swap.old) live.old stack.old.items asker.old budget.old (requests.Function reached) args }
+    requires on { StaysOn reached args job.old (W.content swap.old) live.old stack.old.items asker.old budget.old }
+    ensures takes { IfOk result (λ r. TakesAnswer r reached args job.old (W.content swap.old) live.old stack.old.items asker.old budget.old job.new (W.content swap.new) live.new stack.new.items asker.new budget.new) }
+    ensures tells { Tells (W.content swap.new) (W.last swap.new) (W.read_faults swap.old) (W.read_faults swap.new) (W.write_faults swap.old) (W.write_faults swap.new)
+        (W.is_truthful swap.old) (W.is_truthful swap.new) (W.is_honest swap.old) (W.is_honest swap.new) live.new (read_of result) }
+{
+    let ending = answer(alloc, live, swap, stack, asker, reached, args, budget)?;
+    feed_back(job, live, stack, asker, ending)
+}
+
+/// A job asks for a load by this name on behalf of the function at a place that called its efun: it goes on with how that ended, or
+/// ends with that. Where `this_player()` was another one for the question it is put back.
+#[cycle(calls)]
+fn load_job<W: Truthful>(
+    alloc: Global,
+    live: &mut Live,
+    swap: &mut W,
+    stack: &mut Vec<Value>,
+    asker: &mut Asker,
+    at: Place,
+    job: &mut Job,
+    name: Text,
+    budget: &mut u64,
+) -> Result<Option<Ending>, VmFault>
+    requires asking { IsAsking job.old }
+    requires fit { IsFit live.old stack.old.items }
+    requires can { CanLoad (Some at.this) (Some at) (W.content swap.old) live.old asker.old budget.old }
+    requires on { StaysOnLoaded at name job.old (W.content swap.old) live.old stack.old.items asker.old budget.old }
+    ensures takes { IfOk result (λ r. TakesLoad r at name job.old (W.content swap.old) live.old stack.old.items asker.old budget.old job.new (W.content swap.new) live.new stack.new.items asker.new budget.new) }
+    ensures tells { Tells (W.content swap.new) (W.last swap.new) (W.read_faults swap.old) (W.read_faults swap.new) (W.write_faults swap.old) (W.write_faults swap.new)
+        (W.is_truthful swap.old) (W.is_truthful swap.new) (W.is_honest swap.old) (W.is_honest swap.new) live.new (read_of result) }
+{
+    let answer = load(
+        alloc,
+        live,
+        swap,
+        stack,
+        asker,
+        Some(at.this),
+        Some(at),
+        name.as_slice(),
+        Purpose::Wanted,
+        budget,
+    )?;
+    feed_loaded(alloc, job, live, stack, asker, name, answer)
+}
+
+/// A job of an efun that the function at a place called takes one step: it ends, or asks, and goes on with what it is answered, or
+/// ends with that.
+#[cycle(calls)]
+fn turn_job<W: Truthful>(
+    alloc: Global,
+    live: &mut Live,
+    swap: &mut W,
+    stack: &mut Vec<Value>,
+    asker: &mut Asker,
+    at: Place,
+    job: &mut Job,
+    budget: &mut u64,
+) -> Result<Option<Ending>, VmFault>
+    requires on { IsJobOn job.old stack.old.items }
+    requires ready { IsReady live.old.objects job.old }
+    requires fit { IsFit live.old stack.old.items }
+    requires can { CanWork at job.old (W.content swap.old) live.old stack.old.items asker.old budget.old }
+    ensures turns { IfOk result (λ r. WorkTurnsTo r at job.old (W.content swap.old) live.old stack.old.items asker.old budget.old job.new (W.content swap.new) live.new stack.new.items asker.new budget.new) }
+    ensures tells { Tells (W.content swap.new) (W.last swap.new) (W.read_faults swap.old) (W.read_faults swap.new) (W.write_faults swap.old) (W.write_faults swap.new)
+        (W.is_truthful swap.old) (W.is_truthful swap.new) (W.is_honest swap.old) (W.is_honest swap.new) live.new (read_of result) }
+{
+    match step_job(live, swap, stack, asker, at, job, budget)? {
+        Stepped::Ended(ending) => Ok(Some(ending)),
+        Stepped::Asks(reached, args) => answer_job(
+            alloc, live, swap, stack, asker, job, reached, args, budget,
+        ),
+        Stepped::Loads(name) => load_job(alloc, live, swap, stack, asker, at, job, name, budget),
+    }
+}
+
 /// A job of an efun that the function at a place called goes on to its end.
 #[cycle(calls)]
 fn work<W: Truthful>(
@@ -101,32 +195,8 @@ fn work<W: Truthful>(
         (W.is_truthful swap.old) (W.is_truthful swap.new) (W.is_honest swap.old) (W.is_honest swap.new) live.new (read_of result) }
 {
     'questions: loop {
-        match step_job(live, swap, stack, asker, at, &mut job, budget)? {
-            Stepped::Ended(ending) => return Ok(ending),
-            Stepped::Asks(reached, args) => {
-                let ending = answer(alloc, live, swap, stack, asker, reached, args, budget)?;
-                if let Some(ending) = feed_back(&mut job, live, stack, ending)? {
-                    return Ok(ending);
-                }
-            }
-            Stepped::Loads(name) => {
-                let answer = load(
-                    alloc,
-                    live,
-                    swap,
-                    stack,
-                    asker,
-                    Some(at.this),
-                    Some(at),
-                    name.as_slice(),
-                    Purpose::Wanted,
-                    budget,
-                )?;
-                let ending = loaded_ending(alloc, &name, answer)?;
-                if let Some(ending) = feed_back(&mut job, live, stack, ending)? {
-                    return Ok(ending);
-                }
-            }
+        if let Some(ending) = turn_job(alloc, live, swap, stack, asker, at, &mut job, budget)? {
+            return Ok(ending);
         }
     }
 }

@@ -1,4 +1,4 @@
-//! Efuns that a running function calls begin, also those for which a program comes into memory.
+//! Efuns that a running function calls begin, also those for which programs come into memory.
 ghost use Rattle.std.specs.Prelude.{◌≡◌, All, IfErr, IfOk, IsSome, true};
 ghost use Rattle.lp_cells.specs.Cells.{IsThere};
 ghost use Rattle.lp_world.specs.Closed.{IsClosed};
@@ -15,6 +15,7 @@ ghost use Rattle.lp_vm.specs.Looking.{BeginsEfun, IsMissing};
 
 use crate::efuns::{EfunBegun, begin_efun, ending_of, topmost};
 use crate::fault::VmFault;
+use crate::shadowing::{is_shadow, shadowing};
 use lp_asking::asker::Asker;
 use lp_asking::ending::Place;
 use lp_asking::resume::drop_top;
@@ -101,7 +102,8 @@ fn looking<W: Truthful>(
 }
 
 /// An efun begins that the function at a place calls, with so many arguments on top of the stack, which are taken: it is
-/// answered, or goes on as a job. The program comes into memory into which an efun about a function of an object looks.
+/// answered, or goes on as a job. The program comes into memory into which an efun about a function of an object looks, and so do those
+/// of both objects where one is to shadow the other.
 ///
 /// # Errors
 /// `NoMemory` and `Swap` of such an efun; `NoMemory` of every other efun; `NotYet` of an efun that is not carried out yet.
@@ -124,6 +126,9 @@ pub fn start_efun<W: Truthful>(
 {
     if is_with_program(efun) {
         return looking(live, swap, stack, asker, at, efun, args, budget);
+    }
+    if is_shadow(efun) {
+        return shadowing(live, swap, stack, asker, at, efun, args, budget);
     }
     begin_efun(live, stack, asker, at, efun, args, budget)
 }

@@ -38,4 +38,4 @@ returns-in-None-clause-begins c =
     let low : c.len.result - a.args ≡ length a.stack.now.items - a.args = search rules in
     let q = paid_is (nat_lt a.budget.now before) c.pay_wide-is_paid.result before a.budget.now paid c.pay_wide-is_paid.ensures c.if-not-is_paid.false in
     IfOk-weaker c.start.result _ _
-    (λ r k. start_begins a.efun a.live.now a.stack.now.items (c.len.result - a.args) a.args a.budget.now c.requires.fit.there c.requires.args low r before paid a.caller.now c.start.new.stack.items c.requires.calling q.0 q.1 c.price_above-before.ensures c.in-None.ensures k) c.start.ensures.starts
+    (λ r k. start_begins a.efun a.live.now a.stack.now.items (c.len.result - a.args) a.args a.budget.now c.requires.fit.there c.requires.args low r before paid a.caller.now c.start.new.stack.items q.0 q.1 c.price_above-before.ensures c.in-None.ensures k) c.start.ensures.starts

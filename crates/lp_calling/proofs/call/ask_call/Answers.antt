@@ -8,5 +8,5 @@ use Rattle.lp_calling.proofs.call.ask_call.Goals as goal
 
 pub returns-clause-goes : goal.returns-clause-goes
 returns-clause-goes c = λ live turn budget.
-    subst (λ m. StageGoes (steps.Asks (questions.Other c.args.o m) c.count_behind-n.result) c.args.efun (stages.Call c.args.o c.args.name.now) c.args.low live turn c.args.stack.now.items budget live c.args.stack.now.items budget) (sym c.in_ok-copy.ensures)
+    subst (λ m. StageGoes (steps.Asks (questions.Other c.args.o m) c.count_behind-n.result) c.args.efun (stages.Call c.args.o c.args.name.now) c.args.low live turn c.args.stack.now.items budget live turn c.args.stack.now.items budget) (sym c.in_ok-copy.ensures)
     (call_asks c.args.efun c.args.o c.args.name.now c.args.low c.count_behind-n.result c.args.stack.now.items live turn budget c.count_behind-n.ensures)

@@ -8,5 +8,5 @@ use Rattle.lp_calling.proofs.ends.end_error.Goals as goal
 
 pub returns-clause-goes : goal.returns-clause-goes
 returns-clause-goes c = λ efun live turn budget.
-    subst (λ x. StageGoes (steps.Ends (answers.Error x)) efun (stages.Error c.args.kind) c.args.low live turn c.args.stack.now.items budget live c.cut.new.stack.items budget) (sym c.in_ok-error.ensures)
+    subst (λ x. StageGoes (steps.Ends (answers.Error x)) efun (stages.Error c.args.kind) c.args.low live turn c.args.stack.now.items budget live turn c.cut.new.stack.items budget) (sym c.in_ok-error.ensures)
     (error_goes efun c.args.kind c.args.low c.args.stack.now.items c.cut.new.stack.items live turn budget c.cut.ensures.items)

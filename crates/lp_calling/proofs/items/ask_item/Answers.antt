@@ -10,7 +10,7 @@ use Rattle.lp_calling.proofs.items.ask_item.Goals as goal
 pub returns-clause-goes : goal.returns-clause-goes
 returns-clause-goes c = λ efun live turn budget l.
     let a = c.args in
-    subst (λ m. StageGoes (steps.Asks (questions.Other a.round.now.object m) (1 + c.saturating_sub.result)) efun (stages.Items a.round.now) a.low live turn a.stack.now.items budget live c.lay_question.new.stack.items budget) (sym c.in_ok-copy.ensures)
+    subst (λ m. StageGoes (steps.Asks (questions.Other a.round.now.object m) (1 + c.saturating_sub.result)) efun (stages.Items a.round.now) a.low live turn a.stack.now.items budget live turn c.lay_question.new.stack.items budget) (sym c.in_ok-copy.ensures)
     (item_asks efun a.round.now a.low (1 + c.saturating_sub.result) a.stack.now.items c.lay_question.new.stack.items live turn budget c.requires.room c.requires.left l (ap (λ k. 1 + k) c.saturating_sub.ensures) c.in_ok-lay_question.ensures)
 
 pub returns-clause-fit : goal.returns-clause-fit

@@ -7,15 +7,13 @@ use Rattle.lp_asking.specs.Resuming.{Resumes}
 use Rattle.lp_vm.specs.Beginning.{HasEntered, Starts}
 use Rattle.lp_vm.specs.declared.request.Request.TheVariants as requests
 use Rattle.lp_vm.specs.Cycle.{Answers}
-use Rattle.lp_vm.specs.Efuns.{HasBegunEfun}
-use Rattle.lp_vm.specs.Looking.{BeginsEfun}
+use Rattle.lp_vm.specs.Looking.{BeginsEfun, HasBegunWith}
 use Rattle.lp_asking.specs.Endings.{IsEndingThere}
-use Rattle.lp_vm.specs.Jobs.{FedOn, Feeds, StepsTo, WorkAsks, WorkLoads}
+use Rattle.lp_vm.specs.Jobs.{StepsTo, WorkAsks, WorkGoesOn, WorkLoads, WorkTurnsTo}
 use Rattle.lp_vm.specs.Turns.{Calls, Halts}
-use Rattle.lp_vm.specs.Working.{CanWork, WorkContinues}
-use Rattle.lp_vm.proofs.Workings.{asked_ends, can_work_on, loaded_ends, works_later, works_more, works_same}
+use Rattle.lp_vm.proofs.Workings.{asked_turns, can_work_on, loaded_turns, taken_answer, taken_load, works_later, works_more, works_same}
 use Rattle.lp_targets.proofs.Lookups.{if_ok}
-use Rattle.lp_vm.proofs.Causing.{tells_more, tells_nothing, read_exit}
+use Rattle.lp_vm.proofs.Causing.{read_exit, tells_more, tells_nothing, tells_or_full}
 use Rattle.lp_vm.proofs.Cycling.{call_can, call_continues, call_finishes, finishes_later}
 use Rattle.lp_vm.proofs.Enterings.{goes_on_more, goes_on_same}
 use Rattle.lp_vm.proofs.Startings.{enough, same_asker, same_later}
@@ -154,21 +152,95 @@ call_efun-returns-in-Answered-clause-answers g t c = subst (λ r. BeginsEfun r c
 
 pub call_efun-work-requires : goal.call_efun-work-requires
 call_efun-work-requires g t c =
-    let h : (g.W.SwapFile.content c.start_efun.new.swap ≡ g.W.SwapFile.content c.args.swap.now) × HasBegunEfun c.args.at c.args.efun c.args.args c.args.live.now c.args.stack.now.items c.args.asker.now c.args.budget.now c.in-Works.job c.start_efun.new.live c.start_efun.new.stack.items c.start_efun.new.asker c.start_efun.new.budget =
+    let h : HasBegunWith c.args.at c.args.efun c.args.args (g.W.SwapFile.content c.args.swap.now) c.args.live.now c.args.stack.now.items c.args.asker.now c.args.budget.now c.in-Works.job (g.W.SwapFile.content c.start_efun.new.swap) c.start_efun.new.live c.start_efun.new.stack.items c.start_efun.new.asker c.start_efun.new.budget =
     subst (λ r. BeginsEfun r c.args.at c.args.efun c.args.args (g.W.SwapFile.content c.args.swap.now) c.args.live.now c.args.stack.now.items c.args.asker.now c.args.budget.now (g.W.SwapFile.content c.start_efun.new.swap) c.start_efun.new.live c.start_efun.new.stack.items c.start_efun.new.asker c.start_efun.new.budget) c.in-Works.is c.in_ok-ending.ensures.begins in
-    let less = h.1.spends in
-    λ κs within. (omega (arith, less), (within, (h.1.on, (h.1.ready, (h.1.fit, subst (λ x. CanWork c.args.at c.in-Works.job x c.start_efun.new.live c.start_efun.new.stack.items c.start_efun.new.asker c.start_efun.new.budget) (sym h.0) (h.1.can (g.W.SwapFile.content c.args.swap.now) c.requires.can))))))
+    let less = h.spends in
+    λ κs within. (omega (arith, less), (within, (h.on, (h.ready, (h.fit, h.can c.requires.can)))))
 
 pub call_efun-returns-in-Works-clause-answers : goal.call_efun-returns-in-Works-clause-answers
 call_efun-returns-in-Works-clause-answers g t c =
-    let h : (g.W.SwapFile.content c.start_efun.new.swap ≡ g.W.SwapFile.content c.args.swap.now) × HasBegunEfun c.args.at c.args.efun c.args.args c.args.live.now c.args.stack.now.items c.args.asker.now c.args.budget.now c.in-Works.job c.start_efun.new.live c.start_efun.new.stack.items c.start_efun.new.asker c.start_efun.new.budget =
+    let h : HasBegunWith c.args.at c.args.efun c.args.args (g.W.SwapFile.content c.args.swap.now) c.args.live.now c.args.stack.now.items c.args.asker.now c.args.budget.now c.in-Works.job (g.W.SwapFile.content c.start_efun.new.swap) c.start_efun.new.live c.start_efun.new.stack.items c.start_efun.new.asker c.start_efun.new.budget =
     subst (λ r. BeginsEfun r c.args.at c.args.efun c.args.args (g.W.SwapFile.content c.args.swap.now) c.args.live.now c.args.stack.now.items c.args.asker.now c.args.budget.now (g.W.SwapFile.content c.start_efun.new.swap) c.start_efun.new.live c.start_efun.new.stack.items c.start_efun.new.asker c.start_efun.new.budget) c.in-Works.is c.in_ok-ending.ensures.begins in
-    if_ok c.work.result
-    (λ e works. subst (λ x. Answers (requests.Efun c.args.at c.args.efun) c.args.args x c.args.live.now c.args.stack.now.items c.args.asker.now c.args.budget.now (g.W.SwapFile.content c.work.new.swap) c.work.new.live c.work.new.stack.items c.work.new.asker c.work.new.budget e) h.0
-    (h.1.answers (g.W.SwapFile.content c.start_efun.new.swap) (g.W.SwapFile.content c.work.new.swap) c.work.new.live c.work.new.stack.items c.work.new.asker c.work.new.budget e works))
-    c.work.ensures.works
+    if_ok c.work.result (λ e works. h.answers (g.W.SwapFile.content c.work.new.swap) c.work.new.live c.work.new.stack.items c.work.new.asker c.work.new.budget e works) c.work.ensures.works
 
 -- Jobs
+
+-- one is answered, ..
+
+pub answer_job-answer-requires : goal.answer_job-answer-requires
+answer_job-answer-requires g t c = λ κs within. (omega arith, (within, (c.requires.fit, c.requires.can)))
+
+pub answer_job-feed_back-requires-clause-on : goal.answer_job-feed_back-requires-clause-on
+answer_job-feed_back-requires-clause-on g t c = c.requires.on (g.W.SwapFile.content c.answer.new.swap) c.answer.new.live c.answer.new.stack.items c.answer.new.asker c.answer.new.budget c.in_ok-ending.ending c.in_ok-ending.ensures.answers
+
+pub answer_job-returns-clause-takes : goal.answer_job-returns-clause-takes
+answer_job-returns-clause-takes g t c =
+    taken_answer c.feed_back.result c.args.reached c.args.args c.args.job.now c.feed_back.new.job (g.W.SwapFile.content c.args.swap.now) (g.W.SwapFile.content c.answer.new.swap) c.args.live.now c.answer.new.live c.args.stack.now.items c.answer.new.stack.items c.feed_back.new.stack.items
+    c.args.asker.now c.answer.new.asker c.feed_back.new.asker c.args.budget.now c.answer.new.budget c.in_ok-ending.ending c.in_ok-ending.ensures.answers c.feed_back.ensures.back c.feed_back.ensures.feeds c.feed_back.ensures.on c.feed_back.ensures.fit c.feed_back.ensures.same
+
+pub answer_job-returns-clause-tells : goal.answer_job-returns-clause-tells
+answer_job-returns-clause-tells g t c = tells_or_full c.feed_back.result c.in_ok-ending.ensures.tells c.feed_back.ensures.fault
+
+-- .. or what it asked for is loaded;
+
+pub load_job-load-requires : goal.load_job-load-requires
+load_job-load-requires g t c = λ κs within. (omega arith, (within, (c.requires.fit, c.requires.can)))
+
+pub load_job-feed_loaded-requires-clause-on : goal.load_job-feed_loaded-requires-clause-on
+load_job-feed_loaded-requires-clause-on g t c =
+    let loads : Loads (Some c.args.at.this) (Some c.args.at) c.args.name purposes.Wanted (g.W.SwapFile.content c.args.swap.now) c.args.live.now c.args.stack.now.items c.args.asker.now c.args.budget.now (g.W.SwapFile.content c.load.new.swap) c.load.new.live c.load.new.stack.items c.load.new.asker c.load.new.budget c.in_ok-answer.answer =
+    subst (λ n. Loads (Some c.args.at.this) (Some c.args.at) n purposes.Wanted (g.W.SwapFile.content c.args.swap.now) c.args.live.now c.args.stack.now.items c.args.asker.now c.args.budget.now (g.W.SwapFile.content c.load.new.swap) c.load.new.live c.load.new.stack.items c.load.new.asker c.load.new.budget c.in_ok-answer.answer) c.as_slice.ensures c.in_ok-answer.ensures.loads in
+    c.requires.on (g.W.SwapFile.content c.load.new.swap) c.load.new.live c.load.new.stack.items c.load.new.asker c.load.new.budget c.in_ok-answer.answer loads
+
+pub load_job-returns-clause-takes : goal.load_job-returns-clause-takes
+load_job-returns-clause-takes g t c =
+    let loads : Loads (Some c.args.at.this) (Some c.args.at) c.args.name purposes.Wanted (g.W.SwapFile.content c.args.swap.now) c.args.live.now c.args.stack.now.items c.args.asker.now c.args.budget.now (g.W.SwapFile.content c.load.new.swap) c.load.new.live c.load.new.stack.items c.load.new.asker c.load.new.budget c.in_ok-answer.answer =
+    subst (λ n. Loads (Some c.args.at.this) (Some c.args.at) n purposes.Wanted (g.W.SwapFile.content c.args.swap.now) c.args.live.now c.args.stack.now.items c.args.asker.now c.args.budget.now (g.W.SwapFile.content c.load.new.swap) c.load.new.live c.load.new.stack.items c.load.new.asker c.load.new.budget c.in_ok-answer.answer) c.as_slice.ensures c.in_ok-answer.ensures.loads in
+    taken_load c.feed_loaded.result c.args.at c.args.name c.args.job.now c.feed_loaded.new.job (g.W.SwapFile.content c.args.swap.now) (g.W.SwapFile.content c.load.new.swap) c.args.live.now c.load.new.live c.args.stack.now.items c.load.new.stack.items c.feed_loaded.new.stack.items
+    c.args.asker.now c.load.new.asker c.feed_loaded.new.asker c.args.budget.now c.load.new.budget c.in_ok-answer.answer loads c.feed_loaded.ensures.back c.feed_loaded.ensures.feeds c.feed_loaded.ensures.on c.feed_loaded.ensures.fit c.feed_loaded.ensures.there
+
+pub load_job-returns-clause-tells : goal.load_job-returns-clause-tells
+load_job-returns-clause-tells g t c = tells_or_full c.feed_loaded.result c.in_ok-answer.ensures.tells c.feed_loaded.ensures.fault
+
+-- one step,
+
+pub turn_job-returns-in-Ended-clause-turns : goal.turn_job-returns-in-Ended-clause-turns
+turn_job-returns-in-Ended-clause-turns g t c =
+    subst (λ x. StepsTo x c.args.at c.args.job.now (g.W.SwapFile.content c.args.swap.now) c.args.live.now c.args.stack.now.items c.args.asker.now c.args.budget.now c.step_job.new.job (g.W.SwapFile.content c.step_job.new.swap) c.step_job.new.live c.step_job.new.stack.items c.step_job.new.asker c.step_job.new.budget) c.in-Ended.is c.in_ok-ending.ensures.steps
+
+pub turn_job-answer_job-requires : goal.turn_job-answer_job-requires
+turn_job-answer_job-requires g t c =
+    let k : WorkAsks c.in-Asks.reached c.in-Asks.args c.args.at c.args.job.now (g.W.SwapFile.content c.args.swap.now) c.args.live.now c.args.stack.now.items c.args.asker.now c.args.budget.now c.step_job.new.job (g.W.SwapFile.content c.step_job.new.swap) c.step_job.new.live c.step_job.new.stack.items c.step_job.new.asker c.step_job.new.budget =
+    subst (λ x. StepsTo x c.args.at c.args.job.now (g.W.SwapFile.content c.args.swap.now) c.args.live.now c.args.stack.now.items c.args.asker.now c.args.budget.now c.step_job.new.job (g.W.SwapFile.content c.step_job.new.swap) c.step_job.new.live c.step_job.new.stack.items c.step_job.new.asker c.step_job.new.budget) c.in-Asks.is c.in_ok-ending.ensures.steps in
+    let less = k.spends in
+    λ κs within. (omega (arith, less), (within, (k.asking, (k.fit, (k.can c.requires.can, λ told live stack asker budget e answers. k.on told live stack asker budget e c.requires.can answers)))))
+
+pub turn_job-returns-in-Asks-clause-turns : goal.turn_job-returns-in-Asks-clause-turns
+turn_job-returns-in-Asks-clause-turns g t c =
+    let k : WorkAsks c.in-Asks.reached c.in-Asks.args c.args.at c.args.job.now (g.W.SwapFile.content c.args.swap.now) c.args.live.now c.args.stack.now.items c.args.asker.now c.args.budget.now c.step_job.new.job (g.W.SwapFile.content c.step_job.new.swap) c.step_job.new.live c.step_job.new.stack.items c.step_job.new.asker c.step_job.new.budget =
+    subst (λ x. StepsTo x c.args.at c.args.job.now (g.W.SwapFile.content c.args.swap.now) c.args.live.now c.args.stack.now.items c.args.asker.now c.args.budget.now c.step_job.new.job (g.W.SwapFile.content c.step_job.new.swap) c.step_job.new.live c.step_job.new.stack.items c.step_job.new.asker c.step_job.new.budget) c.in-Asks.is c.in_ok-ending.ensures.steps in
+    if_ok c.answer_job.result
+    (λ r takes. asked_turns r c.args.at c.args.job.now c.step_job.new.job c.answer_job.new.job c.in-Asks.reached c.in-Asks.args (g.W.SwapFile.content c.args.swap.now) (g.W.SwapFile.content c.step_job.new.swap) (g.W.SwapFile.content c.answer_job.new.swap) c.args.live.now c.step_job.new.live c.answer_job.new.live
+    c.args.stack.now.items c.step_job.new.stack.items c.answer_job.new.stack.items c.args.asker.now c.step_job.new.asker c.answer_job.new.asker c.args.budget.now c.step_job.new.budget c.answer_job.new.budget k takes)
+    c.answer_job.ensures.takes
+
+pub turn_job-load_job-requires : goal.turn_job-load_job-requires
+turn_job-load_job-requires g t c =
+    let k : WorkLoads c.in-Loads.name c.args.at c.args.job.now (g.W.SwapFile.content c.args.swap.now) c.args.live.now c.args.stack.now.items c.args.asker.now c.args.budget.now c.step_job.new.job (g.W.SwapFile.content c.step_job.new.swap) c.step_job.new.live c.step_job.new.stack.items c.step_job.new.asker c.step_job.new.budget =
+    subst (λ x. StepsTo x c.args.at c.args.job.now (g.W.SwapFile.content c.args.swap.now) c.args.live.now c.args.stack.now.items c.args.asker.now c.args.budget.now c.step_job.new.job (g.W.SwapFile.content c.step_job.new.swap) c.step_job.new.live c.step_job.new.stack.items c.step_job.new.asker c.step_job.new.budget) c.in-Loads.is c.in_ok-ending.ensures.steps in
+    let less = k.spends in
+    λ κs within. (omega (arith, less), (within, (k.asking, (k.fit, (k.can c.requires.can, λ told live stack asker budget r loads. k.on told live stack asker budget r c.requires.can loads)))))
+
+pub turn_job-returns-in-Loads-clause-turns : goal.turn_job-returns-in-Loads-clause-turns
+turn_job-returns-in-Loads-clause-turns g t c =
+    let k : WorkLoads c.in-Loads.name c.args.at c.args.job.now (g.W.SwapFile.content c.args.swap.now) c.args.live.now c.args.stack.now.items c.args.asker.now c.args.budget.now c.step_job.new.job (g.W.SwapFile.content c.step_job.new.swap) c.step_job.new.live c.step_job.new.stack.items c.step_job.new.asker c.step_job.new.budget =
+    subst (λ x. StepsTo x c.args.at c.args.job.now (g.W.SwapFile.content c.args.swap.now) c.args.live.now c.args.stack.now.items c.args.asker.now c.args.budget.now c.step_job.new.job (g.W.SwapFile.content c.step_job.new.swap) c.step_job.new.live c.step_job.new.stack.items c.step_job.new.asker c.step_job.new.budget) c.in-Loads.is c.in_ok-ending.ensures.steps in
+    if_ok c.load_job.result
+    (λ r takes. loaded_turns r c.args.at c.args.job.now c.step_job.new.job c.load_job.new.job c.in-Loads.name (g.W.SwapFile.content c.args.swap.now) (g.W.SwapFile.content c.step_job.new.swap) (g.W.SwapFile.content c.load_job.new.swap) c.args.live.now c.step_job.new.live c.load_job.new.live
+    c.args.stack.now.items c.step_job.new.stack.items c.load_job.new.stack.items c.args.asker.now c.step_job.new.asker c.load_job.new.asker c.args.budget.now c.step_job.new.budget c.load_job.new.budget k takes)
+    c.load_job.ensures.takes
+
+-- and one after another
 
 pub work-questions-init : goal.work-questions-init
 work-questions-init g t c = record {
@@ -183,128 +255,36 @@ work-questions-init g t c = record {
   goes = works_same c.args.at c.args.job (g.W.SwapFile.content c.args.swap.now) c.args.live.now c.args.stack.now.items c.args.asker.now c.args.budget.now;
 }
 
-pub work-returns-in-Ended-clause-works : goal.work-returns-in-Ended-clause-works
-work-returns-in-Ended-clause-works g t c =
-    works_later c.args.at c.args.job c.questions.job (g.W.SwapFile.content c.args.swap.now) (g.W.SwapFile.content c.questions.swap) (g.W.SwapFile.content c.step_job.new.swap) c.args.live.now c.questions.live c.step_job.new.live c.args.stack.now.items c.questions.stack.items c.step_job.new.stack.items
-    c.args.asker.now c.questions.asker c.questions.asker c.args.budget.now c.questions.budget c.step_job.new.budget c.in-Ended.ending c.questions.invariant.goes c.questions.invariant.same c.questions.invariant.spends c.questions.invariant.home
-    (subst (λ x. StepsTo x c.args.at c.questions.job (g.W.SwapFile.content c.questions.swap) c.questions.live c.questions.stack.items c.questions.asker c.questions.budget c.step_job.new.job (g.W.SwapFile.content c.step_job.new.swap) c.step_job.new.live c.step_job.new.stack.items c.step_job.new.budget) c.in-Ended.is c.in_ok-ending.ensures.steps)
-
-pub work-answer-requires : goal.work-answer-requires
-work-answer-requires g t c =
-    let k : WorkAsks c.in-Asks.reached c.in-Asks.args c.args.at c.questions.job (g.W.SwapFile.content c.questions.swap) c.questions.live c.questions.stack.items c.questions.asker c.questions.budget c.step_job.new.job (g.W.SwapFile.content c.step_job.new.swap) c.step_job.new.live c.step_job.new.stack.items c.step_job.new.budget =
-    subst (λ x. StepsTo x c.args.at c.questions.job (g.W.SwapFile.content c.questions.swap) c.questions.live c.questions.stack.items c.questions.asker c.questions.budget c.step_job.new.job (g.W.SwapFile.content c.step_job.new.swap) c.step_job.new.live c.step_job.new.stack.items c.step_job.new.budget) c.in-Asks.is c.in_ok-ending.ensures.steps in
-    let less = k.spends in
+pub work-turn_job-requires : goal.work-turn_job-requires
+work-turn_job-requires g t c =
     let more = c.questions.invariant.spends in
-    λ κs within. (omega (arith, less, more), (within, (k.fit, k.can c.questions.invariant.can)))
-
-pub work-feed_back-requires-clause-on : goal.work-feed_back-requires-clause-on
-work-feed_back-requires-clause-on g t c =
-    let k : WorkAsks c.in-Asks.reached c.in-Asks.args c.args.at c.questions.job (g.W.SwapFile.content c.questions.swap) c.questions.live c.questions.stack.items c.questions.asker c.questions.budget c.step_job.new.job (g.W.SwapFile.content c.step_job.new.swap) c.step_job.new.live c.step_job.new.stack.items c.step_job.new.budget =
-    subst (λ x. StepsTo x c.args.at c.questions.job (g.W.SwapFile.content c.questions.swap) c.questions.live c.questions.stack.items c.questions.asker c.questions.budget c.step_job.new.job (g.W.SwapFile.content c.step_job.new.swap) c.step_job.new.live c.step_job.new.stack.items c.step_job.new.budget) c.in-Asks.is c.in_ok-ending.ensures.steps in
-    k.on (g.W.SwapFile.content c.answer.new.swap) c.answer.new.live c.answer.new.stack.items c.answer.new.asker c.answer.new.budget c.in_ok-ending-in-Asks.ending c.questions.invariant.can c.in_ok-ending-in-Asks.ensures.answers
-
-pub work-feed_back-requires-clause-asking : goal.work-feed_back-requires-clause-asking
-work-feed_back-requires-clause-asking g t c =
-    let k : WorkAsks c.in-Asks.reached c.in-Asks.args c.args.at c.questions.job (g.W.SwapFile.content c.questions.swap) c.questions.live c.questions.stack.items c.questions.asker c.questions.budget c.step_job.new.job (g.W.SwapFile.content c.step_job.new.swap) c.step_job.new.live c.step_job.new.stack.items c.step_job.new.budget =
-    subst (λ x. StepsTo x c.args.at c.questions.job (g.W.SwapFile.content c.questions.swap) c.questions.live c.questions.stack.items c.questions.asker c.questions.budget c.step_job.new.job (g.W.SwapFile.content c.step_job.new.swap) c.step_job.new.live c.step_job.new.stack.items c.step_job.new.budget) c.in-Asks.is c.in_ok-ending.ensures.steps in
-    k.asking
+    λ κs within. (omega (arith, more), (within, (c.questions.invariant.on, (c.questions.invariant.ready, (c.questions.invariant.fit, c.questions.invariant.can)))))
 
 pub work-returns-in-Some-clause-works : goal.work-returns-in-Some-clause-works
 work-returns-in-Some-clause-works g t c =
-    let k : WorkAsks c.in-Asks.reached c.in-Asks.args c.args.at c.questions.job (g.W.SwapFile.content c.questions.swap) c.questions.live c.questions.stack.items c.questions.asker c.questions.budget c.step_job.new.job (g.W.SwapFile.content c.step_job.new.swap) c.step_job.new.live c.step_job.new.stack.items c.step_job.new.budget =
-    subst (λ x. StepsTo x c.args.at c.questions.job (g.W.SwapFile.content c.questions.swap) c.questions.live c.questions.stack.items c.questions.asker c.questions.budget c.step_job.new.job (g.W.SwapFile.content c.step_job.new.swap) c.step_job.new.live c.step_job.new.stack.items c.step_job.new.budget) c.in-Asks.is c.in_ok-ending.ensures.steps in
-    works_later c.args.at c.args.job c.questions.job (g.W.SwapFile.content c.args.swap.now) (g.W.SwapFile.content c.questions.swap) (g.W.SwapFile.content c.answer.new.swap) c.args.live.now c.questions.live c.answer.new.live c.args.stack.now.items c.questions.stack.items c.feed_back.new.stack.items
-    c.args.asker.now c.questions.asker c.answer.new.asker c.args.budget.now c.questions.budget c.answer.new.budget c.in-Some.ending c.questions.invariant.goes c.questions.invariant.same c.questions.invariant.spends c.questions.invariant.home
-    (asked_ends c.args.at c.questions.job c.step_job.new.job c.feed_back.new.job c.in-Asks.reached c.in-Asks.args (g.W.SwapFile.content c.questions.swap) (g.W.SwapFile.content c.step_job.new.swap) (g.W.SwapFile.content c.answer.new.swap) c.questions.live c.step_job.new.live c.answer.new.live
-    c.questions.stack.items c.step_job.new.stack.items c.answer.new.stack.items c.feed_back.new.stack.items c.questions.asker c.answer.new.asker c.questions.budget c.step_job.new.budget c.answer.new.budget c.in_ok-ending-in-Asks.ending c.in-Some.ending k c.in_ok-ending-in-Asks.ensures.answers
-    (subst (λ r. Feeds r c.in_ok-ending-in-Asks.ending c.step_job.new.job c.answer.new.live c.answer.new.stack.items c.feed_back.new.job c.feed_back.new.stack.items) c.in-Some.is c.in_ok-ending-in-Asks-2.ensures.feeds)
-    (subst (λ r. IfSome r (λ e. e ≡ c.in_ok-ending-in-Asks.ending)) c.in-Some.is c.in_ok-ending-in-Asks-2.ensures.same) c.in_ok-ending-in-Asks-2.ensures.fit)
-
-pub work-questions-preserved-in_default : goal.work-questions-preserved-in_default
-work-questions-preserved-in_default g t c =
-    let k : WorkAsks c.in-Asks.reached c.in-Asks.args c.args.at c.questions.job (g.W.SwapFile.content c.questions.swap) c.questions.live c.questions.stack.items c.questions.asker c.questions.budget c.step_job.new.job (g.W.SwapFile.content c.step_job.new.swap) c.step_job.new.live c.step_job.new.stack.items c.step_job.new.budget =
-    subst (λ x. StepsTo x c.args.at c.questions.job (g.W.SwapFile.content c.questions.swap) c.questions.live c.questions.stack.items c.questions.asker c.questions.budget c.step_job.new.job (g.W.SwapFile.content c.step_job.new.swap) c.step_job.new.live c.step_job.new.stack.items c.step_job.new.budget) c.in-Asks.is c.in_ok-ending.ensures.steps in
-    let on : FedOn None c.step_job.new.job c.feed_back.new.job c.answer.new.live c.feed_back.new.stack.items = subst (λ r. FedOn r c.step_job.new.job c.feed_back.new.job c.answer.new.live c.feed_back.new.stack.items) c.in_default.is c.in_ok-ending-in-Asks-2.ensures.on in
-    let more : WorkContinues c.args.at c.questions.job (g.W.SwapFile.content c.questions.swap) c.questions.live c.questions.stack.items c.questions.asker c.questions.budget c.feed_back.new.job (g.W.SwapFile.content c.answer.new.swap) c.answer.new.live c.feed_back.new.stack.items c.answer.new.asker c.answer.new.budget =
-    k.turns c.feed_back.new.job (g.W.SwapFile.content c.answer.new.swap) c.answer.new.live c.answer.new.stack.items c.feed_back.new.stack.items c.answer.new.asker c.answer.new.budget c.in_ok-ending-in-Asks.ending None c.in_ok-ending-in-Asks.ensures.answers
-    (subst (λ r. Feeds r c.in_ok-ending-in-Asks.ending c.step_job.new.job c.answer.new.live c.answer.new.stack.items c.feed_back.new.job c.feed_back.new.stack.items) c.in_default.is c.in_ok-ending-in-Asks-2.ensures.feeds) in
-    record {
-      can = can_work_on c.args.at c.questions.job c.feed_back.new.job (g.W.SwapFile.content c.questions.swap) (g.W.SwapFile.content c.answer.new.swap) c.questions.live c.answer.new.live c.questions.stack.items c.feed_back.new.stack.items c.questions.asker c.answer.new.asker c.questions.budget c.answer.new.budget c.questions.invariant.can more;
-      on = on.0;
-      ready = on.1;
-      fit = c.in_ok-ending-in-Asks-2.ensures.fit;
-      same = same_later c.args.asker.now c.questions.asker c.answer.new.asker c.questions.invariant.same c.in_ok-ending-in-Asks.ensures.answers.same;
-      spends = le_trans (le_trans c.in_ok-ending-in-Asks.ensures.answers.spends k.spends) c.questions.invariant.spends;
-      home = home_later c.args.live.now.objects c.questions.live.objects c.answer.new.live.objects c.questions.invariant.home (home_later c.questions.live.objects c.step_job.new.live.objects c.answer.new.live.objects k.home c.in_ok-ending-in-Asks.ensures.answers.home);
-      tells = tells_more c.questions.invariant.tells (tells_more c.in_ok-ending.ensures.tells c.in_ok-ending-in-Asks.ensures.tells);
-      goes = works_more c.args.at c.args.job c.questions.job c.feed_back.new.job (g.W.SwapFile.content c.args.swap.now) (g.W.SwapFile.content c.questions.swap) (g.W.SwapFile.content c.answer.new.swap) c.args.live.now c.questions.live c.answer.new.live c.args.stack.now.items c.questions.stack.items c.feed_back.new.stack.items
-          c.args.asker.now c.questions.asker c.answer.new.asker c.args.budget.now c.questions.budget c.answer.new.budget c.questions.invariant.goes more;
-    }
-
--- and loads that they ask for
-
-pub work-load-requires : goal.work-load-requires
-work-load-requires g t c =
-    let k : WorkLoads c.in-Loads.name c.args.at c.questions.job (g.W.SwapFile.content c.questions.swap) c.questions.live c.questions.stack.items c.questions.asker c.questions.budget c.step_job.new.job (g.W.SwapFile.content c.step_job.new.swap) c.step_job.new.live c.step_job.new.stack.items c.step_job.new.budget =
-    subst (λ x. StepsTo x c.args.at c.questions.job (g.W.SwapFile.content c.questions.swap) c.questions.live c.questions.stack.items c.questions.asker c.questions.budget c.step_job.new.job (g.W.SwapFile.content c.step_job.new.swap) c.step_job.new.live c.step_job.new.stack.items c.step_job.new.budget) c.in-Loads.is c.in_ok-ending.ensures.steps in
-    let less = k.spends in
-    let more = c.questions.invariant.spends in
-    λ κs within. (omega (arith, less, more), (within, (k.fit, k.can c.questions.invariant.can)))
-
-pub work-feed_back-requires-in-Loads-clause-on : goal.work-feed_back-requires-in-Loads-clause-on
-work-feed_back-requires-in-Loads-clause-on g t c =
-    let k : WorkLoads c.in-Loads.name c.args.at c.questions.job (g.W.SwapFile.content c.questions.swap) c.questions.live c.questions.stack.items c.questions.asker c.questions.budget c.step_job.new.job (g.W.SwapFile.content c.step_job.new.swap) c.step_job.new.live c.step_job.new.stack.items c.step_job.new.budget =
-    subst (λ x. StepsTo x c.args.at c.questions.job (g.W.SwapFile.content c.questions.swap) c.questions.live c.questions.stack.items c.questions.asker c.questions.budget c.step_job.new.job (g.W.SwapFile.content c.step_job.new.swap) c.step_job.new.live c.step_job.new.stack.items c.step_job.new.budget) c.in-Loads.is c.in_ok-ending.ensures.steps in
-    let loads : Loads (Some c.args.at.this) (Some c.args.at) c.in-Loads.name purposes.Wanted (g.W.SwapFile.content c.step_job.new.swap) c.step_job.new.live c.step_job.new.stack.items c.questions.asker c.step_job.new.budget (g.W.SwapFile.content c.load.new.swap) c.load.new.live c.load.new.stack.items c.load.new.asker c.load.new.budget c.in_ok-answer-in-Loads.answer =
-    subst (λ n. Loads (Some c.args.at.this) (Some c.args.at) n purposes.Wanted (g.W.SwapFile.content c.step_job.new.swap) c.step_job.new.live c.step_job.new.stack.items c.questions.asker c.step_job.new.budget (g.W.SwapFile.content c.load.new.swap) c.load.new.live c.load.new.stack.items c.load.new.asker c.load.new.budget c.in_ok-answer-in-Loads.answer) c.as_slice.ensures c.in_ok-answer-in-Loads.ensures.loads in
-    k.on (g.W.SwapFile.content c.load.new.swap) c.load.new.live c.load.new.stack.items c.load.new.asker c.load.new.budget c.in_ok-answer-in-Loads.answer c.questions.invariant.can loads
-
-pub work-returns-in-Some-2-clause-works : goal.work-returns-in-Some-2-clause-works
-work-returns-in-Some-2-clause-works g t c =
-    let k : WorkLoads c.in-Loads.name c.args.at c.questions.job (g.W.SwapFile.content c.questions.swap) c.questions.live c.questions.stack.items c.questions.asker c.questions.budget c.step_job.new.job (g.W.SwapFile.content c.step_job.new.swap) c.step_job.new.live c.step_job.new.stack.items c.step_job.new.budget =
-    subst (λ x. StepsTo x c.args.at c.questions.job (g.W.SwapFile.content c.questions.swap) c.questions.live c.questions.stack.items c.questions.asker c.questions.budget c.step_job.new.job (g.W.SwapFile.content c.step_job.new.swap) c.step_job.new.live c.step_job.new.stack.items c.step_job.new.budget) c.in-Loads.is c.in_ok-ending.ensures.steps in
-    let loads : Loads (Some c.args.at.this) (Some c.args.at) c.in-Loads.name purposes.Wanted (g.W.SwapFile.content c.step_job.new.swap) c.step_job.new.live c.step_job.new.stack.items c.questions.asker c.step_job.new.budget (g.W.SwapFile.content c.load.new.swap) c.load.new.live c.load.new.stack.items c.load.new.asker c.load.new.budget c.in_ok-answer-in-Loads.answer =
-    subst (λ n. Loads (Some c.args.at.this) (Some c.args.at) n purposes.Wanted (g.W.SwapFile.content c.step_job.new.swap) c.step_job.new.live c.step_job.new.stack.items c.questions.asker c.step_job.new.budget (g.W.SwapFile.content c.load.new.swap) c.load.new.live c.load.new.stack.items c.load.new.asker c.load.new.budget c.in_ok-answer-in-Loads.answer) c.as_slice.ensures c.in_ok-answer-in-Loads.ensures.loads in
-    let same : c.in-Some-2.ending ≡ c.in_ok-ending-in-Loads.ending = subst (λ r. IfSome r (λ e. e ≡ c.in_ok-ending-in-Loads.ending)) c.in-Some-2.is c.in_ok-ending-in-Loads-2.ensures.same in
-    works_later c.args.at c.args.job c.questions.job (g.W.SwapFile.content c.args.swap.now) (g.W.SwapFile.content c.questions.swap) (g.W.SwapFile.content c.load.new.swap) c.args.live.now c.questions.live c.load.new.live c.args.stack.now.items c.questions.stack.items c.feed_back-in-Loads.new.stack.items
-    c.args.asker.now c.questions.asker c.load.new.asker c.args.budget.now c.questions.budget c.load.new.budget c.in-Some-2.ending c.questions.invariant.goes c.questions.invariant.same c.questions.invariant.spends c.questions.invariant.home
-    (loaded_ends c.args.at c.questions.job c.step_job.new.job c.feed_back-in-Loads.new.job c.in-Loads.name (g.W.SwapFile.content c.questions.swap) (g.W.SwapFile.content c.step_job.new.swap) (g.W.SwapFile.content c.load.new.swap) c.questions.live c.step_job.new.live c.load.new.live
-    c.questions.stack.items c.step_job.new.stack.items c.load.new.stack.items c.feed_back-in-Loads.new.stack.items c.questions.asker c.load.new.asker c.questions.budget c.step_job.new.budget c.load.new.budget c.in_ok-answer-in-Loads.answer c.in-Some-2.ending k loads
-    (subst (λ e. Feeds (Some c.in-Some-2.ending) e c.step_job.new.job c.load.new.live c.load.new.stack.items c.feed_back-in-Loads.new.job c.feed_back-in-Loads.new.stack.items) c.in_ok-ending-in-Loads.ensures.ending
-    (subst (λ r. Feeds r c.in_ok-ending-in-Loads.ending c.step_job.new.job c.load.new.live c.load.new.stack.items c.feed_back-in-Loads.new.job c.feed_back-in-Loads.new.stack.items) c.in-Some-2.is c.in_ok-ending-in-Loads-2.ensures.feeds))
-    (subst (IsEndingThere c.load.new.live.cells) (sym same) (c.in_ok-ending-in-Loads.ensures.there c.load.new.live.cells loads.there)) c.in_ok-ending-in-Loads-2.ensures.fit)
+    works_later c.args.at c.args.job c.questions.job (g.W.SwapFile.content c.args.swap.now) (g.W.SwapFile.content c.questions.swap) (g.W.SwapFile.content c.turn_job.new.swap) c.args.live.now c.questions.live c.turn_job.new.live c.args.stack.now.items c.questions.stack.items c.turn_job.new.stack.items
+    c.args.asker.now c.questions.asker c.turn_job.new.asker c.args.budget.now c.questions.budget c.turn_job.new.budget c.in-Some.ending c.questions.invariant.goes c.questions.invariant.same c.questions.invariant.spends c.questions.invariant.home
+    (subst (λ r. WorkTurnsTo r c.args.at c.questions.job (g.W.SwapFile.content c.questions.swap) c.questions.live c.questions.stack.items c.questions.asker c.questions.budget c.turn_job.new.job (g.W.SwapFile.content c.turn_job.new.swap) c.turn_job.new.live c.turn_job.new.stack.items c.turn_job.new.asker c.turn_job.new.budget) c.in-Some.is c.in_ok-ending.ensures.turns)
 
 pub work-questions-smaller : goal.work-questions-smaller
 work-questions-smaller g t c =
-    let k : WorkLoads c.in-Loads.name c.args.at c.questions.job (g.W.SwapFile.content c.questions.swap) c.questions.live c.questions.stack.items c.questions.asker c.questions.budget c.step_job.new.job (g.W.SwapFile.content c.step_job.new.swap) c.step_job.new.live c.step_job.new.stack.items c.step_job.new.budget =
-    subst (λ x. StepsTo x c.args.at c.questions.job (g.W.SwapFile.content c.questions.swap) c.questions.live c.questions.stack.items c.questions.asker c.questions.budget c.step_job.new.job (g.W.SwapFile.content c.step_job.new.swap) c.step_job.new.live c.step_job.new.stack.items c.step_job.new.budget) c.in-Loads.is c.in_ok-ending.ensures.steps in
-    let on : FedOn None c.step_job.new.job c.feed_back-in-Loads.new.job c.load.new.live c.feed_back-in-Loads.new.stack.items = subst (λ r. FedOn r c.step_job.new.job c.feed_back-in-Loads.new.job c.load.new.live c.feed_back-in-Loads.new.stack.items) c.in_default-2.is c.in_ok-ending-in-Loads-2.ensures.on in
-    let less = on.2 in
-    let left = k.left in
-    omega (arith, less, left)
+    let k : WorkGoesOn c.args.at c.questions.job (g.W.SwapFile.content c.questions.swap) c.questions.live c.questions.stack.items c.questions.asker c.questions.budget c.turn_job.new.job (g.W.SwapFile.content c.turn_job.new.swap) c.turn_job.new.live c.turn_job.new.stack.items c.turn_job.new.asker c.turn_job.new.budget = subst (λ r. WorkTurnsTo r c.args.at c.questions.job (g.W.SwapFile.content c.questions.swap) c.questions.live c.questions.stack.items c.questions.asker c.questions.budget c.turn_job.new.job (g.W.SwapFile.content c.turn_job.new.swap) c.turn_job.new.live c.turn_job.new.stack.items c.turn_job.new.asker c.turn_job.new.budget) c.in_default.is c.in_ok-ending.ensures.turns in
+    k.less
 
 pub work-questions-preserved : goal.work-questions-preserved
 work-questions-preserved g t c =
-    let k : WorkLoads c.in-Loads.name c.args.at c.questions.job (g.W.SwapFile.content c.questions.swap) c.questions.live c.questions.stack.items c.questions.asker c.questions.budget c.step_job.new.job (g.W.SwapFile.content c.step_job.new.swap) c.step_job.new.live c.step_job.new.stack.items c.step_job.new.budget =
-    subst (λ x. StepsTo x c.args.at c.questions.job (g.W.SwapFile.content c.questions.swap) c.questions.live c.questions.stack.items c.questions.asker c.questions.budget c.step_job.new.job (g.W.SwapFile.content c.step_job.new.swap) c.step_job.new.live c.step_job.new.stack.items c.step_job.new.budget) c.in-Loads.is c.in_ok-ending.ensures.steps in
-    let loads : Loads (Some c.args.at.this) (Some c.args.at) c.in-Loads.name purposes.Wanted (g.W.SwapFile.content c.step_job.new.swap) c.step_job.new.live c.step_job.new.stack.items c.questions.asker c.step_job.new.budget (g.W.SwapFile.content c.load.new.swap) c.load.new.live c.load.new.stack.items c.load.new.asker c.load.new.budget c.in_ok-answer-in-Loads.answer =
-    subst (λ n. Loads (Some c.args.at.this) (Some c.args.at) n purposes.Wanted (g.W.SwapFile.content c.step_job.new.swap) c.step_job.new.live c.step_job.new.stack.items c.questions.asker c.step_job.new.budget (g.W.SwapFile.content c.load.new.swap) c.load.new.live c.load.new.stack.items c.load.new.asker c.load.new.budget c.in_ok-answer-in-Loads.answer) c.as_slice.ensures c.in_ok-answer-in-Loads.ensures.loads in
-    let on : FedOn None c.step_job.new.job c.feed_back-in-Loads.new.job c.load.new.live c.feed_back-in-Loads.new.stack.items = subst (λ r. FedOn r c.step_job.new.job c.feed_back-in-Loads.new.job c.load.new.live c.feed_back-in-Loads.new.stack.items) c.in_default-2.is c.in_ok-ending-in-Loads-2.ensures.on in
-    let more : WorkContinues c.args.at c.questions.job (g.W.SwapFile.content c.questions.swap) c.questions.live c.questions.stack.items c.questions.asker c.questions.budget c.feed_back-in-Loads.new.job (g.W.SwapFile.content c.load.new.swap) c.load.new.live c.feed_back-in-Loads.new.stack.items c.load.new.asker c.load.new.budget =
-    k.turns c.feed_back-in-Loads.new.job (g.W.SwapFile.content c.load.new.swap) c.load.new.live c.load.new.stack.items c.feed_back-in-Loads.new.stack.items c.load.new.asker c.load.new.budget c.in_ok-answer-in-Loads.answer None loads
-    (subst (λ e. Feeds None e c.step_job.new.job c.load.new.live c.load.new.stack.items c.feed_back-in-Loads.new.job c.feed_back-in-Loads.new.stack.items) c.in_ok-ending-in-Loads.ensures.ending
-    (subst (λ r. Feeds r c.in_ok-ending-in-Loads.ending c.step_job.new.job c.load.new.live c.load.new.stack.items c.feed_back-in-Loads.new.job c.feed_back-in-Loads.new.stack.items) c.in_default-2.is c.in_ok-ending-in-Loads-2.ensures.feeds)) in
+    let k : WorkGoesOn c.args.at c.questions.job (g.W.SwapFile.content c.questions.swap) c.questions.live c.questions.stack.items c.questions.asker c.questions.budget c.turn_job.new.job (g.W.SwapFile.content c.turn_job.new.swap) c.turn_job.new.live c.turn_job.new.stack.items c.turn_job.new.asker c.turn_job.new.budget = subst (λ r. WorkTurnsTo r c.args.at c.questions.job (g.W.SwapFile.content c.questions.swap) c.questions.live c.questions.stack.items c.questions.asker c.questions.budget c.turn_job.new.job (g.W.SwapFile.content c.turn_job.new.swap) c.turn_job.new.live c.turn_job.new.stack.items c.turn_job.new.asker c.turn_job.new.budget) c.in_default.is c.in_ok-ending.ensures.turns in
     record {
-      can = can_work_on c.args.at c.questions.job c.feed_back-in-Loads.new.job (g.W.SwapFile.content c.questions.swap) (g.W.SwapFile.content c.load.new.swap) c.questions.live c.load.new.live c.questions.stack.items c.feed_back-in-Loads.new.stack.items c.questions.asker c.load.new.asker c.questions.budget c.load.new.budget c.questions.invariant.can more;
-      on = on.0;
-      ready = on.1;
-      fit = c.in_ok-ending-in-Loads-2.ensures.fit;
-      same = same_later c.args.asker.now c.questions.asker c.load.new.asker c.questions.invariant.same loads.same;
-      spends = le_trans (le_trans loads.spends k.spends) c.questions.invariant.spends;
-      home = home_later c.args.live.now.objects c.questions.live.objects c.load.new.live.objects c.questions.invariant.home (home_later c.questions.live.objects c.step_job.new.live.objects c.load.new.live.objects k.home loads.home);
-      tells = tells_more c.questions.invariant.tells (tells_more c.in_ok-ending.ensures.tells c.in_ok-answer-in-Loads.ensures.tells);
-      goes = works_more c.args.at c.args.job c.questions.job c.feed_back-in-Loads.new.job (g.W.SwapFile.content c.args.swap.now) (g.W.SwapFile.content c.questions.swap) (g.W.SwapFile.content c.load.new.swap) c.args.live.now c.questions.live c.load.new.live c.args.stack.now.items c.questions.stack.items c.feed_back-in-Loads.new.stack.items
-          c.args.asker.now c.questions.asker c.load.new.asker c.args.budget.now c.questions.budget c.load.new.budget c.questions.invariant.goes more;
+      can = can_work_on c.args.at c.questions.job c.turn_job.new.job (g.W.SwapFile.content c.questions.swap) (g.W.SwapFile.content c.turn_job.new.swap) c.questions.live c.turn_job.new.live c.questions.stack.items c.turn_job.new.stack.items c.questions.asker c.turn_job.new.asker c.questions.budget c.turn_job.new.budget c.questions.invariant.can k.goes;
+      on = k.on;
+      ready = k.ready;
+      fit = k.fit;
+      same = same_later c.args.asker.now c.questions.asker c.turn_job.new.asker c.questions.invariant.same k.same;
+      spends = le_trans k.spends c.questions.invariant.spends;
+      home = home_later c.args.live.now.objects c.questions.live.objects c.turn_job.new.live.objects c.questions.invariant.home k.home;
+      tells = tells_more c.questions.invariant.tells c.in_ok-ending.ensures.tells;
+      goes = works_more c.args.at c.args.job c.questions.job c.turn_job.new.job (g.W.SwapFile.content c.args.swap.now) (g.W.SwapFile.content c.questions.swap) (g.W.SwapFile.content c.turn_job.new.swap) c.args.live.now c.questions.live c.turn_job.new.live c.args.stack.now.items c.questions.stack.items c.turn_job.new.stack.items
+          c.args.asker.now c.questions.asker c.turn_job.new.asker c.args.budget.now c.questions.budget c.turn_job.new.budget c.questions.invariant.goes k.goes;
     }
 
 -- Objects that were made

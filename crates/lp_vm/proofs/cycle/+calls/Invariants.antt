@@ -31,8 +31,17 @@ decreases-make g l = 7 * l.budget.now + 1
 abbrev pub decreases-carry_out : goal.decreases-carry_out
 decreases-carry_out g l = 7 * l.budget.now + 1
 
+abbrev pub decreases-answer_job : goal.decreases-answer_job
+decreases-answer_job g l = 7 * l.budget.now + 1
+
+abbrev pub decreases-load_job : goal.decreases-load_job
+decreases-load_job g l = 7 * l.budget.now + 1
+
+abbrev pub decreases-turn_job : goal.decreases-turn_job
+decreases-turn_job g l = 7 * l.budget.now + 2
+
 abbrev pub decreases-work : goal.decreases-work
-decreases-work g l = 7 * l.budget.now + 1
+decreases-work g l = 7 * l.budget.now + 3
 
 abbrev pub decreases-load_on : goal.decreases-load_on
 decreases-load_on g l = 7 * l.budget.now + 2
