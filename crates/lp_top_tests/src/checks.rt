@@ -1,6 +1,7 @@
 //! Checks of files each for itself.
-use crate::reports::{Files, are_reports, ends, is_checked, script_of_one};
-use crate::running::{HELLO, script};
+use crate::reports::are_reports;
+use lp_harness::reports::{Files, ends, is_checked, script_of_one};
+use lp_harness::running::{HELLO, script};
 use std::alloc::{AllocError, Global};
 use std::test::Fail;
 

@@ -1,5 +1,6 @@
 //! Checks of files that inherit one another.
-use crate::reports::{Files, are_reports, is_checked};
+use crate::reports::are_reports;
+use lp_harness::reports::{Files, is_checked};
 use std::alloc::{AllocError, Global};
 use std::test::Fail;
 
@@ -152,7 +153,7 @@ const LAID: [(Files, &str); 8] = [
         &[
             ("/m.c", "inherit \"/n\";\nint f() { return 2; }\n"),
             ("/n.c", "nomask int f() { return 1; }\n"),
-            ("/secure/master.c", crate::running::HELLO),
+            ("/secure/master.c", lp_harness::running::HELLO),
         ],
         "/m.c line 2: nomask function overridden\n3 files, 1 faults\n",
     ),

@@ -1,4 +1,5 @@
-//! What no clause says of scripts and of a whole run.
+//! What no clause says of scripts, words of a command line, checks, workloads and short replays. Longer games stand in the crates of
+//! tests beside this.
 //!
 //! The tests stand here and not beside the code, so that no library is proved twice.
 #![tactic(auto)]
@@ -6,15 +7,11 @@
 #[cfg(test)]
 mod checks;
 #[cfg(test)]
-mod device;
-#[cfg(test)]
 mod families;
 #[cfg(test)]
 mod makes;
 #[cfg(test)]
 mod reports;
-#[cfg(test)]
-mod running;
 #[cfg(test)]
 mod runs;
 #[cfg(test)]
@@ -23,25 +20,3 @@ mod scripts;
 mod simuls;
 #[cfg(test)]
 mod words;
-
-// Games: small mudlibs with their events and whole transcripts.
-#[cfg(test)]
-mod accounts;
-#[cfg(test)]
-mod bodies;
-#[cfg(test)]
-mod commands;
-#[cfg(test)]
-mod games;
-#[cfg(test)]
-mod moments;
-#[cfg(test)]
-mod moves;
-#[cfg(test)]
-mod shadows;
-#[cfg(test)]
-mod storing;
-#[cfg(test)]
-mod swapping;
-#[cfg(test)]
-mod visits;

@@ -1,6 +1,6 @@
 //! Workloads.
-use crate::reports::ends;
-use crate::running::ran_over;
+use lp_harness::reports::ends;
+use lp_harness::running::ran_over;
 use std::alloc::{AllocError, Global};
 use std::test::Fail;
 

@@ -1,6 +1,6 @@
 //! What no clause says: the bytes of worked examples, at ample memory.
-use crate::reports::ends;
-use crate::running::{HELLO, ran, script};
+use lp_harness::reports::ends;
+use lp_harness::running::{HELLO, ran, script};
 use lp_tree::fault::FaultKind;
 use std::alloc::{AllocError, Global};
 use std::test::Fail;

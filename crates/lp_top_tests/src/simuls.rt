@@ -1,5 +1,6 @@
 //! Checks with the functions of a file as simul efuns.
-use crate::reports::{Files, are_reports};
+use crate::reports::are_reports;
+use lp_harness::reports::Files;
 use std::test::Fail;
 
 /// A file with a function that every object may call, and others that not every one may.

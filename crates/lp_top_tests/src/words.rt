@@ -1,5 +1,5 @@
 //! Words that name no command.
-use crate::running::ran;
+use lp_harness::running::ran;
 use std::alloc::{AllocError, Global};
 use std::process::Abort;
 use std::test::Fail;

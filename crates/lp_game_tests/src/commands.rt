@@ -1,5 +1,6 @@
 //! Commands of players, and the efun `command`, in whole replays.
-use crate::games::{Game, are_replayed};
+use crate::replays::are_replayed;
+use lp_harness::games::Game;
 use std::test::Fail;
 
 /// Which actions a line tries, and with what.

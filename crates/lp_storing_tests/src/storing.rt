@@ -1,5 +1,6 @@
 //! Files that a game reads and writes, and objects that are saved, in whole replays.
-use crate::games::{Game, are_replayed};
+use crate::replays::are_replayed;
+use lp_harness::games::Game;
 use std::test::Fail;
 
 /// A master that restores an array.

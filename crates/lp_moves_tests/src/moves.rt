@@ -1,5 +1,6 @@
 //! Moves with the calls of `init`, what lies where, and messages, in whole replays.
-use crate::games::{Game, are_replayed};
+use crate::replays::are_replayed;
+use lp_harness::games::Game;
 use std::test::Fail;
 
 /// A living thing that tells of its calls of `init`.

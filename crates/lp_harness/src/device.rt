@@ -11,14 +11,14 @@ use std::marker::Model;
 /// Which calls of a swap file go wrong, by their numbers from 1, or 0 where none does: a read that fails, one whose first byte has
 /// each bit flipped, and a write that fails.
 #[derive(Clone, Copy)]
-pub(crate) struct Troubles {
-    pub(crate) read: u64,
-    pub(crate) lie: u64,
-    pub(crate) write: u64,
+pub struct Troubles {
+    pub read: u64,
+    pub lie: u64,
+    pub write: u64,
 }
 
 /// Nothing goes wrong.
-pub(crate) const NONE: Troubles = Troubles {
+pub const NONE: Troubles = Troubles {
     read: 0,
     lie: 0,
     write: 0,
@@ -45,7 +45,7 @@ impl Model for TestSwap {
 
 impl TestSwap {
     /// An empty one.
-    pub(crate) fn new(alloc: Global, troubles: Troubles) -> Result<TestSwap, AllocError> {
+    pub fn new(alloc: Global, troubles: Troubles) -> Result<TestSwap, AllocError> {
         let lies = vec![in alloc; (troubles.lie, 0)]?;
         let reads = vec![in alloc; troubles.read]?;
         let writes = vec![in alloc; troubles.write]?;
@@ -57,7 +57,7 @@ impl TestSwap {
     }
 
     /// How many reads and writes were made.
-    pub(crate) fn calls(&self) -> (u64, u64) {
+    pub fn calls(&self) -> (u64, u64) {
         (self.memory.reads(), self.memory.writes())
     }
 

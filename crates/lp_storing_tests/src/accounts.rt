@@ -1,8 +1,9 @@
 //! The last lines of a replay that is to report: how many objects live, how many of them are out, how many versions are kept, and how
 //! many of those are out.
-use crate::games::{Game, are_replayed};
-use crate::reports::Files;
+use crate::replays::are_replayed;
 use crate::swapping::SHARED;
+use lp_harness::games::Game;
+use lp_harness::reports::Files;
 use std::test::Fail;
 
 /// Each player that comes is told how many have come, by an object that counts them.

@@ -6,26 +6,26 @@ use lp_tree::fault::FaultKind;
 use std::alloc::{AllocError, Global};
 
 /// The master whose `logon` says hello.
-pub(crate) const HELLO: &str =
+pub const HELLO: &str =
     "object connect() { return this_object(); }\nint logon() { write(\"Hello\\n\"); return 1; }\n";
 
 /// How a run ended, what it asked of its devices, and what it wrote.
 #[derive(Drop)]
-pub(crate) struct Outcome {
-    pub(crate) status: u8,
-    pub(crate) at: Option<u64>,
-    pub(crate) faults: Vec<(u32, FaultKind)>,
-    pub(crate) reads: u64,
-    pub(crate) writes: u64,
-    pub(crate) bytes: Vec<u8>,
+pub struct Outcome {
+    pub status: u8,
+    pub at: Option<u64>,
+    pub faults: Vec<(u32, FaultKind)>,
+    pub reads: u64,
+    pub writes: u64,
+    pub bytes: Vec<u8>,
 }
 
-pub(crate) fn script(alloc: Global, master: &str, items: &str) -> Result<String, AllocError> {
+pub fn script(alloc: Global, master: &str, items: &str) -> Result<String, AllocError> {
     let len = master.len();
     format!(in alloc; "mudscript 1 0 0\nfile /secure/master.c {len}\n{master}\nstart\n{items}")
 }
 
-pub(crate) fn ran(
+pub fn ran(
     alloc: Global,
     words: &[&str],
     script: &[u8],
@@ -36,7 +36,7 @@ pub(crate) fn ran(
 }
 
 // Words that are owned.
-pub(crate) fn owned(alloc: Global, words: &[&str]) -> Result<Vec<String>, AllocError> {
+pub fn owned(alloc: Global, words: &[&str]) -> Result<Vec<String>, AllocError> {
     let mut all = Vec::new(alloc);
     for word in words {
         all.push(String::from_str(alloc, word)?)?;
@@ -81,11 +81,7 @@ fn outcome_of(
 }
 
 // A source of bytes, of whose reads those with these numbers fail.
-pub(crate) fn source(
-    alloc: Global,
-    script: &[u8],
-    failing: &[u64],
-) -> Result<MemSource, AllocError> {
+pub fn source(alloc: Global, script: &[u8], failing: &[u64]) -> Result<MemSource, AllocError> {
     let bytes = Octets::from_vec(script.to_vec(alloc)?);
     Ok(MemSource::new(bytes, failing.to_vec(alloc)?))
 }
@@ -103,7 +99,7 @@ fn ran_with(
 }
 
 /// The same over a sink whose calls with these numbers fail.
-pub(crate) fn ran_over(
+pub fn ran_over(
     alloc: Global,
     words: &[&str],
     script: &[u8],

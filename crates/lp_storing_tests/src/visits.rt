@@ -1,9 +1,10 @@
 //! The small mudlib of the examples, with what goes out and comes in: nobody can tell, and a fault of the swap file ends a visit between
 //! turns.
-use crate::device::NONE;
-use crate::games::{Game, are_replayed};
-use crate::reports::Files;
+use crate::replays::are_replayed;
 use crate::swapping::{Reading, calls_of, ends_at, failing, is_done, lying, refusing};
+use lp_harness::device::NONE;
+use lp_harness::games::Game;
+use lp_harness::reports::Files;
 use std::alloc::{AllocError, Global};
 use std::test::Fail;
 

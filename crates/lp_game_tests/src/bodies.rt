@@ -1,7 +1,8 @@
 //! What a `logon` writes, in whole replays.
-use crate::games::{Game, are_replayed};
-use crate::reports::{Files, ends, script_with};
-use crate::running::script;
+use crate::replays::are_replayed;
+use lp_harness::games::Game;
+use lp_harness::reports::{Files, ends, script_with};
+use lp_harness::running::script;
 use std::alloc::{AllocError, Global};
 use std::test::Fail;
 

@@ -5,39 +5,24 @@ use crate::running::{owned, source};
 use lp_io::{MemSink, MemSource};
 use lp_top::{code, run};
 use std::alloc::{AllocError, Global};
-use std::process::Abort;
-use std::test::Fail;
 
 /// The files of a script, by path; the items behind its `start`; and the transcript of its replay.
-pub(crate) type Game = (Files, &'static str, &'static str);
+pub type Game = (Files, &'static str, &'static str);
 
 /// Whether a replay of a game over devices that do not fail is done, and has written its transcript.
-fn is_replayed(alloc: Global, words: &[&str], game: Game) -> Result<bool, AllocError> {
+pub fn is_replayed(alloc: Global, words: &[&str], game: Game) -> Result<bool, AllocError> {
     let (files, items, output) = game;
     let text = script_with(alloc, files, items)?;
     let well: (&[u64], &[u64], usize) = (&[], &[], 65536);
     ends(alloc, words, text.as_bytes(), well, 0, output.as_bytes())
 }
 
-/// Replays of games have the transcripts beside them.
-pub(crate) fn are_replayed(
-    rt: &impl Abort,
-    alloc: Global,
-    words: &[&str],
-    games: &[Game],
-) -> Result<(), Fail> {
-    for game in games {
-        assert!(rt; is_replayed(alloc, words, *game)?, "not {}", game.2);
-    }
-    Ok(())
-}
-
 /// How a replay over a swap file with troubles ended: with this status, so many reads and writes, and these bytes.
 #[derive(Drop)]
-pub(crate) struct Trial {
-    pub(crate) status: u8,
-    pub(crate) calls: (u64, u64),
-    pub(crate) bytes: Vec<u8>,
+pub struct Trial {
+    pub status: u8,
+    pub calls: (u64, u64),
+    pub bytes: Vec<u8>,
 }
 
 /// The same of devices that are there.
@@ -71,7 +56,7 @@ fn tried_with(
 }
 
 /// A replay over a swap file with troubles, and a sink that takes so many bytes at a time.
-pub(crate) fn tried(
+pub fn tried(
     alloc: Global,
     words: &[&str],
     game: Game,

@@ -1,5 +1,6 @@
 //! What happens at ticks, in whole replays.
-use crate::games::{Game, are_replayed};
+use crate::replays::are_replayed;
+use lp_harness::games::Game;
 use std::alloc::Global;
 use std::process::Abort;
 use std::test::Fail;

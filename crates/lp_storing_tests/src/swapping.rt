@@ -1,7 +1,8 @@
 //! Objects and programs that go out to the swap file, in whole replays: nobody in the game can tell, and a fault ends it between turns.
-use crate::device::{NONE, Troubles};
-use crate::games::{Game, are_replayed, tried};
-use crate::reports::Files;
+use crate::replays::are_replayed;
+use lp_harness::device::{NONE, Troubles};
+use lp_harness::games::{Game, tried};
+use lp_harness::reports::Files;
 use std::alloc::{AllocError, Global};
 use std::test::Fail;
 

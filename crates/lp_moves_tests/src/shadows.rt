@@ -1,5 +1,6 @@
 //! Shadows of objects, in whole replays.
-use crate::games::{Game, are_replayed};
+use crate::replays::are_replayed;
+use lp_harness::games::Game;
 use std::test::Fail;
 
 /// Which calls reach a shadow, and what shadows may not do.
