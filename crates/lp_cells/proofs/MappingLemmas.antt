@@ -5,27 +5,16 @@ use Rattle.std.proofs.lemmas.List.Elements.{filter-append}
 use Rattle.std.proofs.lemmas.List.Sums.{count_by-le-length, fold-append, length-filter}
 use Rattle.std.proofs.lemmas.Bool.{ltb-true}
 use Rattle.indexmap.specs.IndexMap.{insert_all}
-use Rattle.std.specs.Map.{lookup, remove_entry}
+use Rattle.std.specs.Map.{lookup}
 use Rattle.std.specs.Prelude.{filter}
 use Rattle.indexmap.specs.IndexMap.{insert_entry}
 use Rattle.lp_values.specs.Read.{live_part, as_read, value_eq, same}
 use Rattle.lp_values.specs.declared.id.ObjId.{ObjId}
 use Rattle.lp_values.specs.declared.value.Value.{Value}
 use Rattle.lp_values.specs.declared.value.Value.TheVariants.{Int, Str, Arr, Map, Obj}
-use Rattle.lp_values.specs.contracts.value.ValuePartialEq.TheImpl as derived
-use Rattle.lp_values.proofs.ReadLemmas.{eq_is, not_dead}
+use Rattle.lp_values.proofs.ReadLemmas.{not_dead}
 use Rattle.lp_cells.specs.Mapping.{has_room_for, pairs_there, pair_there, pairs_put, value_at_key, IsFullFor}
 use Rattle.lp_values.specs.Limits.{max_items}
-
--- the test by which the map finds keys is equality of values
-pub lookup-derived : (k : Value) (ps : List (Value × Value)) → lookup ((derived.eq-value).it k) ps ≡ lookup (value_eq k) ps
-lookup-derived k ps = λ i. lookup (λ v. eq_is k v i) ps
-
-pub remove_entry-derived : (k : Value) (ps : List (Value × Value)) → remove_entry ((derived.eq-value).it k) ps ≡ remove_entry (value_eq k) ps
-remove_entry-derived k ps = λ i. remove_entry (λ v. eq_is k v i) ps
-
-pub insert_entry-derived : (ps : List (Value × Value)) (k v : Value) → insert_entry (derived.eq-value).it ps k v ≡ insert_entry value_eq ps k v
-insert_entry-derived ps k v = λ i. insert_entry (λ a b. eq_is a b i) ps k v
 
 obj_step : (live : ObjId → Bool) (k : Value) (o : ObjId) (v : Value) (ps : List (Value × Value)) (r : Option Value) (b : Bool) → live o ≡ b → r ≡ lookup (same live k) (filter (λ p. is_some (live_part live p.0)) ps) → cond (value_eq (as_read live k) (Obj o)) (Some v) r ≡ lookup (same live k) (filter (λ p. is_some (live_part live p.0)) ((Obj o, v) ∷ ps))
 obj_step live k o v ps r true h e = rw (h, h) (ap (cond (value_eq (as_read live k) (Obj o)) (Some v)) e)

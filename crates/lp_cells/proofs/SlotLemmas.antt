@@ -4,7 +4,7 @@ use Rattle.std.specs.Prelude.{slice_set}
 use Rattle.std.specs.List.{AllByRecursion, IsDistinct}
 use Rattle.std.specs.Map.{lookup, remove_entry, keys_of}
 use Rattle.std.specs.Option.{option_map, option_to_list}
-use Rattle.std.proofs.lemmas.List.{flat_map_more, length-take, take_more, take_more_set}
+use Rattle.std.proofs.lemmas.List.{drop_more, flat_map_more, length-take, take_more, take_more_set}
 use Rattle.std.proofs.lemmas.List.Elements.{filter-append}
 use Rattle.std.proofs.lemmas.Option.{slice_get_read, slice_get_within, get_or_from_slice_get}
 use Rattle.std.proofs.lemmas.List.Sums.{fold-append, sum_by-append}
@@ -462,6 +462,10 @@ objects_filled slots i x h e = ap objects_in (filled_next slots i x h e) ∙ sum
 -- the pairs that are there, in slots up to one place further
 pub there_filled : (live : ObjId → Bool) (slots : Row) (i : ℕ) (x : Option Pair) → i < length slots → x ≡ get_or slots i x → pairs_there live (filled (take (i + 1) slots)) ≡ pairs_there live (filled (take i slots)) ++ pairs_there live (option_to_list x)
 there_filled live slots i x h e = ap (pairs_there live) (filled_next slots i x h e) ∙ filter-append (λ p. is_some (live_part live p.0)) (filled (take i slots)) (option_to_list x)
+
+-- and from a place on
+pub there_rest : (live : ObjId → Bool) (slots : Row) (i : ℕ) (x : Option Pair) → i < length slots → x ≡ get_or slots i x → pairs_there live (filled (drop i slots)) ≡ pairs_there live (option_to_list x) ++ pairs_there live (filled (drop (i + 1) slots))
+there_rest live slots i x h e = ap (λ r. pairs_there live (filled r)) (drop_more slots i x h ∙ ap (λ y. y ∷ drop (i + 1) slots) (sym e)) ∙ filter-append (λ p. is_some (live_part live p.0)) (option_to_list x) (filled (drop (i + 1) slots))
 
 -- the pairs that were put, from slots up to one place further
 pub inserted_filled : (live : ObjId → Bool) (es : List Pair) (slots : Row) (i : ℕ) (x : Option Pair) → i < length slots → x ≡ get_or slots i x → insert_all value_eq es (pairs_there live (filled (take (i + 1) slots))) ≡ insert_all value_eq (insert_all value_eq es (pairs_there live (filled (take i slots)))) (pairs_there live (option_to_list x))

@@ -152,6 +152,7 @@ impl Pairs {
     }
 
     /// How many pairs are there, as read, from a look at each.
+    #[tactic(auto, using(crate::proofs::MappingLemmas::length_there))]
     fn count_each_there<L: Living>(&self, live: &L) -> usize
         ensures value { result ≡ length (pairs_there (L.live live.now) self.now) }
         ensures within { result ≤ length self.now }
@@ -182,6 +183,7 @@ impl Pairs {
     }
 
     /// Puts a value at a key as read. A full mapping gives up its dead pairs for a new key.
+    #[tactic(auto, using(crate::proofs::SlotLemmas::read_lives))]
     pub fn put_read<L: Living>(&mut self, key: Value, v: Value, live: &L) -> Result<(), CellFault>
         ensures { UnlessFull (IsFullFor (L.live live.now) self.old key) (λ _. self.new ≡ pairs_put (L.live live.now) self.old key v) (self.new ≡ self.old) result }
     {
@@ -195,6 +197,7 @@ impl Pairs {
     }
 
     /// Puts a value at a key that is no dead object, and drops the dead pairs.
+    #[tactic(auto, using(crate::proofs::SlotLemmas::there_inserted))]
     fn put_swept<L: Living>(&mut self, key: Value, v: Value, live: &L) -> Result<(), AllocError>
         requires { IsSome (live_part (L.live live.now) key) }
         ensures ok { OnOk result (self.new ≡ insert_entry value_eq (pairs_there (L.live live.now) self.old) key v) }
@@ -214,11 +217,13 @@ impl Pairs {
     }
 
     /// These pairs, and then those of `from` that are there, a later equal key winning at the first one's place.
+    #[tactic(auto, using(crate::proofs::SlotLemmas::inserted_filled))]
     pub fn with_there<L: Living>(self, from: &Pairs, live: &L) -> Result<Pairs, AllocError>
         ensures { IfOk result (λ t. t ≡ insert_all value_eq self (pairs_there (L.live live.now) from.now)) }
     {
+        let slots = from.slots();
         let mut all = self;
-        for slot in from.slots() {
+        for slot in slots {
             all.put_slot(slot, live)?;
         }
         Ok(all)
@@ -249,7 +254,7 @@ fn is_object(v: &Value) -> bool
 }
 
 /// How many keys are objects, from a look at each.
-#[tactic(auto, using(crate::proofs::ObjectLemmas::objects_none))]
+#[tactic(auto, using(crate::proofs::ObjectLemmas::objects_none, crate::proofs::SlotLemmas::objects_filled))]
 fn count_objects(slots: &[Option<(Value, Value)>]) -> usize
     ensures { result ≡ objects_in (filled slots.now) }
 {
@@ -274,6 +279,7 @@ fn has_object(slot: &Option<(Value, Value)>) -> bool
 }
 
 /// How many pairs in slots are there, as read.
+#[tactic(auto, using(crate::proofs::SlotLemmas::there_filled))]
 fn count_in<L: Living>(slots: &[Option<(Value, Value)>], live: &L) -> usize
     ensures { result ≡ length (pairs_there (L.live live.now) (filled slots.now)) }
 {

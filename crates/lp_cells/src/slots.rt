@@ -1,8 +1,8 @@
 //! Pairs in slots, found by hashing.
-ghost use Rattle.std.specs.Prelude.{◌≡◌, ◌+◌, ◌<◌, ◌^◌, ◌++◌, [], ◌∷◌, Some, None, IfOk, IsSome, OnErr, OnOk, filter, if◌then◌else◌, is_some, length, not, slice_get};
+ghost use Rattle.std.specs.Prelude.{◌≡◌, ◌+◌, ◌<◌, ◌^◌, ◌++◌, [], ◌∷◌, Some, None, IfOk, IfSome, IsSome, OnErr, OnOk, filter, if◌then◌else◌, is_some, length, not, slice_get};
 ghost use Rattle.std.specs.Map.{lookup, remove_entry};
 ghost use Rattle.std.specs.Map.Iter.{deref_pair};
-ghost use Rattle.std.specs.Option.{option_copied, option_map};
+ghost use Rattle.std.specs.Option.{option_copied, option_map, option_to_list};
 ghost use Rattle.indexmap.specs.IndexMap.{insert_entry};
 ghost use Rattle.lp_values.specs.Read.{value_eq};
 ghost use Rattle.lp_values.specs.declared.value.Value.{Value as V};
@@ -130,6 +130,20 @@ pub fn pair_in(slot: &Option<(Value, Value)>) -> Option<(&Value, &Value)>
     match slot {
         Some((key, v)) => Some((key, v)),
         None => None,
+    }
+}
+
+/// The pair in a slot, where it is there, as read.
+pub fn there_in<'a, L: Living>(
+    slot: &'a Option<(Value, Value)>,
+    live: &L,
+) -> Option<(&'a Value, &'a Value)>
+    ensures there { option_to_list (option_map deref_pair result) ≡ pairs_there (L.live live.now) (option_to_list slot.now) }
+    ensures same { IfSome result (λ p. slot.now ≡ Some (p.0.now, p.1.now)) }
+{
+    match slot {
+        Some((key, v)) if as_read(key, live).is_some() => Some((key, v)),
+        _ => None,
     }
 }
 
