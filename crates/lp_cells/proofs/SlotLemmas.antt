@@ -476,10 +476,21 @@ pub filled_taken : (slots : Row) (i : ℕ) → length (filled (take i slots)) �
 filled_taken slots i = omega (arith, filled_within (take i slots), length-take i slots)
 
 put_first : (live : ObjId → Bool) (p : Pair) (ps : List Pair) (k v : Value) (b c : Bool) → is_some (live_part live p.0) ≡ b → value_eq k p.0 ≡ c → is_some (live_part live k) ≡ true → pairs_there live (insert_entry value_eq ps k v) ≡ insert_entry value_eq (pairs_there live ps) k v → pairs_there live (insert_entry value_eq (p ∷ ps) k v) ≡ insert_entry value_eq (pairs_there live (p ∷ ps)) k v
-put_first live p ps k v true true e f h rest = rw (f, e) (rw (e, f) refl)
-put_first live p ps k v true false e f h rest = rw (f, e) (rw (e, f) (ap (λ r. p ∷ r) rest))
+put_first live p ps k v true true e f h rest =
+    ap (λ c. pairs_there live (if c then (p.0, v) ∷ ps else p ∷ insert_entry value_eq ps k v)) f
+    ∙ ap (λ b. cond b ((p.0, v) ∷ pairs_there live ps) (pairs_there live ps)) e
+    ∙ sym (ap (λ b. insert_entry value_eq (cond b (p ∷ pairs_there live ps) (pairs_there live ps)) k v) e ∙ ap (λ c. if c then (p.0, v) ∷ pairs_there live ps else p ∷ insert_entry value_eq (pairs_there live ps) k v) f)
+put_first live p ps k v true false e f h rest =
+    ap (λ c. pairs_there live (if c then (p.0, v) ∷ ps else p ∷ insert_entry value_eq ps k v)) f
+    ∙ ap (λ b. cond b (p ∷ pairs_there live (insert_entry value_eq ps k v)) (pairs_there live (insert_entry value_eq ps k v))) e
+    ∙ ap (λ r. p ∷ r) rest
+    ∙ sym (ap (λ b. insert_entry value_eq (cond b (p ∷ pairs_there live ps) (pairs_there live ps)) k v) e ∙ ap (λ c. if c then (p.0, v) ∷ pairs_there live ps else p ∷ insert_entry value_eq (pairs_there live ps) k v) f)
 put_first live p ps k v false true e f h rest = let s : k ≡ p.0 = value_eq_one k p.0 f in absurd (true≢false (sym h ∙ ap (λ q. is_some (live_part live q)) s ∙ e))
-put_first live p ps k v false false e f h rest = rw (f, e) (rw e rest)
+put_first live p ps k v false false e f h rest =
+    ap (λ c. pairs_there live (if c then (p.0, v) ∷ ps else p ∷ insert_entry value_eq ps k v)) f
+    ∙ ap (λ b. cond b (p ∷ pairs_there live (insert_entry value_eq ps k v)) (pairs_there live (insert_entry value_eq ps k v))) e
+    ∙ rest
+    ∙ sym (ap (λ b. insert_entry value_eq (cond b (p ∷ pairs_there live ps) (pairs_there live ps)) k v) e)
 
 -- a put of a key that is no dead object, and a sweep: in either order
 pub there_inserted : (live : ObjId → Bool) (ps : List Pair) (k v : Value) → is_some (live_part live k) ≡ true → pairs_there live (insert_entry value_eq ps k v) ≡ insert_entry value_eq (pairs_there live ps) k v

@@ -3,6 +3,7 @@ ghost use Rattle.std.specs.Prelude.{◌≡◌, ◌+◌, ◌<◌, ◌^◌, ◌++�
 ghost use Rattle.std.specs.Map.{lookup, remove_entry};
 ghost use Rattle.std.specs.Map.Iter.{deref_pair};
 ghost use Rattle.std.specs.Option.{option_copied, option_map, option_to_list};
+ghost use Rattle.std.specs.Vec.{vec_capacity, vec_len};
 ghost use Rattle.indexmap.specs.IndexMap.{insert_entry};
 ghost use Rattle.lp_values.specs.Read.{value_eq};
 ghost use Rattle.lp_values.specs.declared.value.Value.{Value as V};
@@ -231,10 +232,20 @@ fn add(
     ensures ok { OnOk result (slots.new.items ≡ slots.old.items ++ Some (key, v) ∷ []) }
     ensures err { OnErr result (slots.new.items ≡ slots.old.items) }
 {
-    slots.reserve(1)?;
-    note_place(places, &key, slots.len())?;
+    let place = next_slot(slots)?;
+    note_place(places, &key, place)?;
     slots.push_reserved(Some((key, v)));
     Ok(())
+}
+
+/// Makes room for one slot more, and tells which it will be.
+fn next_slot(slots: &mut Vec<Option<(Value, Value)>>) -> Result<usize, AllocError>
+    ensures place { IfOk result (λ s. s ≡ length slots.old.items) }
+    ensures room { OnOk result (vec_len slots.new < vec_capacity slots.new) }
+    ensures kept { slots.new.items ≡ slots.old.items }
+{
+    slots.reserve(1)?;
+    Ok(slots.len())
 }
 
 /// Takes a key out, and tells whether it was there. Its slot becomes a gap.
