@@ -112,16 +112,15 @@ impl Pairs {
     }
 
     /// Puts a value at a key: at its place where the key is stored, else last.
-    #[tactic(auto, using(crate::proofs::ObjectLemmas::objects_within))]
     pub fn put(&mut self, key: Value, v: Value) -> Result<(), AllocError>
         ensures ok { OnOk result (self.new ≡ insert_entry value_eq self.old key v) }
         ensures err { OnErr result (self.new ≡ self.old) }
     {
         let counts = is_object(&key);
+        // No more keys are objects than pairs are stored, so that the sum below fits.
+        let _stored = self.slots.len();
         let is_new = self.slots.put(key, v)?;
         if is_new && counts {
-            // A map's length is far below the largest number, so the sum fits.
-            let _stored = self.slots.len();
             self.objects += 1;
         }
         Ok(())
