@@ -1,8 +1,6 @@
 -- Laws of mappings as read.
-use Rattle.std.proofs.Common.{◌≡◌, ℕ, ◌+◌, ◌++◌, suc, zero, List, [], ◌∷◌, Bool, true, false, refl, ap, ◌∙◌, sym, Some, None, cond, arith, Option, take, add-one, slice_get, length, ◌≤◌, ◌<◌, ◌||◌, nat_lt, if◌then◌else◌, unwrap_or, pos, is_some}
-use Rattle.std.specs.Option.{option_to_list}
-use Rattle.std.proofs.lemmas.List.Elements.{filter-append}
-use Rattle.std.proofs.lemmas.List.Sums.{count_by-le-length, fold-append, length-filter}
+use Rattle.std.proofs.Common.{◌≡◌, ℕ, List, [], ◌∷◌, Bool, true, false, refl, ap, ◌∙◌, sym, Some, None, cond, arith, Option, length, ◌≤◌, ◌<◌, ◌||◌, nat_lt, if◌then◌else◌, unwrap_or, pos, is_some}
+use Rattle.std.proofs.lemmas.List.Sums.{count_by-le-length, length-filter}
 use Rattle.std.proofs.lemmas.Bool.{ltb-true}
 use Rattle.indexmap.specs.IndexMap.{insert_all}
 use Rattle.std.specs.Map.{lookup}

@@ -1,8 +1,7 @@
 -- How many keys of a mapping are objects.
-use Rattle.std.proofs.Common.{◌≡◌, ℕ, ◌+◌, ◌≤◌, List, [], ◌∷◌, Bool, true, false, refl, ap, sym, Option, Some, cond, arith, length, if◌then◌else◌, is_some, not, slice_get, take, ◌∙◌}
-use Rattle.std.specs.Option.{option_to_list}
+use Rattle.std.proofs.Common.{◌≡◌, ℕ, ◌+◌, ◌≤◌, List, [], ◌∷◌, Bool, true, false, refl, ap, sym, Some, cond, arith, length, if◌then◌else◌, is_some, not, ◌∙◌}
 use Rattle.std.specs.Map.{lookup, remove_entry}
-use Rattle.std.proofs.lemmas.List.Sums.{count_by-le-length, sum_by-append, sum_by-cons}
+use Rattle.std.proofs.lemmas.List.Sums.{count_by-le-length, sum_by-cons}
 use Rattle.indexmap.specs.IndexMap.{insert_entry}
 use Rattle.lp_values.specs.Read.{value_eq}
 use Rattle.lp_values.specs.declared.id.ObjId.{ObjId}

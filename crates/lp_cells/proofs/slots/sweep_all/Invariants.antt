@@ -1,4 +1,4 @@
-use Rattle.std.proofs.Common.{◌≡◌, ◌≤◌, length}
+use Rattle.std.proofs.Common.{◌≡◌, length}
 use Rattle.lp_cells.specs.Mapping.{pairs_there}
 use Rattle.lp_cells.specs.Slots.{IsIndexed, IsSweptTo, filled}
 use Rattle.lp_cells.proofs.slots.sweep_all.Given as goal

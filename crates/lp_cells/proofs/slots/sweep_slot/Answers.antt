@@ -1,4 +1,4 @@
-use Rattle.std.proofs.Common.{◌≡◌, Some, ap, sym, ◌∙◌}
+use Rattle.std.proofs.Common.{ap, sym, ◌∙◌}
 use Rattle.std.specs.Option.{option_copied}
 use Rattle.lp_cells.proofs.SlotLemmas.{dead_indexed, dead_same}
 use Rattle.lp_cells.proofs.slots.sweep_slot.Goals as goal

@@ -1,4 +1,4 @@
-use Rattle.std.proofs.Common.{ap, is_some, sym, ◌∙◌}
+use Rattle.std.proofs.Common.{ap, is_some, sym}
 use Rattle.lp_cells.proofs.SlotLemmas.{absent_indexed, gone_filled, gone_indexed, known_indexed, remove_absent}
 use Rattle.lp_cells.proofs.slots.take_out.Goals as goal
 
