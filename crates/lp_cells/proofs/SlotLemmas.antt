@@ -256,11 +256,11 @@ noted_other k q o old new u e = u q ∙ ap (λ b. if b then o else lookup (value
 pub index_pushed : (places new : List (Value × ℕ)) (slots : Row) (k v : Value) → IsIndexed places slots → lookup (value_eq k) places ≡ None → AreNoted k (Some (length slots)) places new → length new ≡ length places + 1 → IsIndexed new (slots ++ Some (k, v) ∷ [])
 index_pushed places new slots k v i n u c = record {
   sound = λ q s e. elim (same_or k q (value_eq k q) refl) [
-    inl m ↦ (let f : length slots ≡ s = (let a = noted_same k q (Some (length slots)) places new u m.1 in cc) in (v, subst (λ t. slice_get (slots ++ Some (k, v) ∷ []) t ≡ Some (Some (q, v))) f (get_last slots (Some (k, v)) ∙ ap (λ t. Some (Some (t, v))) m.0)))
+    | inl m ↦ (let f : length slots ≡ s = (let a = noted_same k q (Some (length slots)) places new u m.1 in cc) in (v, subst (λ t. slice_get (slots ++ Some (k, v) ∷ []) t ≡ Some (Some (q, v))) f (get_last slots (Some (k, v)) ∙ ap (λ t. Some (Some (t, v))) m.0)))
     | inr o ↦ (let r = i.sound q s (sym (noted_other k q (Some (length slots)) places new u o.1) ∙ e) in (r.0, get_push slots s (Some (k, v)) (Some (q, r.0)) r.1))
   ];
   whole = λ q w s e. elim (push_get slots s (Some (k, v)) (Some (q, w)) e) [
-    inl l ↦ (let a = i.whole q w s l in elim (same_or k q (value_eq k q) refl) [ inl m ↦ (let b = subst (λ t. lookup (value_eq t) places ≡ None) m.0 n in cc) | inr o ↦ noted_other k q (Some (length slots)) places new u o.1 ∙ a ])
+    | inl l ↦ (let a = i.whole q w s l in elim (same_or k q (value_eq k q) refl) [ inl m ↦ (let b = subst (λ t. lookup (value_eq t) places ≡ None) m.0 n in cc) | inr o ↦ noted_other k q (Some (length slots)) places new u o.1 ∙ a ])
     | inr m ↦ (let g : k ≡ q = slot_key (k, v) (q, w) (ap Some m.1) in noted_same k q (Some (length slots)) places new u (subst (λ t. value_eq k t ≡ true) g (value_eq_refl k)) ∙ ap Some (sym m.0))
   ];
   counted = omega (arith, c, i.counted, ap length (filled_push slots (Some (k, v))), length-append (filled slots) ((k, v) ∷ []));
@@ -270,11 +270,11 @@ index_pushed places new slots k v i n u c = record {
 pub index_gone : (places new : List (Value × ℕ)) (slots : Row) (k v : Value) (s : ℕ) → IsIndexed places slots → slice_get slots s ≡ Some (Some (k, v)) → AreNoted k None places new → length new + 1 ≡ length places → IsIndexed new (slice_set slots s None)
 index_gone places new slots k v s i h u c = record {
   sound = λ q t e. elim (same_or k q (value_eq k q) refl) [
-    inl m ↦ (let a = noted_same k q None places new u m.1 in cc)
+    | inl m ↦ (let a = noted_same k q None places new u m.1 in cc)
     | inr o ↦ (let r = i.sound q t (sym (noted_other k q None places new u o.1) ∙ e) in elim (get_set slots s t None (Some (q, r.0)) r.1) [ inl l ↦ (r.0, l) | inr m ↦ absurd (o.0 (let f : slice_get slots s ≡ Some (Some (q, r.0)) = subst (λ n. slice_get slots n ≡ Some (Some (q, r.0))) m.0 r.1 in slot_key (k, v) (q, r.0) (sym h ∙ f))) ])
   ];
   whole = λ q w t e. elim (set_get slots s t None (Some (q, w)) e) [
-    inl l ↦ (let a = i.whole q w t l.1 in elim (same_or k q (value_eq k q) refl) [ inl m ↦ absurd (l.0 (let b = i.whole k v s h in let d = subst (λ n. lookup (value_eq n) places ≡ Some s) m.0 b in let g : t ≡ s = cc in g)) | inr o ↦ noted_other k q None places new u o.1 ∙ a ])
+    | inl l ↦ (let a = i.whole q w t l.1 in elim (same_or k q (value_eq k q) refl) [ inl m ↦ absurd (l.0 (let b = i.whole k v s h in let d = subst (λ n. lookup (value_eq n) places ≡ Some s) m.0 b in let g : t ≡ s = cc in g)) | inr o ↦ noted_other k q None places new u o.1 ∙ a ])
     | inr m ↦ (let z = m.1 in cc)
   ];
   counted = omega (arith, c, i.counted, gone_length slots (k, v) s h);
@@ -312,7 +312,7 @@ number_next places new slots k v s n h u c = record {
   stored = λ q g. elim (same_or k q (value_eq k q) refl) [ inl m ↦ (s, (v, h ∙ ap (λ t. Some (Some (t, v))) m.0)) | inr o ↦ n.stored q (subst IsSome (noted_other k q (Some s) places new u o.1) g) ];
   known = λ q w t g. elim (same_or k q (value_eq k q) refl) [ inl m ↦ some_by (lookup (value_eq q) new) s (noted_same k q (Some s) places new u m.1) | inr o ↦ subst IsSome (sym (noted_other k q (Some s) places new u o.1)) (n.known q w t g) ];
   done = λ q w t l g. elim (same_or k q (value_eq k q) refl) [
-    inl m ↦ noted_same k q (Some s) places new u m.1 ∙ ap Some (n.apart k v w s t h (subst (λ x. slice_get slots t ≡ Some (Some (x, w))) (sym m.0) g))
+    | inl m ↦ noted_same k q (Some s) places new u m.1 ∙ ap Some (n.apart k v w s t h (subst (λ x. slice_get slots t ≡ Some (Some (x, w))) (sym m.0) g))
     | inr o ↦ (let d : t ≢ s = (λ e. o.0 (let f : slice_get slots s ≡ Some (Some (q, w)) = subst (λ x. slice_get slots x ≡ Some (Some (q, w))) e g in slot_key (k, v) (q, w) (sym h ∙ f))) in noted_other k q (Some s) places new u o.1 ∙ n.done q w t (omega (arith, d)) g)
   ];
   counted = c ∙ n.counted;

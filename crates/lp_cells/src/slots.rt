@@ -205,11 +205,7 @@ fn place_of(places: &IndexMap<Value, usize>, key: &Value) -> Option<usize>
 }
 
 /// Notes the slot of a new key.
-fn note_place(
-    places: &mut IndexMap<Value, usize>,
-    key: &Value,
-    s: usize,
-) -> Result<(), AllocError>
+fn note_place(places: &mut IndexMap<Value, usize>, key: &Value, s: usize) -> Result<(), AllocError>
     requires { lookup (value_eq key.now) places.old.entries ≡ None }
     ensures places { OnOk result ((q : V) → lookup (value_eq q) places.new.entries ≡ (if value_eq key.now q then Some s else lookup (value_eq q) places.old.entries)) }
     ensures len { OnOk result (length places.new.entries ≡ length places.old.entries + 1) }
