@@ -181,6 +181,14 @@ none_from (Some v) h = absurd (h refl)
 pub absent_indexed : (places : List (Value × ℕ)) (slots : Row) (k : Value) → IsIndexed places slots → lookup (value_eq k) places ≡ None → lookup (value_eq k) (filled slots) ≡ None
 absent_indexed places slots k i n = none_from (lookup (value_eq k) (filled slots)) (λ h. let r = key_place slots k h in let a = i.whole k r.1.0 r.0 r.1.1 in cc)
 
+none_place : (o : Option ℕ) → ((s : ℕ) → o ≢ Some s) → o ≡ None
+none_place None h = refl
+none_place (Some s) h = absurd (h s refl)
+
+-- and a key of no pair has no noted place
+pub absent_places : (places : List (Value × ℕ)) (slots : Row) (k : Value) → IsIndexed places slots → lookup (value_eq k) (filled slots) ≡ None → lookup (value_eq k) places ≡ None
+absent_places places slots k i n = none_place (lookup (value_eq k) places) (λ s e. let r = i.sound k s e in let f = key_found slots k r.0 s r.1 in true≢false (sym f ∙ ap is_some n))
+
 -- a put of a new key
 insert_step : (p : Pair) (ps : List Pair) (k v : Value) (b : Bool) → cond b (Some p.1) (lookup (value_eq k) ps) ≡ None → (lookup (value_eq k) ps ≡ None → insert_entry value_eq ps k v ≡ ps ++ (k, v) ∷ []) → (if b then (p.0, v) ∷ ps else p ∷ insert_entry value_eq ps k v) ≡ p ∷ (ps ++ (k, v) ∷ [])
 insert_step p ps k v true h rest = cc
@@ -428,8 +436,8 @@ write_filled places slots k v s x y i e g w =
     let r = slot_at places slots k s x i e g in
     ap (λ z. filled (slice_set slots s z)) (w ∙ ap (option_map (λ p. (p.0, v))) r.2) ∙ put_at slots k r.0 v s r.1 (only_indexed places slots k r.0 s i r.1)
 
-pub add_filled : (slots new : Row) (k v : Value) → lookup (value_eq k) (filled slots) ≡ None → new ≡ slots ++ Some (k, v) ∷ [] → filled new ≡ insert_entry value_eq (filled slots) k v
-add_filled slots new k v n e = ap filled e ∙ filled_push slots (Some (k, v)) ∙ sym (insert_absent (filled slots) k v n)
+pub last_filled : (old mid new : Row) (k v : Value) → filled mid ≡ filled old → new ≡ mid ++ Some (k, v) ∷ [] → filled new ≡ filled old ++ (k, v) ∷ []
+last_filled old mid new k v m e = ap filled e ∙ filled_push mid (Some (k, v)) ∙ ap (λ ps. ps ++ (k, v) ∷ []) m
 
 pub add_indexed : (places noted : List (Value × ℕ)) (slots mid new : Row) (k v : Value) (s : ℕ) → IsIndexed places slots → lookup (value_eq k) places ≡ None → mid ≡ slots → s ≡ length mid → ((q : Value) → lookup (value_eq q) noted ≡ (if value_eq k q then Some s else lookup (value_eq q) places)) → length noted ≡ length places + 1 → new ≡ mid ++ Some (k, v) ∷ [] → IsIndexed noted new
 add_indexed places noted slots mid new k v s i n m l u c e =

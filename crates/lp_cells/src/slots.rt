@@ -99,7 +99,7 @@ impl Slots {
                 Ok(false)
             }
             None => {
-                add(&mut self.places, &mut self.slots, key, v)?;
+                put_last(&mut self.places, &mut self.slots, key, v)?;
                 Ok(true)
             }
         }
@@ -215,7 +215,36 @@ fn note_place(places: &mut IndexMap<Value, usize>, key: &Value, s: usize) -> Res
     Ok(())
 }
 
-/// Puts a pair with a new key last.
+/// Puts a pair with a new key last. Full slots with many gaps are tidied before more memory is taken.
+fn put_last(
+    places: &mut IndexMap<Value, usize>,
+    slots: &mut Vec<Option<(Value, Value)>>,
+    key: Value,
+    v: Value,
+) -> Result<(), AllocError>
+    requires indexed { IsIndexed places.old.entries slots.old.items }
+    requires absent { lookup (value_eq key) places.old.entries ≡ None }
+    ensures indexed { IsIndexed places.new.entries slots.new.items }
+    ensures ok { OnOk result (filled slots.new.items ≡ filled slots.old.items ++ (key, v) ∷ []) }
+    ensures err { OnErr result (filled slots.new.items ≡ filled slots.old.items) }
+{
+    tidy_full(places, slots);
+    add(places, slots, key, v)?;
+    Ok(())
+}
+
+/// Closes the gaps where there is no room for one slot more and about a quarter of the slots are gaps.
+fn tidy_full(places: &mut IndexMap<Value, usize>, slots: &mut Vec<Option<(Value, Value)>>)
+    requires { IsIndexed places.old.entries slots.old.items }
+    ensures indexed { IsIndexed places.new.entries slots.new.items }
+    ensures kept { filled slots.new.items ≡ filled slots.old.items }
+{
+    if slots.len() == slots.capacity() && places.len() / 3 < slots.len() / 4 {
+        close_gaps(places, slots);
+    }
+}
+
+/// Puts a pair with a new key behind the slots.
 fn add(
     places: &mut IndexMap<Value, usize>,
     slots: &mut Vec<Option<(Value, Value)>>,
