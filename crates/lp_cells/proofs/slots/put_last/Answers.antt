@@ -1,7 +1,6 @@
 use Rattle.std.proofs.Common.{ap, ◌∙◌}
 use Rattle.std.specs.Map.{lookup}
 use Rattle.lp_values.specs.Read.{value_eq}
-use Rattle.lp_cells.specs.Slots.{filled}
 use Rattle.lp_cells.proofs.SlotLemmas.{absent_indexed, absent_places, last_filled}
 use Rattle.lp_cells.proofs.slots.put_last.Goals as goal
 
