@@ -26,6 +26,6 @@ group-lacks hay c at n fits none k low high is =
     false≢true (sym none ∙ found)
 
 -- a first place from later on, where there is none before
-pub IsFirst-earlier : {P : ℕ → Type 0} {i j l : ℕ} (r : Option ℕ) → i ≤ j → Nowhere P i j → IsFirst P j l r → IsFirst P i l r
-IsFirst-earlier None le front back = Nowhere-then front back
-IsFirst-earlier (Some k) le front back = let low = back.0.low in (record { low = omega arith; high = back.0.high; before = Nowhere-then front back.0.before }, back.1)
+pub IsFirst-earlier : (P : ℕ → Type 0) (i j l : ℕ) (r : Option ℕ) → i ≤ j → Nowhere P i j → IsFirst P j l r → IsFirst P i l r
+IsFirst-earlier P i j l None le front back = Nowhere-then front back
+IsFirst-earlier P i j l (Some k) le front back = let low = back.0.low in (record { low = omega arith; high = back.0.high; before = Nowhere-then front back.0.before }, back.1)
