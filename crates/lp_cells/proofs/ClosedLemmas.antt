@@ -14,9 +14,10 @@ use Rattle.lp_values.specs.declared.value.Value.TheVariants.{Int, Str, Arr, Map,
 use Rattle.lp_cells.specs.declared.content.Content.{Content}
 use Rattle.lp_cells.specs.declared.content.Content.TheVariants.{Array, Mapping}
 use Rattle.lp_cells.specs.declared.content.Kind.TheVariants as kind
-use Rattle.lp_cells.specs.Cells.{AreThere, IsClosed, IsPairThere, IsThere, KeepsThere, Store, as_items, as_pairs, content_at, content_set, item_set, items_at, items_of, kind_of, pairs_at, stored_pairs, with_cell}
+use Rattle.lp_cells.specs.Cells.{AreThere, IsClosed, IsPairThere, IsSlotThere, IsThere, KeepsThere, Store, as_items, as_pairs, content_at, content_set, item_set, items_at, items_of, kind_of, pairs_at, stored_pairs, with_cell}
 use Rattle.lp_cells.specs.Mapping.{IsFullFor, value_at_key, pairs_dropped, pairs_put, pairs_there, has_room_for}
 use Rattle.lp_cells.specs.Refusals.{UnlessFull}
+use Rattle.lp_cells.specs.Slots.{filled}
 use Rattle.lp_cells.specs.declared.fault.CellFault.{CellFault}
 
 -- each cell is still there, of its kind
@@ -233,3 +234,9 @@ borrowed_there cells (Some v) l e h = let t : IfSome (option_copied (Some v)) (I
 -- the value that a look-up finds is there
 pub value_there : (live : ObjId → Bool) (cells : Store) (o : Option (Bor Value)) (ps : List (Value × Value)) (k : Value) → option_copied o ≡ value_at_key live ps k → All (IsPairThere cells) ps → IfSome o (λ v. IsThere cells v.now)
 value_there live cells o ps k e h = borrowed_there cells o (value_at_key live ps k) e (found_in cells (same live k) (pairs_there live ps) (All-filter (λ p. is_some (live_part live p.0)) (IsPairThere cells) ps h))
+
+-- the pairs of a mapping that are there are there in their slots
+pub slots_there : (cells : Store) (slots : List (Option (Value × Value))) → All (IsPairThere cells) (filled slots) → All (IsSlotThere cells) slots
+slots_there cells [] h = All-nil (IsSlotThere cells)
+slots_there cells (None ∷ xs) h = All-cons (IsSlotThere cells) None xs tt (slots_there cells xs h)
+slots_there cells (Some p ∷ xs) h = All-cons (IsSlotThere cells) (Some p) xs (All-head (IsPairThere cells) p (filled xs) h) (slots_there cells xs (All-tail (IsPairThere cells) p (filled xs) h))

@@ -1,31 +1,18 @@
 -- Laws of mappings as read.
-use Rattle.std.proofs.Common.{◌≡◌, ℕ, ◌+◌, ◌++◌, suc, zero, List, [], ◌∷◌, Bool, true, false, refl, ap, ◌∙◌, sym, Some, None, cond, arith, Option, take, add-one, slice_get, length, ◌≤◌, ◌<◌, ◌||◌, nat_lt, if◌then◌else◌, unwrap_or, pos, is_some}
-use Rattle.std.specs.Option.{option_to_list}
-use Rattle.std.proofs.lemmas.List.Elements.{filter-append}
-use Rattle.std.proofs.lemmas.List.Sums.{count_by-le-length, fold-append, length-filter}
+use Rattle.std.proofs.Common.{◌≡◌, ℕ, List, [], ◌∷◌, Bool, true, false, refl, ap, ◌∙◌, sym, Some, None, cond, arith, Option, length, ◌≤◌, ◌<◌, ◌||◌, nat_lt, if◌then◌else◌, unwrap_or, pos, is_some}
+use Rattle.std.proofs.lemmas.List.Sums.{count_by-le-length, length-filter}
 use Rattle.std.proofs.lemmas.Bool.{ltb-true}
 use Rattle.indexmap.specs.IndexMap.{insert_all}
-use Rattle.std.specs.Map.{lookup, remove_entry}
+use Rattle.std.specs.Map.{lookup}
 use Rattle.std.specs.Prelude.{filter}
 use Rattle.indexmap.specs.IndexMap.{insert_entry}
 use Rattle.lp_values.specs.Read.{live_part, as_read, value_eq, same}
 use Rattle.lp_values.specs.declared.id.ObjId.{ObjId}
 use Rattle.lp_values.specs.declared.value.Value.{Value}
 use Rattle.lp_values.specs.declared.value.Value.TheVariants.{Int, Str, Arr, Map, Obj}
-use Rattle.lp_values.specs.contracts.value.ValuePartialEq.TheImpl as derived
-use Rattle.lp_values.proofs.ReadLemmas.{eq_is, not_dead}
-use Rattle.lp_cells.specs.Mapping.{has_room_for, pairs_there, pair_there, pairs_put, value_at_key, IsFullFor}
+use Rattle.lp_values.proofs.ReadLemmas.{not_dead}
+use Rattle.lp_cells.specs.Mapping.{has_room_for, pairs_there, pairs_put, value_at_key, IsFullFor}
 use Rattle.lp_values.specs.Limits.{max_items}
-
--- the test by which the map finds keys is equality of values
-pub lookup-derived : (k : Value) (ps : List (Value × Value)) → lookup ((derived.eq-value).it k) ps ≡ lookup (value_eq k) ps
-lookup-derived k ps = λ i. lookup (λ v. eq_is k v i) ps
-
-pub remove_entry-derived : (k : Value) (ps : List (Value × Value)) → remove_entry ((derived.eq-value).it k) ps ≡ remove_entry (value_eq k) ps
-remove_entry-derived k ps = λ i. remove_entry (λ v. eq_is k v i) ps
-
-pub insert_entry-derived : (ps : List (Value × Value)) (k v : Value) → insert_entry (derived.eq-value).it ps k v ≡ insert_entry value_eq ps k v
-insert_entry-derived ps k v = λ i. insert_entry (λ a b. eq_is a b i) ps k v
 
 obj_step : (live : ObjId → Bool) (k : Value) (o : ObjId) (v : Value) (ps : List (Value × Value)) (r : Option Value) (b : Bool) → live o ≡ b → r ≡ lookup (same live k) (filter (λ p. is_some (live_part live p.0)) ps) → cond (value_eq (as_read live k) (Obj o)) (Some v) r ≡ lookup (same live k) (filter (λ p. is_some (live_part live p.0)) ((Obj o, v) ∷ ps))
 obj_step live k o v ps r true h e = rw (h, h) (ap (cond (value_eq (as_read live k) (Obj o)) (Some v)) e)
@@ -43,24 +30,6 @@ lookup_read live k ((Obj o, v) ∷ ps) = obj_step live k o v ps _ (live o) refl 
 -- the same from the value that a key reads as, if it is no dead object
 pub find_part : (live : ObjId → Bool) (k v : Value) (ps : List (Value × Value)) → unwrap_or (live_part live k) (Int (pos 0)) ≡ v → lookup (value_eq v) ps ≡ value_at_key live ps k
 find_part live k v ps e = ap (λ w. lookup (value_eq w) ps) (sym e) ∙ lookup_read live k ps
-
-take-suc : {X : Type 0} (xs : List X) (i : ℕ) → take (suc i) xs ≡ take i xs ++ option_to_list (slice_get xs i)
-take-suc [] zero = refl
-take-suc [] (suc i) = refl
-take-suc (x ∷ xs) zero = refl
-take-suc (x ∷ xs) (suc i) = ap (λ ys. x ∷ ys) (take-suc xs i)
-
--- one item more
-pub take_next : {X : Type 0} (xs : List X) (i : ℕ) → take (i + 1) xs ≡ take i xs ++ option_to_list (slice_get xs i)
-take_next xs i = rw add-one (take-suc xs i)
-
--- the pairs that are there, one place further
-pub pairs_there_next : (live : ObjId → Bool) (ps : List (Value × Value)) (i : ℕ) → pairs_there live (take (i + 1) ps) ≡ pairs_there live (take i ps) ++ pair_there live ps i
-pairs_there_next live ps i = ap (pairs_there live) (take_next ps i) ∙ filter-append (λ p. is_some (live_part live p.0)) (take i ps) (option_to_list (slice_get ps i))
-
--- the pairs that were put, one place further
-pub insert_all_next : (live : ObjId → Bool) (es ps : List (Value × Value)) (i : ℕ) → insert_all value_eq es (pairs_there live (take (i + 1) ps)) ≡ insert_all value_eq (insert_all value_eq es (pairs_there live (take i ps))) (pair_there live ps i)
-insert_all_next live es ps i = ap (insert_all value_eq es) (pairs_there_next live ps i) ∙ fold-append (λ done p. insert_entry value_eq done p.0 p.1) es (pairs_there live (take i ps)) (pair_there live ps i)
 
 -- no more pairs are there than are stored
 pub length_there : (live : ObjId → Bool) (ps : List (Value × Value)) → length (pairs_there live ps) ≤ length ps

@@ -1,17 +1,14 @@
 -- How many keys of a mapping are objects.
-use Rattle.std.proofs.Common.{◌≡◌, ℕ, ◌+◌, ◌≤◌, List, [], ◌∷◌, Bool, true, false, refl, ap, sym, Option, Some, cond, arith, length, if◌then◌else◌, is_some, not, slice_get, take, ◌∙◌}
-use Rattle.std.specs.Option.{option_to_list}
+use Rattle.std.proofs.Common.{◌≡◌, ℕ, ◌+◌, ◌≤◌, List, [], ◌∷◌, Bool, true, false, refl, ap, sym, Some, cond, arith, length, if◌then◌else◌, is_some, not, ◌∙◌}
 use Rattle.std.specs.Map.{lookup, remove_entry}
-use Rattle.std.proofs.lemmas.List.Sums.{count_by-le-length, sum_by-append, sum_by-cons}
+use Rattle.std.proofs.lemmas.List.Sums.{count_by-le-length, sum_by-cons}
 use Rattle.indexmap.specs.IndexMap.{insert_entry}
 use Rattle.lp_values.specs.Read.{value_eq}
 use Rattle.lp_values.specs.declared.id.ObjId.{ObjId}
 use Rattle.lp_values.specs.declared.value.Value.{Value}
 use Rattle.lp_values.specs.declared.value.Value.TheVariants.{Int, Str, Arr, Map, Obj}
-use Rattle.lp_values.specs.contracts.value.ValuePartialEq.TheImpl as derived
 use Rattle.lp_values.proofs.ReadLemmas.{value_eq_one}
 use Rattle.lp_cells.specs.Mapping.{is_object, objects_in, pairs_there}
-use Rattle.lp_cells.proofs.MappingLemmas.{insert_entry-derived, lookup-derived, remove_entry-derived, take_next}
 
 -- one, if a value is an object
 abbrev one_of : Value → ℕ
@@ -63,28 +60,23 @@ objects_removed : (ps : List (Value × Value)) (k : Value) → objects_in (remov
 objects_removed [] k = omega arith
 objects_removed (p ∷ ps) k = removed ps (remove_entry (value_eq k) ps) k p (value_eq k p.0) (value_eq_one k p.0) (objects_removed ps k)
 
--- the keys up to one place further
-pub objects_next : (ps : List (Value × Value)) (i : ℕ) → objects_in (take (i + 1) ps) ≡ objects_in (take i ps) + objects_in (option_to_list (slice_get ps i))
-unfolding objects_in
-objects_next ps i = ap objects_in (take_next ps i) ∙ sum_by-append (λ q. one_of q.0) (take i ps) (option_to_list (slice_get ps i))
+turned : (b : Bool) (m : ℕ) → cond (not b) m 0 ≡ cond b 0 m
+turned true m = refl
+turned false m = refl
 
--- the count of the keys that are objects, after a put by the test of the map: one more for a new key that is an object
-pub count_inserted : (n : ℕ) (ps qs : List (Value × Value)) (k v : Value) (old : Option Value) (is_new object : Bool) → n ≡ objects_in ps → old ≡ lookup ((derived.eq-value).it k) ps → qs ≡ insert_entry (derived.eq-value).it ps k v → is_some old ≡ not is_new → object ≡ is_object k → n + cond is_new (cond object 1 0) 0 ≡ objects_in qs
-count_inserted n ps qs k v old true object counted found after new is =
-    let absent : is_some (lookup (value_eq k) ps) ≡ false = sym (ap is_some (found ∙ lookup-derived k ps)) ∙ new in
-    let put : objects_in qs ≡ objects_in ps + one_of k = ap objects_in (after ∙ insert_entry-derived ps k v) ∙ objects_inserted ps k v ∙ ap (λ b. objects_in ps + cond b 0 (one_of k)) absent in
+-- the count of the keys that are objects, after a put: one more for a new key that is an object
+pub count_inserted : (n : ℕ) (ps qs : List (Value × Value)) (k v : Value) (is_new object : Bool) → n ≡ objects_in ps → is_new ≡ not (is_some (lookup (value_eq k) ps)) → qs ≡ insert_entry value_eq ps k v → object ≡ is_object k → n + cond is_new (cond object 1 0) 0 ≡ objects_in qs
+count_inserted n ps qs k v is_new object counted new after is =
+    let put : objects_in qs ≡ objects_in ps + cond (is_some (lookup (value_eq k) ps)) 0 (one_of k) = ap objects_in after ∙ objects_inserted ps k v in
     let one : cond object 1 0 ≡ one_of k = ap (λ b. cond b 1 0) is in
-    omega arith
-count_inserted n ps qs k v old false object counted found after new is =
-    let there : is_some (lookup (value_eq k) ps) ≡ true = sym (ap is_some (found ∙ lookup-derived k ps)) ∙ new in
-    let put : objects_in qs ≡ objects_in ps + 0 = ap objects_in (after ∙ insert_entry-derived ps k v) ∙ objects_inserted ps k v ∙ ap (λ b. objects_in ps + cond b 0 (one_of k)) there in
+    let turn : cond is_new (cond object 1 0) 0 ≡ cond (is_some (lookup (value_eq k) ps)) 0 (one_of k) = ap (λ b. cond b (cond object 1 0) 0) new ∙ turned (is_some (lookup (value_eq k) ps)) (cond object 1 0) ∙ ap (cond (is_some (lookup (value_eq k) ps)) 0) one in
     omega arith
 
 -- and after a drop: one less for a stored key that is an object
-pub count_removed : (n : ℕ) (ps qs : List (Value × Value)) (k : Value) (old : Option Value) (was_stored object : Bool) → n ≡ objects_in ps → old ≡ lookup ((derived.eq-value).it k) ps → qs ≡ remove_entry ((derived.eq-value).it k) ps → was_stored ≡ is_some old → object ≡ is_object k → objects_in qs + cond was_stored (cond object 1 0) 0 ≡ n
-count_removed n ps qs k old was_stored object counted found after stored is =
-    let there : is_some (lookup (value_eq k) ps) ≡ was_stored = sym (ap is_some (found ∙ lookup-derived k ps)) ∙ sym stored in
+pub count_removed : (n : ℕ) (ps qs : List (Value × Value)) (k : Value) (was_stored object : Bool) → n ≡ objects_in ps → was_stored ≡ is_some (lookup (value_eq k) ps) → qs ≡ remove_entry (value_eq k) ps → object ≡ is_object k → objects_in qs + cond was_stored (cond object 1 0) 0 ≡ n
+count_removed n ps qs k was_stored object counted found after is =
     let one : cond object 1 0 ≡ one_of k = ap (λ b. cond b 1 0) is in
-    let left : objects_in qs ≡ objects_in (remove_entry (value_eq k) ps) = ap objects_in (after ∙ remove_entry-derived k ps) in
-    let drop : objects_in (remove_entry (value_eq k) ps) + cond was_stored (cond object 1 0) 0 ≡ objects_in ps = rw (one, ← there) (objects_removed ps k) in
+    let left : objects_in qs ≡ objects_in (remove_entry (value_eq k) ps) = ap objects_in after in
+    let turn : cond was_stored (cond object 1 0) 0 ≡ cond (is_some (lookup (value_eq k) ps)) (one_of k) 0 = ap (λ b. cond b (cond object 1 0) 0) found ∙ ap (λ m. cond (is_some (lookup (value_eq k) ps)) m 0) one in
+    let drop = objects_removed ps k in
     omega arith

@@ -1,5 +1,5 @@
 -- Cells, found by their serials.
-use Rattle.std.specs.Prelude.{◌≡◌, List, [], ◌++◌, ◌∷◌, ℕ, ⊤, Bool, Option, Some, None, All, IsSome, length, slice_get, slice_set, unwrap_or}
+use Rattle.std.specs.Prelude.{◌≡◌, List, [], ◌++◌, ◌∷◌, ℕ, ⊤, Bool, Option, Some, None, All, IfSome, IsSome, length, slice_get, slice_set, unwrap_or}
 use Rattle.lp_values.specs.declared.id.CellId.{CellId}
 use Rattle.lp_values.specs.declared.id.ObjId.{ObjId}
 use Rattle.lp_values.specs.declared.value.Value.{Value}
@@ -81,6 +81,10 @@ IsThere cells (Obj o) = ⊤
 -- and both values of a pair
 abbrev pub IsPairThere : Store → Value × Value → Type 0
 IsPairThere cells p = IsThere cells p.0 × IsThere cells p.1
+
+-- and of the pair in a slot
+abbrev pub IsSlotThere : Store → Option (Value × Value) → Type 0
+IsSlotThere cells slot = IfSome slot (IsPairThere cells)
 
 -- and each value that a cell holds
 abbrev pub AreThere : Store → Content → Type 0

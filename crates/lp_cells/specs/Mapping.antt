@@ -1,7 +1,6 @@
 -- Mappings: lists of pairs in order of insertion, as read.
-use Rattle.std.specs.Prelude.{◌≡◌, ◌≤◌, Bool, true, false, ℕ, List, slice_get, [], ◌||◌, Option, None, is_some, filter, length, map, nat_lt, if◌then◌else◌}
+use Rattle.std.specs.Prelude.{◌≡◌, ◌≤◌, Bool, true, false, ℕ, List, [], ◌||◌, Option, None, is_some, filter, length, map, nat_lt, if◌then◌else◌}
 use Rattle.std.specs.List.{IsDistinct, count_by}
-use Rattle.std.specs.Option.{option_to_list}
 use Rattle.std.specs.Map.{lookup, remove_entry}
 use Rattle.indexmap.specs.IndexMap.{insert_entry, insert_all}
 use Rattle.lp_values.specs.Read.{as_read, live_part, value_eq, same}
@@ -13,10 +12,6 @@ use Rattle.lp_values.specs.Limits.{max_items}
 -- as read: a pair whose key is a destructed object is not there
 abbrev pub pairs_there : (ObjId → Bool) → List (Value × Value) → List (Value × Value)
 pairs_there live ps = filter (λ p. is_some (live_part live p.0)) ps
-
--- the pair at a place, as a list of one, or the empty list where it is not there
-abbrev pub pair_there : (ObjId → Bool) → List (Value × Value) → ℕ → List (Value × Value)
-pair_there live ps i = pairs_there live (option_to_list (slice_get ps i))
 
 -- the value at a key: that of the pair that is there and whose key is equal as read
 abbrev pub value_at_key : (ObjId → Bool) → List (Value × Value) → Value → Option Value

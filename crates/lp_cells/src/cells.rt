@@ -2,9 +2,10 @@
 ghost use Rattle.std.specs.Prelude.{◌≡◌, ◌<◌, ◌↔◌, IsTrue, [], ◌∷◌, ◌++◌, length, All, Some, None, Ok, Err, IsSome, IfErr, IfOk, IfSome, OnOk, OnErr, MatchResult, is_some, slice_get, slice_set, unwrap_or};
 ghost use Rattle.std.specs.Map.Iter.{deref_pair};
 ghost use Rattle.std.specs.Option.{option_copied, option_map};
-ghost use Rattle.lp_cells.specs.Cells.{AreThere, IsClosed, IsPairThere, IsThere, KeepsThere, as_pairs, content_at, content_set, item_at, item_set, items_at, items_of, kind_of, pairs_at, size_read, stored_pairs, with_cell};
+ghost use Rattle.lp_cells.specs.Cells.{AreThere, IsClosed, IsPairThere, IsSlotThere, IsThere, KeepsThere, as_pairs, content_at, content_set, item_at, item_set, items_at, items_of, kind_of, pairs_at, size_read, stored_pairs, with_cell};
 ghost use Rattle.lp_cells.specs.Mapping.{HasDistinctKeys, IsFullFor, pairs_dropped, pairs_of, pairs_put, value_at_key};
 ghost use Rattle.lp_cells.specs.Refusals.{UnlessFull};
+ghost use Rattle.lp_cells.specs.Slots.{filled};
 ghost use Rattle.lp_values.specs.Limits.{max_items};
 
 use crate::content::{Content, Items, Kind};
@@ -167,6 +168,16 @@ impl Cells {
         pairs
     }
 
+    /// The slots of a mapping in order of insertion: its pairs, and a gap for some that were dropped. A walk over
+    /// them meets each pair in constant time. Takes no memory.
+    pub fn slots(&self, id: CellId) -> &[Option<(Value, Value)>]
+        requires { IsSome (pairs_at self.now id) }
+        ensures value { pairs_at self.now id ≡ Some (filled result.now) }
+        ensures there { IsClosed self.now → All (IsSlotThere self.now) result.now }
+    {
+        self.pairs(id).slots()
+    }
+
     /// The pairs of a mapping.
     fn mapping_pairs(&self, id: CellId) -> &Pairs
         requires { IsSome (pairs_at self.now id) }
@@ -285,7 +296,7 @@ impl Cells {
     }
 
     /// The stored pair at a place of a mapping, in order of insertion, from 0, whether its key is live or not.
-    /// Takes no memory.
+    /// Where pairs were dropped it looks at all slots before that one. Takes no memory.
     pub fn pair(&self, id: CellId, i: u64) -> Option<(&Value, &Value)>
         requires { IsSome (pairs_at self.now id) }
         ensures value { option_map deref_pair result ≡ slice_get (stored_pairs self.now id) i }

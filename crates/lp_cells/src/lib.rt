@@ -5,3 +5,4 @@ pub mod cells;
 pub mod content;
 pub mod fault;
 pub mod pairs;
+pub mod slots;

@@ -1,16 +1,17 @@
 //! The pairs of a mapping.
-ghost use Rattle.std.specs.Prelude.{◌≡◌, ◌≢◌, ◌+◌, ◌<◌, ◌≤◌, ◌^◌, ◌↔◌, ⊤, [], length, is_some, slice_get, if◌then◌else◌, IfOk, OnOk, OnErr};
+ghost use Rattle.std.specs.Prelude.{◌≡◌, ◌≢◌, ◌+◌, ◌<◌, ◌≤◌, ◌^◌, ◌↔◌, ⊤, [], length, is_some, slice_get, if◌then◌else◌, IfOk, IsSome, OnOk, OnErr};
 ghost use Rattle.std.specs.Map.{lookup, remove_entry};
 ghost use Rattle.std.specs.Map.Iter.{deref_pair};
 ghost use Rattle.std.specs.Option.{option_copied, option_map, option_to_list};
-ghost use Rattle.indexmap.specs.IndexMap.{insert_all, insert_entry, spare};
+ghost use Rattle.indexmap.specs.IndexMap.{insert_all, insert_entry};
 ghost use Rattle.lp_values.specs.Read.{as_read, live_part, value_eq};
-ghost use Rattle.lp_cells.specs.Mapping.{HasDistinctKeys, IsFullFor, has_room_for, is_object, objects_in, pair_there, pairs_dropped, pairs_of, pairs_put, pairs_there, value_at_key};
+ghost use Rattle.lp_cells.specs.Mapping.{HasDistinctKeys, IsFullFor, has_room_for, is_object, objects_in, pairs_dropped, pairs_of, pairs_put, pairs_there, value_at_key};
 ghost use Rattle.lp_cells.specs.Refusals.{UnlessFull};
+ghost use Rattle.lp_cells.specs.Slots.{filled};
 ghost use Rattle.lp_values.specs.Limits.{max_items};
 
 use crate::fault::CellFault;
-use indexmap::IndexMap;
+use crate::slots::Slots;
 use lp_values::limits::MAX_ITEMS;
 use lp_values::value::{Living, Value, as_read};
 use std::alloc::{AllocError, Global};
@@ -19,7 +20,7 @@ use std::marker::Model;
 /// Pairs of a key and a value, in order of insertion. No two keys are one value; keys are found by hashing.
 #[derive(Drop)]
 pub struct Pairs {
-    pairs: IndexMap<Value, Value>,
+    slots: Slots,
     // How many of the keys are objects: where none is, no key can be dead.
     objects: usize,
 }
@@ -30,12 +31,12 @@ impl Model for Pairs {
 
     ghost Value = { List (V × V) };
 
-    ghost view = { λ t. t.pairs.entries };
+    ghost view = { λ t. t.slots };
 
     ghost use Rattle.std.specs.Prelude.{◌≡◌};
     ghost use Rattle.lp_cells.specs.Mapping.{objects_in};
 
-    ghost invariant = { λ t. t.objects ≡ objects_in t.pairs.entries };
+    ghost invariant = { λ t. t.objects ≡ objects_in t.slots };
 }
 
 impl Pairs {
@@ -45,7 +46,7 @@ impl Pairs {
         ensures { result ≡ [] }
     {
         Pairs {
-            pairs: IndexMap::new(alloc),
+            slots: Slots::new(alloc),
             objects: 0,
         }
     }
@@ -73,21 +74,30 @@ impl Pairs {
         ensures small { result < 2 ^ 63 }
         ensures unique { HasDistinctKeys self.now }
     {
-        self.pairs.len()
+        self.slots.len()
     }
 
-    /// The stored pair at a place, in order of insertion, from 0.
+    /// The slots in order of insertion: the stored pairs, and a gap for some that were dropped. A walk over them
+    /// meets each pair in constant time.
+    pub fn slots(&self) -> &[Option<(Value, Value)>]
+        ensures { filled result.now ≡ self.now }
+    {
+        self.slots.as_slice()
+    }
+
+    /// The stored pair at a place, in order of insertion, from 0. Where pairs were dropped it looks at all slots
+    /// before that one: for a walk take [`Pairs::slots`].
     pub fn at(&self, i: usize) -> Option<(&Value, &Value)>
         ensures { option_map deref_pair result ≡ slice_get self.now i }
     {
-        self.pairs.get_index(i)
+        self.slots.at(i)
     }
 
     /// The value at a key, where the key is taken as it stands.
     pub fn find(&self, key: &Value) -> Option<&Value>
         ensures { option_copied result ≡ lookup (value_eq key.now) self.now }
     {
-        self.pairs.get(key)
+        self.slots.find(key)
     }
 
     /// The value at a key as read, among the pairs that are there. Takes no memory.
@@ -102,16 +112,15 @@ impl Pairs {
     }
 
     /// Puts a value at a key: at its place where the key is stored, else last.
-    #[tactic(auto, using(crate::proofs::ObjectLemmas::objects_within))]
     pub fn put(&mut self, key: Value, v: Value) -> Result<(), AllocError>
         ensures ok { OnOk result (self.new ≡ insert_entry value_eq self.old key v) }
         ensures err { OnErr result (self.new ≡ self.old) }
     {
         let counts = is_object(&key);
-        let is_new = self.pairs.insert(key, v)?.is_none();
+        // No more keys are objects than pairs are stored, so that the sum below fits.
+        let _stored = self.slots.len();
+        let is_new = self.slots.put(key, v)?;
         if is_new && counts {
-            // A map's length is far below the largest number, so the sum fits.
-            let _stored = self.pairs.len();
             self.objects += 1;
         }
         Ok(())
@@ -122,7 +131,7 @@ impl Pairs {
         ensures after { self.new ≡ remove_entry (value_eq key.now) self.old }
         ensures found { result ≡ is_some (lookup (value_eq key.now) self.old) }
     {
-        let was_stored = self.pairs.shift_remove(key).is_some();
+        let was_stored = self.slots.remove(key);
         if was_stored && is_object(key) {
             self.objects -= 1;
         }
@@ -142,29 +151,15 @@ impl Pairs {
     }
 
     /// How many pairs are there, as read, from a look at each.
+    #[tactic(auto, using(crate::proofs::MappingLemmas::length_there))]
     fn count_each_there<L: Living>(&self, live: &L) -> usize
         ensures value { result ≡ length (pairs_there (L.live live.now) self.now) }
         ensures within { result ≤ length self.now }
         ensures small { result < 2 ^ 63 }
     {
-        let mut count = 0;
-        for i in 0..self.len() {
-            if self.is_there_at(i, live) {
-                count += 1;
-            }
-        }
-        count
-    }
-
-    /// Whether the pair at a place is there, as read.
-    fn is_there_at<L: Living>(&self, i: usize, live: &L) -> bool
-        requires { i < length self.now }
-        ensures { length (pair_there (L.live live.now) self.now i) ≡ (if result then 1 else 0) }
-    {
-        match self.at(i) {
-            Some((key, _)) => as_read(key, live).is_some(),
-            None => false,
-        }
+        // No more pairs are there than are stored, and their number is small.
+        let _stored = self.len();
+        count_in(self.slots(), live)
     }
 
     /// Drops a key as read, and tells whether it was there. Takes no memory.
@@ -187,6 +182,7 @@ impl Pairs {
     }
 
     /// Puts a value at a key as read. A full mapping gives up its dead pairs for a new key.
+    #[tactic(auto, using(crate::proofs::SlotLemmas::read_lives))]
     pub fn put_read<L: Living>(&mut self, key: Value, v: Value, live: &L) -> Result<(), CellFault>
         ensures { UnlessFull (IsFullFor (L.live live.now) self.old key) (λ _. self.new ≡ pairs_put (L.live live.now) self.old key v) (self.new ≡ self.old) result }
     {
@@ -199,34 +195,48 @@ impl Pairs {
         Ok(self.put_swept(key.into_read(live), v, live)?)
     }
 
-    /// Drops the dead pairs and puts a value at a key.
+    /// Puts a value at a key that is no dead object, and drops the dead pairs.
+    #[tactic(auto, using(crate::proofs::SlotLemmas::there_inserted))]
     fn put_swept<L: Living>(&mut self, key: Value, v: Value, live: &L) -> Result<(), AllocError>
+        requires { IsSome (live_part (L.live live.now) key) }
         ensures ok { OnOk result (self.new ≡ insert_entry value_eq (pairs_there (L.live live.now) self.old) key v) }
         ensures err { OnErr result (self.new ≡ self.old) }
     {
-        self.pairs.reserve(1)?;
-        sweep(&mut self.pairs, live);
-        self.pairs.insert(key, v)?;
-        self.objects = count_objects(&self.pairs);
+        self.put(key, v)?;
+        self.sweep(live);
         Ok(())
     }
 
+    /// Drops the dead pairs.
+    fn sweep<L: Living>(&mut self, live: &L)
+        ensures { self.new ≡ pairs_there (L.live live.now) self.old }
+    {
+        self.slots.sweep(live);
+        self.objects = count_objects(self.slots.as_slice());
+    }
+
     /// These pairs, and then those of `from` that are there, a later equal key winning at the first one's place.
+    #[tactic(auto, using(crate::proofs::SlotLemmas::inserted_filled))]
     pub fn with_there<L: Living>(self, from: &Pairs, live: &L) -> Result<Pairs, AllocError>
         ensures { IfOk result (λ t. t ≡ insert_all value_eq self (pairs_there (L.live live.now) from.now)) }
     {
+        let slots = from.slots();
         let mut all = self;
-        for i in 0..from.len() {
-            all.put_from(from, i, live)?;
+        for slot in slots {
+            all.put_slot(slot, live)?;
         }
         Ok(all)
     }
 
-    /// Puts the pair of another mapping at a place, where it is there.
-    fn put_from<L: Living>(&mut self, from: &Pairs, i: usize, live: &L) -> Result<(), AllocError>
-        ensures { OnOk result (self.new ≡ insert_all value_eq self.old (pair_there (L.live live.now) from.now i)) }
+    /// Puts the pair in a slot of another mapping, where it is there.
+    fn put_slot<L: Living>(
+        &mut self,
+        slot: &Option<(Value, Value)>,
+        live: &L,
+    ) -> Result<(), AllocError>
+        ensures { OnOk result (self.new ≡ insert_all value_eq self.old (pairs_there (L.live live.now) (option_to_list slot.now))) }
     {
-        if let Some((key, v)) = from.at(i) {
+        if let Some((key, v)) = slot {
             if as_read(key, live).is_some() {
                 self.put(key.copy()?, v.copy()?)?;
             }
@@ -243,39 +253,50 @@ fn is_object(v: &Value) -> bool
 }
 
 /// How many keys are objects, from a look at each.
-#[tactic(auto, using(crate::proofs::ObjectLemmas::objects_none))]
-fn count_objects(pairs: &IndexMap<Value, Value>) -> usize
-    ensures { result ≡ objects_in pairs.now.entries }
+#[tactic(auto, using(crate::proofs::ObjectLemmas::objects_none, crate::proofs::SlotLemmas::objects_filled))]
+fn count_objects(slots: &[Option<(Value, Value)>]) -> usize
+    ensures { result ≡ objects_in (filled slots.now) }
 {
     let mut count = 0;
-    for i in 0..pairs.len() {
-        if is_object_at(pairs, i) {
+    for slot in slots {
+        if has_object(slot) {
             count += 1;
         }
     }
     count
 }
 
-/// Whether the key at a place is an object.
+/// Whether an object is the key in a slot.
 #[tactic(auto, unfolding(crate::specs::Mapping::objects_in))]
-fn is_object_at(pairs: &IndexMap<Value, Value>, i: usize) -> bool
-    requires { i < length pairs.now.entries }
-    ensures { objects_in (option_to_list (slice_get pairs.now.entries i)) ≡ (if result then 1 else 0) }
+fn has_object(slot: &Option<(Value, Value)>) -> bool
+    ensures { objects_in (option_to_list slot.now) ≡ (if result then 1 else 0) }
 {
-    match pairs.get_index(i) {
+    match slot {
         Some((key, _)) => is_object(key),
         None => false,
     }
 }
 
-/// Drops the pairs whose keys are dead.
-fn sweep<L: Living>(pairs: &mut IndexMap<Value, Value>, live: &L)
-    ensures entries { pairs.new.entries ≡ pairs_there (L.live live.now) pairs.old.entries }
-    ensures room { spare pairs.old ≤ spare pairs.new }
+/// How many pairs in slots are there, as read.
+#[tactic(auto, using(crate::proofs::SlotLemmas::there_filled))]
+fn count_in<L: Living>(slots: &[Option<(Value, Value)>], live: &L) -> usize
+    ensures { result ≡ length (pairs_there (L.live live.now) (filled slots.now)) }
 {
-    pairs.retain(
-        |k: &Value, v: &mut Value| -> bool
-            ensures { (result ≡ is_some (live_part (L.live live.entry.now) k.now)) × (v.new ≡ v.old) }
-        { as_read(k, live).is_some() },
-    );
+    let mut count = 0;
+    for slot in slots {
+        if is_there(slot, live) {
+            count += 1;
+        }
+    }
+    count
+}
+
+/// Whether the pair in a slot is there, as read.
+fn is_there<L: Living>(slot: &Option<(Value, Value)>, live: &L) -> bool
+    ensures { length (pairs_there (L.live live.now) (option_to_list slot.now)) ≡ (if result then 1 else 0) }
+{
+    match slot {
+        Some((key, _)) => as_read(key, live).is_some(),
+        None => false,
+    }
 }

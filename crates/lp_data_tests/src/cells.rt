@@ -220,3 +220,74 @@ fn lengths(rt: HostRuntime) -> Result<(), Fail> {
     assert_eq!(rt; refused, Err(CellFault::TooLong));
     Ok(())
 }
+
+/// Drops the integer keys from one number up to another.
+fn drop_between(rt: &impl Abort, cells: &mut Cells, c: CellId, from: u32, to: u32) {
+    for i in from..to {
+        assert!(rt; cells.is_there(&Value::Map(c)));
+        assert!(rt; cells.map_drop(c, &Value::Int(i as i64), &Even));
+    }
+}
+
+/// Writes 2 at the integer keys from one number up to another.
+fn put_between(
+    rt: &impl Abort,
+    cells: &mut Cells,
+    c: CellId,
+    from: u32,
+    to: u32,
+) -> Result<(), CellFault> {
+    for i in from..to {
+        write(rt, cells, c, Value::Int(i as i64), 2)?;
+    }
+    Ok(())
+}
+
+/// The integer key at a place of a mapping, or -1.
+fn key_at(rt: &impl Abort, cells: &Cells, c: CellId, i: u64) -> i64 {
+    assert!(rt; cells.is_there(&Value::Map(c)));
+    match cells.pair(c, i) {
+        Some((Value::Int(n), _)) => *n,
+        _ => -1,
+    }
+}
+
+/// How many pairs a mapping has.
+fn pairs_in(rt: &impl Abort, cells: &Cells, c: CellId) -> u64 {
+    assert!(rt; cells.is_there(&Value::Map(c)));
+    cells.len(c, &Even)
+}
+
+#[test]
+fn dropped_and_put_again(rt: HostRuntime) -> Result<(), Fail> {
+    let mut cells = Cells::new(rt.alloc());
+    let mut pairs = Vec::new(rt.alloc());
+    for i in 0..1000u32 {
+        pairs.push((Value::Int(i as i64), Value::Int(1)))?;
+    }
+    let c = cells.new_map(pairs)?;
+    drop_between(&rt, &mut cells, c, 0, 300);
+    assert_eq!(rt; key_at(&rt, &cells, c, 0), 300, "past gaps");
+    assert_eq!(rt; key_at(&rt, &cells, c, 699), 999);
+    drop_between(&rt, &mut cells, c, 300, 900);
+    assert_eq!(rt; key_at(&rt, &cells, c, 0), 900, "gaps were closed");
+    assert_eq!(rt; key_at(&rt, &cells, c, 99), 999);
+    assert_eq!(rt; key_at(&rt, &cells, c, 100), -1);
+    put_between(&rt, &mut cells, c, 100, 400)?;
+    put_between(&rt, &mut cells, c, 950, 960)?;
+    assert_eq!(rt; key_at(&rt, &cells, c, 100), 100, "new keys go last");
+    assert_eq!(rt; key_at(&rt, &cells, c, 399), 399);
+    assert_eq!(rt; key_at(&rt, &cells, c, 55), 955, "others keep their places");
+    assert_eq!(rt; read(&rt, &cells, c, &Value::Int(955)), 2);
+    assert_eq!(rt; read(&rt, &cells, c, &Value::Int(960)), 1);
+    drop_between(&rt, &mut cells, c, 920, 1000);
+    put_between(&rt, &mut cells, c, 930, 931)?;
+    assert_eq!(rt; key_at(&rt, &cells, c, 19), 919);
+    assert_eq!(rt; key_at(&rt, &cells, c, 20), 100, "behind a gap");
+    assert_eq!(rt; key_at(&rt, &cells, c, 320), 930, "dropped and put again");
+    assert_eq!(rt; key_at(&rt, &cells, c, 321), -1);
+    assert_eq!(rt; pairs_in(&rt, &cells, c), 321);
+    assert_eq!(rt; read(&rt, &cells, c, &Value::Int(931)), -1);
+    assert_eq!(rt; read(&rt, &cells, c, &Value::Int(399)), 2);
+    Ok(())
+}

@@ -1,9 +1,11 @@
 -- What is written of a list, and what its rest still gives.
-use Rattle.std.proofs.Common.{◌≡◌, ◌∙◌, ◌<◌, ◌+◌, ℕ, zero, suc, List, [], ◌∷◌, ◌++◌, Bool, true, false, length, drop, get_or, is_some, map, Err, ap, refl, sym, append_assoc, cond, arith}
+use Rattle.std.proofs.Common.{◌≡◌, ◌∙◌, ◌<◌, ◌+◌, ℕ, List, [], ◌∷◌, ◌++◌, Bool, true, Option, length, drop, get_or, map, Err, ap, sym, append_assoc}
 use Rattle.std.proofs.lemmas.List.{drop_more}
 use Rattle.std.specs.List.{flat_map}
-use Rattle.lp_cells.specs.Mapping.{pair_there, pairs_there}
-use Rattle.lp_values.specs.Read.{live_part}
+use Rattle.std.specs.Option.{option_to_list}
+use Rattle.lp_cells.specs.Mapping.{pairs_there}
+use Rattle.lp_cells.specs.Slots.{filled}
+use Rattle.lp_cells.proofs.SlotLemmas.{there_rest}
 use Rattle.lp_values.specs.declared.id.ObjId.{ObjId}
 use Rattle.lp_values.specs.declared.value.Value.{Value}
 use Rattle.lp_format.specs.declared.fault.FormatFault.{FormatFault}
@@ -25,26 +27,14 @@ pub next_item : (f : Value → List ℕ) (others : Bool) (out whole tail : List 
 next_item f others out whole tail vs i v lt e whole_is =
     whole_is ∙ ap (λ (l : List ℕ). out ++ l) (ap (λ (l : List Value). spaced others (map f l) ++ tail) (drop_more vs i v lt ∙ ap (λ (y : Value). y ∷ drop (i + 1) vs) (sym e)) ∙ append_assoc (separator others) (f v ++ spaced true (map f (drop (i + 1) vs))) tail ∙ ap (λ (l : List ℕ). separator others ++ l) (append_assoc (f v) (spaced true (map f (drop (i + 1) vs))) tail))
 
-filter_app : (p : Value × Value → Bool) (b : Bool) (x : Value × Value) (rest : List (Value × Value)) → cond b (x ∷ rest) rest ≡ cond b (x ∷ []) [] ++ rest
-filter_app p true x rest = refl
-filter_app p false x rest = refl
-
--- the pairs from a place on: the one there, if it is there, and those behind it
-there_more : (live : ObjId → Bool) (ps : List (Value × Value)) (i : ℕ) → i < length ps → pairs_there live (drop i ps) ≡ pair_there live ps i ++ pairs_there live (drop (i + 1) ps)
-there_more live [] i lt = absurd (omega (arith, lt))
-there_more live (p ∷ ps) zero lt = filter_app (λ q. is_some (live_part live q.0)) (is_some (live_part live p.0)) p (pairs_there live ps)
-there_more live (p ∷ ps) (suc i) lt =
-    let k : suc (i + 1) ≡ suc i + 1 = omega arith in
-    there_more live ps i (omega (arith, lt)) ∙ ap (λ (n : ℕ). pair_there live ps i ++ pairs_there live (drop n (p ∷ ps))) k
-
 -- the next pair of a mapping
-pub next_pair : (live : ObjId → Bool) (f : Value × Value → List ℕ) (others : Bool) (out whole tail : List ℕ) (ps : List (Value × Value)) (i : ℕ) (p : Value × Value) → i < length ps → p ∷ [] ≡ pair_there live ps i → whole ≡ out ++ (spaced others (map f (pairs_there live (drop i ps))) ++ tail) → whole ≡ out ++ (separator others ++ (f p ++ (spaced true (map f (pairs_there live (drop (i + 1) ps))) ++ tail)))
-next_pair live f others out whole tail ps i p lt e whole_is =
-    let more : pairs_there live (drop i ps) ≡ p ∷ pairs_there live (drop (i + 1) ps) = there_more live ps i lt ∙ ap (λ (l : List (Value × Value)). l ++ pairs_there live (drop (i + 1) ps)) (sym e) in
-    whole_is ∙ ap (λ (l : List ℕ). out ++ l) (ap (λ (l : List (Value × Value)). spaced others (map f l) ++ tail) more ∙ append_assoc (separator others) (f p ++ spaced true (map f (pairs_there live (drop (i + 1) ps)))) tail ∙ ap (λ (l : List ℕ). separator others ++ l) (append_assoc (f p) (spaced true (map f (pairs_there live (drop (i + 1) ps)))) tail))
+pub next_pair : (live : ObjId → Bool) (f : Value × Value → List ℕ) (others : Bool) (out whole tail : List ℕ) (slots : List (Option (Value × Value))) (i : ℕ) (x : Option (Value × Value)) (p : Value × Value) → i < length slots → x ≡ get_or slots i x → p ∷ [] ≡ pairs_there live (option_to_list x) → whole ≡ out ++ (spaced others (map f (pairs_there live (filled (drop i slots)))) ++ tail) → whole ≡ out ++ (separator others ++ (f p ++ (spaced true (map f (pairs_there live (filled (drop (i + 1) slots)))) ++ tail)))
+next_pair live f others out whole tail slots i x p lt at e whole_is =
+    let more : pairs_there live (filled (drop i slots)) ≡ p ∷ pairs_there live (filled (drop (i + 1) slots)) = there_rest live slots i x lt at ∙ ap (λ (l : List (Value × Value)). l ++ pairs_there live (filled (drop (i + 1) slots))) (sym e) in
+    whole_is ∙ ap (λ (l : List ℕ). out ++ l) (ap (λ (l : List (Value × Value)). spaced others (map f l) ++ tail) more ∙ append_assoc (separator others) (f p ++ spaced true (map f (pairs_there live (filled (drop (i + 1) slots))))) tail ∙ ap (λ (l : List ℕ). separator others ++ l) (append_assoc (f p) (spaced true (map f (pairs_there live (filled (drop (i + 1) slots))))) tail))
 
--- a pair that is not there
-pub no_pair : (live : ObjId → Bool) (f : Value × Value → List ℕ) (others : Bool) (out whole tail : List ℕ) (ps : List (Value × Value)) (i : ℕ) → i < length ps → [] ≡ pair_there live ps i → whole ≡ out ++ (spaced others (map f (pairs_there live (drop i ps))) ++ tail) → whole ≡ out ++ (spaced others (map f (pairs_there live (drop (i + 1) ps))) ++ tail)
-no_pair live f others out whole tail ps i lt e whole_is =
-    let more : pairs_there live (drop i ps) ≡ pairs_there live (drop (i + 1) ps) = there_more live ps i lt ∙ ap (λ (l : List (Value × Value)). l ++ pairs_there live (drop (i + 1) ps)) (sym e) in
+-- a slot with no pair that is there
+pub no_pair : (live : ObjId → Bool) (f : Value × Value → List ℕ) (others : Bool) (out whole tail : List ℕ) (slots : List (Option (Value × Value))) (i : ℕ) (x : Option (Value × Value)) → i < length slots → x ≡ get_or slots i x → [] ≡ pairs_there live (option_to_list x) → whole ≡ out ++ (spaced others (map f (pairs_there live (filled (drop i slots)))) ++ tail) → whole ≡ out ++ (spaced others (map f (pairs_there live (filled (drop (i + 1) slots)))) ++ tail)
+no_pair live f others out whole tail slots i x lt at e whole_is =
+    let more : pairs_there live (filled (drop i slots)) ≡ pairs_there live (filled (drop (i + 1) slots)) = there_rest live slots i x lt at ∙ ap (λ (l : List (Value × Value)). l ++ pairs_there live (filled (drop (i + 1) slots))) (sym e) in
     whole_is ∙ ap (λ (l : List ℕ). out ++ l) (ap (λ (l : List (Value × Value)). spaced others (map f l) ++ tail) more)

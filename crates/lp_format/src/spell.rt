@@ -1,10 +1,9 @@
 //! How values are spelled.
 ghost use Rattle.std.specs.Prelude.{◌≡◌, All, OnOk, map};
-ghost use Rattle.lp_cells.specs.Cells.{IsClosed, IsPairThere, IsThere};
-ghost use Rattle.lp_cells.specs.Mapping.{pair_there, pairs_there};
+ghost use Rattle.lp_cells.specs.Cells.{IsClosed, IsSlotThere, IsThere};
+ghost use Rattle.lp_cells.specs.Mapping.{pairs_there};
+ghost use Rattle.lp_cells.specs.Slots.{filled};
 ghost use Rattle.std.specs.Fmt.{signed_decimal};
-ghost use Rattle.std.specs.Map.Iter.{deref_pair};
-ghost use Rattle.std.specs.Option.{option_map, option_to_list};
 ghost use Rattle.lp_format.specs.Answers.{AppendsText};
 ghost use Rattle.lp_format.specs.Spelled.{array_spelled, deepest as deepest_of, hidden, is_among as among, mapping_spelled, object_spelled, pair_spelled, quoted as quoted_text, quoted_point, separator, spelled, spelled_within};
 
@@ -12,10 +11,10 @@ use crate::fault::FormatFault;
 use crate::names::Names;
 use crate::out::Out;
 use lp_cells::cells::Cells;
-use lp_cells::pairs::Pairs;
+use lp_cells::slots::there_in;
 use lp_values::decimal::signed_spelling;
 use lp_values::id::{CellId, ObjId};
-use lp_values::value::{Living, Value, as_read};
+use lp_values::value::{Living, Value};
 
 /// Appends a value as it is spelled.
 pub(crate) fn write_spelled<L: Living + Names>(
@@ -73,7 +72,7 @@ fn write_within<L: Living + Names>(
                 return write_hidden(out);
             }
             path.push(*c)?;
-            write_mapping(out, cells.pairs(*c), levels - 1, path, cells, names)?;
+            write_mapping(out, cells.slots(*c), levels - 1, path, cells, names)?;
             path.pop();
             Ok(())
         }
@@ -105,25 +104,25 @@ fn write_array<L: Living + Names>(
     out.push_all(&[' ', '}', ')'])
 }
 
-/// Appends a mapping of these pairs, as far as they are there, within cells that are open.
+/// Appends a mapping of the pairs in these slots, as far as they are there, within cells that are open.
 #[cycle(spell)]
 fn write_mapping<L: Living + Names>(
     out: &mut Out,
-    pairs: &Pairs,
+    slots: &[Option<(Value, Value)>],
     levels: u64,
     path: &mut Vec<CellId>,
     cells: &Cells,
     names: &L,
 ) -> Result<(), FormatFault>
     requires closed { IsClosed cells.now }
-    requires there { All (IsPairThere cells.now) pairs.now }
-    ensures text { AppendsText result out.old out.new (mapping_spelled (map (pair_spelled (spelled_within (L.live names.now) (L.name names.now) cells.now levels path.old.items)) (pairs_there (L.live names.now) pairs.now))) }
+    requires there { All (IsSlotThere cells.now) slots.now }
+    ensures text { AppendsText result out.old out.new (mapping_spelled (map (pair_spelled (spelled_within (L.live names.now) (L.name names.now) cells.now levels path.old.items)) (pairs_there (L.live names.now) (filled slots.now)))) }
     ensures kept { OnOk result (path.new.items ≡ path.old.items) }
 {
     out.push_all(&['(', '['])?;
     let mut others = false;
-    for i in 0..pairs.len() {
-        if let Some((key, v)) = pair_at(pairs, i, names) {
+    for slot in slots {
+        if let Some((key, v)) = there_in(slot, names) {
             out.push_all(separator_of(others))?;
             write_pair(out, key, v, levels, path, cells, names)?;
             others = true;
@@ -152,16 +151,6 @@ fn write_pair<L: Living + Names>(
     write_within(out, key, levels, path, cells, names)?;
     out.push_all(&[':', ' '])?;
     write_within(out, v, levels, path, cells, names)
-}
-
-/// The pair at a place, where it is there.
-fn pair_at<'a, L: Living>(pairs: &'a Pairs, i: usize, live: &L) -> Option<(&'a Value, &'a Value)>
-    ensures { option_to_list (option_map deref_pair result) ≡ pair_there (L.live live.now) pairs.now i }
-{
-    match pairs.at(i) {
-        Some((key, v)) if as_read(key, live).is_some() => Some((key, v)),
-        _ => None,
-    }
 }
 
 /// Whether a cell is one of these.

@@ -1,7 +1,8 @@
 -- Laws of lists of values, for loops.
-use Rattle.std.proofs.Common.{◌≡◌, ℕ, ◌+◌, ◌++◌, ◌||◌, List, [], ◌∷◌, Bool, true, false, refl, ap, ◌∙◌, sym, subst, take, arith, if◌then◌else◌, filter, not, is_some, length, get_or, ◌<◌, ◌-◌, drop, min}
+use Rattle.std.proofs.Common.{◌≡◌, ℕ, ◌+◌, ◌++◌, ◌||◌, List, [], ◌∷◌, Bool, true, false, refl, ap, ◌∙◌, sym, subst, take, arith, if◌then◌else◌, filter, not, is_some, length, get_or, ◌<◌, ◌-◌, drop, min, Option}
 use Rattle.std.specs.List.{list_any}
 use Rattle.std.specs.Map.{lookup}
+use Rattle.std.specs.Option.{option_to_list}
 use Rattle.std.proofs.lemmas.List.Folds.{list_any-append}
 use Rattle.std.proofs.lemmas.List.{take_more, drop-take, take_min}
 use Rattle.std.proofs.lemmas.List.Elements.{filter-append}
@@ -13,8 +14,9 @@ use Rattle.lp_values.specs.declared.id.ObjId.{ObjId}
 use Rattle.lp_values.specs.declared.value.Value.{Value}
 use Rattle.lp_values.specs.contracts.value.ValuePartialEq.TheImpl as derived
 use Rattle.lp_values.proofs.ReadLemmas.{eq_is, value_eq_one}
-use Rattle.lp_cells.specs.Mapping.{pairs_there, pair_there}
-use Rattle.lp_cells.proofs.MappingLemmas.{pairs_there_next}
+use Rattle.lp_cells.specs.Mapping.{pairs_there}
+use Rattle.lp_cells.specs.Slots.{filled}
+use Rattle.lp_cells.proofs.SlotLemmas.{there_filled}
 use Rattle.lp_ops.specs.Operators.{pairs_without}
 
 or_false : (a : Bool) → (a || false) ≡ a
@@ -49,12 +51,12 @@ kept_next p xs i x b h e t = rw (take_more xs i x h, filter-append, ← e, t) re
 pub kept_more : (p : Value → Bool) (xs : List Value) (i : ℕ) (x : Value) (b : Bool) (kept new : List Value) → i < length xs → x ≡ get_or xs i x → p x ≡ b → kept ≡ filter p (take i xs) → new ≡ kept ++ (if b then x ∷ [] else []) → new ≡ filter p (take (i + 1) xs)
 kept_more p xs i x b kept new h e t k n = n ∙ ap (λ l. l ++ (if b then x ∷ [] else [])) k ∙ sym (kept_next p xs i x b h e t)
 
--- the pairs that were kept, one place further
-pub pairs_without_next : (live : ObjId → Bool) (es ps qs : List (Value × Value)) (i : ℕ) → insert_all value_eq es (pairs_without live (pairs_there live (take (i + 1) ps)) qs) ≡ insert_all value_eq (insert_all value_eq es (pairs_without live (pairs_there live (take i ps)) qs)) (pairs_without live (pair_there live ps i) qs)
-pairs_without_next live es ps qs i =
-    ap (λ l. insert_all value_eq es (pairs_without live l qs)) (pairs_there_next live ps i)
-    ∙ ap (insert_all value_eq es) (filter-append (λ p. not (is_some (lookup (same live p.0) qs))) (pairs_there live (take i ps)) (pair_there live ps i))
-    ∙ fold-append (λ done p. insert_entry value_eq done p.0 p.1) es (pairs_without live (pairs_there live (take i ps)) qs) (pairs_without live (pair_there live ps i) qs)
+-- the pairs that were kept, one slot further
+pub pairs_without_next : (live : ObjId → Bool) (es : List (Value × Value)) (slots : List (Option (Value × Value))) (qs : List (Value × Value)) (i : ℕ) (x : Option (Value × Value)) → i < length slots → x ≡ get_or slots i x → insert_all value_eq es (pairs_without live (pairs_there live (filled (take (i + 1) slots))) qs) ≡ insert_all value_eq (insert_all value_eq es (pairs_without live (pairs_there live (filled (take i slots))) qs)) (pairs_without live (pairs_there live (option_to_list x)) qs)
+pairs_without_next live es slots qs i x h e =
+    ap (λ l. insert_all value_eq es (pairs_without live l qs)) (there_filled live slots i x h e)
+    ∙ ap (insert_all value_eq es) (filter-append (λ p. not (is_some (lookup (same live p.0) qs))) (pairs_there live (filled (take i slots))) (pairs_there live (option_to_list x)))
+    ∙ fold-append (λ done p. insert_entry value_eq done p.0 p.1) es (pairs_without live (pairs_there live (filled (take i slots))) qs) (pairs_without live (pairs_there live (option_to_list x)) qs)
 
 -- a part whose ends were brought below the length
 pub part_is : {X : Type 0} (xs : List X) (a b s e : ℕ) → s ≡ min a (length xs) → e ≡ min b (length xs) → s < e → take (e - s) (drop s xs) ≡ drop a (take b xs)

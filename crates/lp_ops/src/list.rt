@@ -1,8 +1,9 @@
 //! Operators on arrays, mappings and texts.
 ghost use Rattle.std.specs.Prelude.{◌≡◌, ◌++◌, [], ◌∷◌, if◌then◌else◌, IfOk, OnOk};
+ghost use Rattle.std.specs.Option.{option_to_list};
 ghost use Rattle.indexmap.specs.IndexMap.{insert_all};
 ghost use Rattle.lp_values.specs.Read.{value_eq};
-ghost use Rattle.lp_cells.specs.Mapping.{pair_there, pairs_of, pairs_there};
+ghost use Rattle.lp_cells.specs.Mapping.{pairs_of, pairs_there};
 ghost use Rattle.lp_ops.specs.Operators.{items_common, items_without, pairs_without};
 
 use crate::set::ValueSet;
@@ -112,24 +113,24 @@ pub fn pairs_without<L: Living>(
 ) -> Result<Pairs, AllocError>
     ensures { IfOk result (λ t. t ≡ pairs_of (pairs_without (L.live live.now) (pairs_there (L.live live.now) first.now) (pairs_there (L.live live.now) second.now))) }
 {
+    let slots = first.slots();
     let mut kept = Pairs::new(alloc);
-    for i in 0..first.len() {
-        keep_pair(&mut kept, first, second, i, live)?;
+    for slot in slots {
+        keep_pair(&mut kept, slot, second, live)?;
     }
     Ok(kept)
 }
 
-/// Puts the pair at a place of the first, where it is there and its key is not in the second.
+/// Puts the pair in a slot of the first, where it is there and its key is not in the second.
 fn keep_pair<L: Living>(
     kept: &mut Pairs,
-    first: &Pairs,
+    slot: &Option<(Value, Value)>,
     second: &Pairs,
-    i: usize,
     live: &L,
 ) -> Result<(), AllocError>
-    ensures { OnOk result (kept.new ≡ insert_all value_eq kept.old (pairs_without (L.live live.now) (pair_there (L.live live.now) first.now i) (pairs_there (L.live live.now) second.now))) }
+    ensures { OnOk result (kept.new ≡ insert_all value_eq kept.old (pairs_without (L.live live.now) (pairs_there (L.live live.now) (option_to_list slot.now)) (pairs_there (L.live live.now) second.now))) }
 {
-    if let Some((key, v)) = first.at(i) {
+    if let Some((key, v)) = slot {
         if as_read(key, live).is_some() && second.find_read(key, live).is_none() {
             kept.put(key.copy()?, v.copy()?)?;
         }

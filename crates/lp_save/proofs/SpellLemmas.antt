@@ -2,6 +2,7 @@
 use Rattle.std.proofs.Common.{◌≡◌, ℕ, zero, suc, ◌+◌, ◌-◌, ◌<◌, ◌≤◌, Bool, false, List, [], ◌∷◌, ◌++◌, length, get_or, take, append-nil, unwrap_or, Option, Some, refl, sym, ap, subst, ◌∙◌, append_assoc, arith}
 use Rattle.std.specs.Prelude.{codes, Result, Ok, Err, OnOk, if◌then◌else◌}
 use Rattle.std.specs.List.{fold}
+use Rattle.std.specs.Option.{option_to_list}
 use Rattle.std.proofs.lemmas.List.{take_all}
 use Rattle.std.proofs.lemmas.List.{take_more}
 use Rattle.std.proofs.lemmas.Grind.{fold-append}
@@ -10,11 +11,13 @@ use Rattle.lp_values.specs.declared.id.ObjId.{ObjId}
 use Rattle.lp_values.specs.declared.value.Value.{Value}
 use Rattle.lp_values.specs.declared.value.Value.TheVariants.{Arr, Map}
 use Rattle.lp_cells.specs.Cells.{Store, items_at, items_of, pairs_at, stored_pairs}
-use Rattle.lp_cells.specs.Mapping.{pair_there, pairs_there}
+use Rattle.lp_cells.specs.Mapping.{pairs_there}
+use Rattle.lp_cells.specs.Slots.{filled}
+use Rattle.lp_cells.proofs.SlotLemmas.{there_filled}
 use Rattle.lp_save.specs.declared.spell.Speller.{Speller}
 use Rattle.lp_save.specs.SaveText.{Spelt, is_among, add, begun, numbered, line_spelt, max_saved_levels, share_number, spelt}
 use Rattle.lp_save.specs.States.{Writes, Spells, pair_spelt}
-use Rattle.lp_save.proofs.WalkLemmas.{among_added, there_more}
+use Rattle.lp_save.proofs.WalkLemmas.{among_added}
 
 -- what holds after a step that may fail gives what is to hold after it
 pub on_ok : {A B : Type 0} (r : Result A B) {P Q : Type 0} → (P → Q) → OnOk r P → OnOk r Q
@@ -90,24 +93,24 @@ spelt_items f old now new xs i le before text done = λ s w.
     spells_text now new (codes "})") text done (fold f (add (codes "({") s) xs) (subst (λ y. Writes now (fold f (add (codes "({") s) y)) (take_all i xs le) (before s w))
 
 -- a pair more
-pub spelt_pair : (live : ObjId → Bool) (spell : Spelt → Value → Spelt) (start : Spelt → Spelt) (old now one two three new : Speller) (ps : List (Value × Value)) (i : ℕ) (p : Value × Value) → p ∷ [] ≡ pair_there live ps i
-    → Spells old now (λ s. fold (pair_spelt spell) (start s) (pairs_there live (take i ps)))
+pub spelt_pair : (live : ObjId → Bool) (spell : Spelt → Value → Spelt) (start : Spelt → Spelt) (old now one two three new : Speller) (slots : List (Option (Value × Value))) (i : ℕ) (x : Option (Value × Value)) (p : Value × Value) → i < length slots → x ≡ get_or slots i x → p ∷ [] ≡ pairs_there live (option_to_list x)
+    → Spells old now (λ s. fold (pair_spelt spell) (start s) (pairs_there live (filled (take i slots))))
     → Spells now one (λ s. spell s p.0) → two.text.items ≡ one.text.items ++ codes ":" → two.done ≡ one.done
     → Spells two three (λ s. spell s p.1) → new.text.items ≡ three.text.items ++ codes "," → new.done ≡ three.done
-    → Spells old new (λ s. fold (pair_spelt spell) (start s) (pairs_there live (take (i + 1) ps)))
-spelt_pair live spell start old now one two three new ps i p is before key text done value text2 done2 = λ s w.
-    let all : pairs_there live (take (i + 1) ps) ≡ pairs_there live (take i ps) ++ p ∷ [] = there_more live ps i ∙ ap (λ y. pairs_there live (take i ps) ++ y) (sym is) in
-    let x : Spelt = fold (pair_spelt spell) (start s) (pairs_there live (take i ps)) in
+    → Spells old new (λ s. fold (pair_spelt spell) (start s) (pairs_there live (filled (take (i + 1) slots))))
+spelt_pair live spell start old now one two three new slots i x p lt at is before key text done value text2 done2 = λ s w.
+    let all : pairs_there live (filled (take (i + 1) slots)) ≡ pairs_there live (filled (take i slots)) ++ p ∷ [] = there_filled live slots i x lt at ∙ ap (λ y. pairs_there live (filled (take i slots)) ++ y) (sym is) in
+    let z : Spelt = fold (pair_spelt spell) (start s) (pairs_there live (filled (take i slots))) in
     subst (λ y. Writes new (fold (pair_spelt spell) (start s) y)) (sym all)
-    (subst (Writes new) (sym (fold-append (pair_spelt spell) (start s) (pairs_there live (take i ps)) (p ∷ [])))
-    (spells_text three new (codes ",") text2 done2 (spell (add (codes ":") (spell x p.0)) p.1)
-    (value (add (codes ":") (spell x p.0)) (spells_text one two (codes ":") text done (spell x p.0) (key x (before s w))))))
+    (subst (Writes new) (sym (fold-append (pair_spelt spell) (start s) (pairs_there live (filled (take i slots))) (p ∷ [])))
+    (spells_text three new (codes ",") text2 done2 (spell (add (codes ":") (spell z p.0)) p.1)
+    (value (add (codes ":") (spell z p.0)) (spells_text one two (codes ":") text done (spell z p.0) (key z (before s w))))))
 
 -- a pair that is not there adds nothing
-pub spelt_no_pair : (live : ObjId → Bool) (spell : Spelt → Value → Spelt) (start : Spelt → Spelt) (old now : Speller) (ps : List (Value × Value)) (i : ℕ) → [] ≡ pair_there live ps i
-    → Spells old now (λ s. fold (pair_spelt spell) (start s) (pairs_there live (take i ps))) → Spells old now (λ s. fold (pair_spelt spell) (start s) (pairs_there live (take (i + 1) ps)))
-spelt_no_pair live spell start old now ps i is before = λ s w.
-    let all : pairs_there live (take (i + 1) ps) ≡ pairs_there live (take i ps) = there_more live ps i ∙ ap (λ y. pairs_there live (take i ps) ++ y) (sym is) ∙ append-nil (pairs_there live (take i ps)) in
+pub spelt_no_pair : (live : ObjId → Bool) (spell : Spelt → Value → Spelt) (start : Spelt → Spelt) (old now : Speller) (slots : List (Option (Value × Value))) (i : ℕ) (x : Option (Value × Value)) → i < length slots → x ≡ get_or slots i x → [] ≡ pairs_there live (option_to_list x)
+    → Spells old now (λ s. fold (pair_spelt spell) (start s) (pairs_there live (filled (take i slots)))) → Spells old now (λ s. fold (pair_spelt spell) (start s) (pairs_there live (filled (take (i + 1) slots))))
+spelt_no_pair live spell start old now slots i x lt at is before = λ s w.
+    let all : pairs_there live (filled (take (i + 1) slots)) ≡ pairs_there live (filled (take i slots)) = there_filled live slots i x lt at ∙ ap (λ y. pairs_there live (filled (take i slots)) ++ y) (sym is) ∙ append-nil (pairs_there live (filled (take i slots))) in
     subst (λ y. Writes now (fold (pair_spelt spell) (start s) y)) (sym all) (before s w)
 
 -- a line

@@ -1,5 +1,5 @@
 -- Cells that are met, and values that are gone over.
-use Rattle.std.proofs.Common.{◌≡◌, ℕ, zero, suc, ◌+◌, ◌-◌, ◌<◌, ◌≤◌, Bool, true, false, cond, ◌||◌, eqb, List, [], ◌∷◌, ◌++◌, length, get_or, take, append-nil, unwrap_or, Some, None, refl, sym, ap, subst, ◌∙◌, arith, inl, inr}
+use Rattle.std.proofs.Common.{◌≡◌, ℕ, zero, suc, ◌+◌, ◌-◌, ◌<◌, ◌≤◌, Bool, true, false, cond, ◌||◌, eqb, List, [], ◌∷◌, ◌++◌, length, get_or, take, append-nil, unwrap_or, Option, Some, None, refl, sym, ap, subst, ◌∙◌, arith, inl, inr}
 use Rattle.std.specs.Prelude.{encode_utf8_all, filter, if◌then◌else◌, map}
 use Rattle.std.specs.List.{flat_map, fold, list_any}
 use Rattle.std.proofs.lemmas.Bool.{cases_Bool, cond-true, cond-false, eqb-true, true≢false}
@@ -11,10 +11,10 @@ use Rattle.lp_values.specs.declared.id.ObjId.{ObjId}
 use Rattle.lp_values.specs.declared.value.Value.{Value}
 use Rattle.lp_values.specs.declared.value.Value.TheVariants.{Arr, Map}
 use Rattle.lp_cells.specs.Cells.{Store, items_at, items_of, pairs_at, stored_pairs}
-use Rattle.lp_cells.specs.Mapping.{pair_there, pairs_there}
-use Rattle.std.specs.Prelude.{slice_get}
+use Rattle.lp_cells.specs.Mapping.{pairs_there}
+use Rattle.lp_cells.specs.Slots.{filled}
+use Rattle.lp_cells.proofs.SlotLemmas.{there_filled}
 use Rattle.std.specs.Option.{option_to_list}
-use Rattle.std.proofs.lemmas.List.Elements.{filter-append}
 use Rattle.std.proofs.lemmas.Grind.{flat_map-append}
 use Rattle.lp_save.specs.declared.walk.Walker.{Walker}
 use Rattle.lp_save.specs.SaveText.{Walk, is_among, saved_text, shared_in, text_spelt, walk_of, walked}
@@ -153,33 +153,24 @@ entered_mapping live cells v c n w new ps is pairs enters s =
 
 -- ---- pairs
 
-take_get : (ps : List (Value × Value)) (i : ℕ) → take (suc i) ps ≡ take i ps ++ option_to_list (slice_get ps i)
-take_get [] zero = refl
-take_get [] (suc i) = refl
-take_get (p ∷ ps) zero = refl
-take_get (p ∷ ps) (suc i) = ap (λ y. p ∷ y) (take_get ps i)
-
-pub there_more : (live : ObjId → Bool) (ps : List (Value × Value)) (i : ℕ) → pairs_there live (take (i + 1) ps) ≡ pairs_there live (take i ps) ++ pair_there live ps i
-there_more live ps i = let next : i + 1 ≡ suc i = omega arith in ap (λ k. pairs_there live (take k ps)) next ∙ ap (pairs_there live) (take_get ps i) ∙ filter-append _ (take i ps) (option_to_list (slice_get ps i))
-
-pub over_pair : (live : ObjId → Bool) (f : Walk → Value → Walk) (old now mid new : Walker) (ps : List (Value × Value)) (i : ℕ) (p : Value × Value) → p ∷ [] ≡ pair_there live ps i
-    → GoesOver old now (λ w. fold f w (flat_map both (pairs_there live (take i ps)))) → GoesOver now mid (λ w. f w p.0) → GoesOver mid new (λ w. f w p.1)
-    → GoesOver old new (λ w. fold f w (flat_map both (pairs_there live (take (i + 1) ps))))
-over_pair live f old now mid new ps i p is before key value = λ w s.
-    let all : flat_map both (pairs_there live (take (i + 1) ps)) ≡ flat_map both (pairs_there live (take i ps)) ++ p.0 ∷ p.1 ∷ [] =
-    ap (flat_map both) (there_more live ps i ∙ ap (λ y. pairs_there live (take i ps) ++ y) (sym is)) ∙ flat_map-append both (pairs_there live (take i ps)) (p ∷ []) in
+pub over_pair : (live : ObjId → Bool) (f : Walk → Value → Walk) (old now mid new : Walker) (slots : List (Option (Value × Value))) (i : ℕ) (x : Option (Value × Value)) (p : Value × Value) → i < length slots → x ≡ get_or slots i x → p ∷ [] ≡ pairs_there live (option_to_list x)
+    → GoesOver old now (λ w. fold f w (flat_map both (pairs_there live (filled (take i slots))))) → GoesOver now mid (λ w. f w p.0) → GoesOver mid new (λ w. f w p.1)
+    → GoesOver old new (λ w. fold f w (flat_map both (pairs_there live (filled (take (i + 1) slots)))))
+over_pair live f old now mid new slots i x p lt at is before key value = λ w s.
+    let all : flat_map both (pairs_there live (filled (take (i + 1) slots))) ≡ flat_map both (pairs_there live (filled (take i slots))) ++ p.0 ∷ p.1 ∷ [] =
+    ap (flat_map both) (there_filled live slots i x lt at ∙ ap (λ y. pairs_there live (filled (take i slots)) ++ y) (sym is)) ∙ flat_map-append both (pairs_there live (filled (take i slots))) (p ∷ []) in
     subst (λ y. Stands new (fold f w y)) (sym all)
-    (subst (Stands new) (sym (fold-append f w (flat_map both (pairs_there live (take i ps))) (p.0 ∷ p.1 ∷ []))) (value _ (key _ (before w s))))
+    (subst (Stands new) (sym (fold-append f w (flat_map both (pairs_there live (filled (take i slots)))) (p.0 ∷ p.1 ∷ []))) (value _ (key _ (before w s))))
 
-pub over_no_pair : (live : ObjId → Bool) (f : Walk → Value → Walk) (old now : Walker) (ps : List (Value × Value)) (i : ℕ) → [] ≡ pair_there live ps i
-    → GoesOver old now (λ w. fold f w (flat_map both (pairs_there live (take i ps)))) → GoesOver old now (λ w. fold f w (flat_map both (pairs_there live (take (i + 1) ps))))
-over_no_pair live f old now ps i is before = λ w s.
-    let all : pairs_there live (take (i + 1) ps) ≡ pairs_there live (take i ps) = there_more live ps i ∙ ap (λ y. pairs_there live (take i ps) ++ y) (sym is) ∙ append-nil (pairs_there live (take i ps)) in
+pub over_no_pair : (live : ObjId → Bool) (f : Walk → Value → Walk) (old now : Walker) (slots : List (Option (Value × Value))) (i : ℕ) (x : Option (Value × Value)) → i < length slots → x ≡ get_or slots i x → [] ≡ pairs_there live (option_to_list x)
+    → GoesOver old now (λ w. fold f w (flat_map both (pairs_there live (filled (take i slots))))) → GoesOver old now (λ w. fold f w (flat_map both (pairs_there live (filled (take (i + 1) slots)))))
+over_no_pair live f old now slots i x lt at is before = λ w s.
+    let all : pairs_there live (filled (take (i + 1) slots)) ≡ pairs_there live (filled (take i slots)) = there_filled live slots i x lt at ∙ ap (λ y. pairs_there live (filled (take i slots)) ++ y) (sym is) ∙ append-nil (pairs_there live (filled (take i slots))) in
     subst (λ y. Stands now (fold f w (flat_map both y))) (sym all) (before w s)
 
-pub over_all_pairs : (live : ObjId → Bool) (f : Walk → Value → Walk) (old now : Walker) (ps : List (Value × Value)) (i : ℕ) → length ps ≤ i
-    → GoesOver old now (λ w. fold f w (flat_map both (pairs_there live (take i ps)))) → GoesOver old now (λ w. fold f w (flat_map both (pairs_there live ps)))
-over_all_pairs live f old now ps i le before = λ w s. subst (λ y. Stands now (fold f w (flat_map both (pairs_there live y)))) (take_all i ps le) (before w s)
+pub over_all_pairs : (live : ObjId → Bool) (f : Walk → Value → Walk) (old now : Walker) (slots : List (Option (Value × Value))) (i : ℕ) → length slots ≤ i
+    → GoesOver old now (λ w. fold f w (flat_map both (pairs_there live (filled (take i slots))))) → GoesOver old now (λ w. fold f w (flat_map both (pairs_there live (filled slots))))
+over_all_pairs live f old now slots i le before = λ w s. subst (λ y. Stands now (fold f w (flat_map both (pairs_there live (filled y))))) (take_all i slots le) (before w s)
 
 -- ---- variables
 

@@ -1,15 +1,15 @@
 //! Spelling values.
 ghost use Rattle.std.specs.Prelude.{◌≡◌, ◌<◌, ◌^◌, All, OnOk, [], ◌∷◌, ◌++◌, codes, flat_map, fold};
 ghost use Rattle.std.specs.Fmt.{signed_decimal};
-ghost use Rattle.lp_cells.specs.Cells.{IsClosed, IsPairThere, IsThere};
+ghost use Rattle.lp_cells.specs.Cells.{IsClosed, IsSlotThere, IsThere};
 ghost use Rattle.lp_cells.specs.Mapping.{pairs_there};
+ghost use Rattle.lp_cells.specs.Slots.{filled};
 ghost use Rattle.lp_save.specs.SaveText.{add as added, again_text, begun, numbered, saved_point, share_number, spelt};
 ghost use Rattle.lp_save.specs.States.{Spells, Writes, pair_spelt};
 
 use crate::cell_set::CellSet;
-use crate::walk::pair_at;
 use lp_cells::cells::Cells;
-use lp_cells::pairs::Pairs;
+use lp_cells::slots::there_in;
 use lp_values::decimal::{signed_spelling, spelling};
 use lp_values::id::CellId;
 use lp_values::value::{Living, Value};
@@ -148,7 +148,7 @@ pub(crate) fn spell<L: Living>(
                 return add_again(speller, shared, *c);
             }
             begin_cell(speller, shared, *c)?;
-            spell_pairs(speller, cells.pairs(*c), levels - 1, shared, cells, live)
+            spell_pairs(speller, cells.slots(*c), levels - 1, shared, cells, live)
         }
     }
 }
@@ -175,23 +175,23 @@ fn spell_items<L: Living>(
     add(speller, &['}', ')'])
 }
 
-/// Spells the pairs of a mapping, as far as they are there.
+/// Spells the pairs in the slots of a mapping, as far as they are there.
 #[cycle(spell)]
 fn spell_pairs<L: Living>(
     speller: &mut Speller,
-    pairs: &Pairs,
+    slots: &[Option<(Value, Value)>],
     levels: u64,
     shared: &CellSet,
     cells: &Cells,
     live: &L,
 ) -> Result<(), AllocError>
     requires closed { IsClosed cells.now }
-    requires there { All (IsPairThere cells.now) pairs.now }
-    ensures { OnOk result (Spells speller.old speller.new (λ s. added (codes "])") (fold (pair_spelt (spelt (L.live live.now) cells.now shared.now levels)) (added (codes "([") s) (pairs_there (L.live live.now) pairs.now)))) }
+    requires there { All (IsSlotThere cells.now) slots.now }
+    ensures { OnOk result (Spells speller.old speller.new (λ s. added (codes "])") (fold (pair_spelt (spelt (L.live live.now) cells.now shared.now levels)) (added (codes "([") s) (pairs_there (L.live live.now) (filled slots.now))))) }
 {
     add(speller, &['(', '['])?;
-    for i in 0..pairs.len() {
-        if let Some((key, v)) = pair_at(pairs, i, live) {
+    for slot in slots {
+        if let Some((key, v)) = there_in(slot, live) {
             spell(speller, key, levels, shared, cells, live)?;
             add(speller, &[':'])?;
             spell(speller, v, levels, shared, cells, live)?;

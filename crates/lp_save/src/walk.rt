@@ -1,17 +1,16 @@
 //! Going over values in the order in which they are spelled.
 ghost use Rattle.std.specs.Prelude.{◌≡◌, ◌≤◌, All, IfOk, OnOk, [], false, true, fold, flat_map};
-ghost use Rattle.std.specs.Map.Iter.{deref_pair};
-ghost use Rattle.std.specs.Option.{option_map, option_to_list};
-ghost use Rattle.lp_cells.specs.Cells.{IsClosed, IsPairThere, IsThere};
-ghost use Rattle.lp_cells.specs.Mapping.{pair_there, pairs_there};
+ghost use Rattle.lp_cells.specs.Cells.{IsClosed, IsSlotThere, IsThere};
+ghost use Rattle.lp_cells.specs.Mapping.{pairs_there};
+ghost use Rattle.lp_cells.specs.Slots.{filled};
 ghost use Rattle.lp_save.specs.SaveText.{Walk, walked};
 ghost use Rattle.lp_save.specs.States.{Enters, GoesOver, Stands, both};
 
 use crate::cell_set::CellSet;
 use lp_cells::cells::Cells;
-use lp_cells::pairs::Pairs;
+use lp_cells::slots::there_in;
 use lp_values::id::CellId;
-use lp_values::value::{Living, Value, as_read};
+use lp_values::value::{Living, Value};
 use std::alloc::{AllocError, Global};
 
 /// What was met so far.
@@ -33,20 +32,6 @@ pub(crate) fn begin_walk(alloc: Global) -> Walker
         met: CellSet::new(alloc),
         again: CellSet::new(alloc),
         is_deep: false,
-    }
-}
-
-/// The pair at a place, where it is there.
-pub(crate) fn pair_at<'a, L: Living>(
-    pairs: &'a Pairs,
-    i: usize,
-    live: &L,
-) -> Option<(&'a Value, &'a Value)>
-    ensures { option_to_list (option_map deref_pair result) ≡ pair_there (L.live live.now) pairs.now i }
-{
-    match pairs.at(i) {
-        Some((key, v)) if as_read(key, live).is_some() => Some((key, v)),
-        _ => None,
     }
 }
 
@@ -72,7 +57,7 @@ pub(crate) fn walk<L: Living>(
         }
         Value::Map(c) => {
             if enter(walker, *c, levels)? {
-                walk_pairs(walker, cells.pairs(*c), levels - 1, cells, live)?;
+                walk_pairs(walker, cells.slots(*c), levels - 1, cells, live)?;
             }
             Ok(())
         }
@@ -116,21 +101,21 @@ fn walk_items<L: Living>(
     Ok(())
 }
 
-/// Goes over the pairs of a mapping, as far as they are there.
+/// Goes over the pairs in the slots of a mapping, as far as they are there.
 #[cycle(walk)]
 fn walk_pairs<L: Living>(
     walker: &mut Walker,
-    pairs: &Pairs,
+    slots: &[Option<(Value, Value)>],
     levels: u64,
     cells: &Cells,
     live: &L,
 ) -> Result<(), AllocError>
     requires closed { IsClosed cells.now }
-    requires there { All (IsPairThere cells.now) pairs.now }
-    ensures { OnOk result (GoesOver walker.old walker.new (λ w. fold (walked (L.live live.now) cells.now levels) w (flat_map both (pairs_there (L.live live.now) pairs.now)))) }
+    requires there { All (IsSlotThere cells.now) slots.now }
+    ensures { OnOk result (GoesOver walker.old walker.new (λ w. fold (walked (L.live live.now) cells.now levels) w (flat_map both (pairs_there (L.live live.now) (filled slots.now))))) }
 {
-    for i in 0..pairs.len() {
-        if let Some((key, v)) = pair_at(pairs, i, live) {
+    for slot in slots {
+        if let Some((key, v)) = there_in(slot, live) {
             walk(walker, key, levels, cells, live)?;
             walk(walker, v, levels, cells, live)?;
         }

@@ -65,6 +65,25 @@ pub fn first_place(hay: &[char], needle: &[char], from: usize) -> Option<usize>
     requires start { from ≤ length hay.now }
     ensures { IsFirst (Stands needle.now hay.now) from (length hay.now + 1) result }
 {
+    if hay.len() - from < needle.len() {
+        return None;
+    }
+    match next_start(hay, needle, from, hay.len() - needle.len() + 1) {
+        Some(first) => place_from(hay, needle, first),
+        None => None,
+    }
+}
+
+/// The first place of `needle` in `hay` that is at least `from`. A needle that stands at `from` is found before it
+/// is cut, so that short needles which stand at once cost little.
+fn place_from(hay: &[char], needle: &[char], from: usize) -> Option<usize>
+    requires some { 0 < length needle.now }
+    requires fits { from + length needle.now ≤ length hay.now }
+    ensures { IsFirst (Stands needle.now hay.now) from (length hay.now + 1) result }
+{
+    if matches_between(hay, needle, from, 0, needle.len()) {
+        return Some(from);
+    }
     match cut(needle) {
         (critical, Shift::Small(period)) => find_small(hay, from, needle, critical, period),
         (critical, Shift::Large(shift)) => find_large(hay, from, needle, critical, shift),

@@ -1,6 +1,7 @@
 -- Lists of values and of pairs, for loops.
-use Rattle.std.proofs.Common.{◌≡◌, ◌≤◌, ◌≤ℤ◌, negsuc, ◌<◌, ◌+◌, ◌++◌, ◌∷◌, [], ◌∙◌, ℕ, suc, zero, pos, Bool, true, false, List, Some, ℤ, unwrap_or, nat_eq, refl, ap, sym, subst, arith, append-nil, append_assoc, length, map, filter_map, nat_lt, if◌then◌else◌, is_some, take, drop, get_or, min, replicate}
+use Rattle.std.proofs.Common.{◌≡◌, ◌≤◌, ◌≤ℤ◌, negsuc, ◌<◌, ◌+◌, ◌++◌, ◌∷◌, [], ◌∙◌, ℕ, suc, zero, pos, Bool, true, false, List, Some, ℤ, unwrap_or, nat_eq, refl, ap, sym, subst, arith, append-nil, append_assoc, length, map, filter_map, nat_lt, if◌then◌else◌, is_some, take, drop, get_or, min, replicate, Option}
 use Rattle.std.specs.List.{AllByRecursion, IsDistinct, position}
+use Rattle.std.specs.Option.{option_to_list}
 use Rattle.std.proofs.lemmas.Bool.{cond-false, true≢false, lt-ltb}
 use Rattle.std.proofs.lemmas.List.{take_more, map-append, length-replicate, replicate-append-replicate}
 use Rattle.std.proofs.lemmas.List.Elements.{filter_map-append}
@@ -15,8 +16,9 @@ use Rattle.lp_values.specs.declared.value.Value.{Value}
 use Rattle.lp_values.specs.declared.value.Value.TheVariants.{Int, Str, Arr, Map, Obj}
 use Rattle.lp_values.proofs.ReadLemmas.{value_eq_one, value_eq_refl}
 use Rattle.lp_cells.specs.Cells.{Store, items_at}
-use Rattle.lp_cells.specs.Mapping.{HasDistinctKeys, pair_there, pairs_there}
-use Rattle.lp_cells.proofs.MappingLemmas.{pairs_there_next}
+use Rattle.lp_cells.specs.Mapping.{HasDistinctKeys, pairs_there}
+use Rattle.lp_cells.specs.Slots.{filled}
+use Rattle.lp_cells.proofs.SlotLemmas.{there_filled}
 use Rattle.lp_ops.specs.Effects.{refused, within}
 use Rattle.lp_ops.specs.Operands.{Number, opened, value_of}
 use Rattle.lp_ops.specs.Operators.{array}
@@ -27,9 +29,9 @@ use Rattle.lp_meaning.specs.ComputingEfuns.{from_zero, member, paired, place_of_
 pub texts_more : (xs : List Value) (i : ℕ) (x : Value) (kept new : List (List ℕ)) → i < length xs → x ≡ get_or xs i x → kept ≡ filter_map text_among (take i xs) → new ≡ kept ++ filter_map text_among (x ∷ []) → new ≡ filter_map text_among (take (i + 1) xs)
 texts_more xs i x kept new h e k n = n ∙ ap (λ l. l ++ filter_map text_among (x ∷ [])) k ∙ sym (ap (filter_map text_among) (take_more xs i x h) ∙ filter_map-append text_among (take i xs) (get_or xs i x ∷ []) ∙ ap (λ y. filter_map text_among (take i xs) ++ filter_map text_among (y ∷ [])) (sym e))
 
--- what is told of the pairs that are there, one place further
-pub there_next : (tell : Value × Value → Value) (live : ObjId → Bool) (ps : List (Value × Value)) (i : ℕ) (kept new : List Value) → kept ≡ map tell (pairs_there live (take i ps)) → new ≡ kept ++ map tell (pair_there live ps i) → new ≡ map tell (pairs_there live (take (i + 1) ps))
-there_next tell live ps i kept new k n = n ∙ ap (λ l. l ++ map tell (pair_there live ps i)) k ∙ sym (ap (map tell) (pairs_there_next live ps i) ∙ map-append tell (pairs_there live (take i ps)) (pair_there live ps i))
+-- what is told of the pairs that are there, one slot further
+pub there_next : (tell : Value × Value → Value) (live : ObjId → Bool) (slots : List (Option (Value × Value))) (i : ℕ) (x : Option (Value × Value)) (kept new : List Value) → i < length slots → x ≡ get_or slots i x → kept ≡ map tell (pairs_there live (filled (take i slots))) → new ≡ kept ++ map tell (pairs_there live (option_to_list x)) → new ≡ map tell (pairs_there live (filled (take (i + 1) slots)))
+there_next tell live slots i x kept new h e k n = n ∙ ap (λ l. l ++ map tell (pairs_there live (option_to_list x))) k ∙ sym (ap (map tell) (there_filled live slots i x h e) ∙ map-append tell (pairs_there live (filled (take i slots))) (pairs_there live (option_to_list x)))
 
 -- one zero more
 pub one_more : (n : ℕ) → replicate n zero_value ++ zero_value ∷ [] ≡ replicate (n + 1) zero_value

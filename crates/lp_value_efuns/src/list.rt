@@ -1,10 +1,11 @@
 //! Efuns of arrays and mappings.
 ghost use Rattle.std.specs.Prelude.{◌≡◌, ◌≤◌, ◌<◌, ◌^◌, ◌++◌, Bool, map, min, not, nat_eq, nat_lt, length, position, replicate, Some, None, IfOk, OnOk, if◌then◌else◌};
 ghost use Rattle.std.specs.List.{prefix_len};
+ghost use Rattle.std.specs.Option.{option_to_list};
 ghost use Rattle.lp_values.specs.declared.id.ObjId.{ObjId};
 ghost use Rattle.lp_values.specs.Read.{same};
 ghost use Rattle.lp_cells.specs.Cells.{IsThere, Store};
-ghost use Rattle.lp_cells.specs.Mapping.{HasDistinctKeys, pair_there, pairs_of, pairs_there};
+ghost use Rattle.lp_cells.specs.Mapping.{HasDistinctKeys, pairs_of, pairs_there};
 ghost use Rattle.lp_ops.specs.Effects.{within};
 ghost use Rattle.lp_ops.specs.Operands.{Number, opened};
 ghost use Rattle.lp_ops.specs.Operators.{array, mapping};
@@ -190,23 +191,23 @@ pub fn keys<L: Living>(
 fn keys_there<L: Living>(alloc: Global, pairs: &Pairs, live: &L) -> Result<Vec<Value>, AllocError>
     ensures { IfOk result (λ v. v.items ≡ map (λ p. p.0) (pairs_there (L.live live.now) pairs.now)) }
 {
+    let slots = pairs.slots();
     let mut keys = Vec::new(alloc);
-    for i in 0..pairs.len() {
-        keep_key(&mut keys, pairs, i, live)?;
+    for slot in slots {
+        keep_key(&mut keys, slot, live)?;
     }
     Ok(keys)
 }
 
-/// Adds the key at a place of a mapping, where it is there.
+/// Adds the key in a slot of a mapping, where it is there.
 fn keep_key<L: Living>(
     keys: &mut Vec<Value>,
-    pairs: &Pairs,
-    i: usize,
+    slot: &Option<(Value, Value)>,
     live: &L,
 ) -> Result<(), AllocError>
-    ensures { OnOk result (keys.new.items ≡ keys.old.items ++ map (λ p. p.0) (pair_there (L.live live.now) pairs.now i)) }
+    ensures { OnOk result (keys.new.items ≡ keys.old.items ++ map (λ p. p.0) (pairs_there (L.live live.now) (option_to_list slot.now))) }
 {
-    if let Some((key, _)) = pairs.at(i) {
+    if let Some((key, _)) = slot {
         if as_read(key, live).is_some() {
             keys.push(key.copy()?)?;
         }
@@ -234,23 +235,23 @@ pub fn contents<L: Living>(
 fn values_there<L: Living>(alloc: Global, pairs: &Pairs, live: &L) -> Result<Vec<Value>, AllocError>
     ensures { IfOk result (λ v. v.items ≡ map (λ p. p.1) (pairs_there (L.live live.now) pairs.now)) }
 {
+    let slots = pairs.slots();
     let mut values = Vec::new(alloc);
-    for i in 0..pairs.len() {
-        keep_value(&mut values, pairs, i, live)?;
+    for slot in slots {
+        keep_value(&mut values, slot, live)?;
     }
     Ok(values)
 }
 
-/// Adds the value at a place of a mapping, where its key is there.
+/// Adds the value in a slot of a mapping, where its key is there.
 fn keep_value<L: Living>(
     values: &mut Vec<Value>,
-    pairs: &Pairs,
-    i: usize,
+    slot: &Option<(Value, Value)>,
     live: &L,
 ) -> Result<(), AllocError>
-    ensures { OnOk result (values.new.items ≡ values.old.items ++ map (λ p. p.1) (pair_there (L.live live.now) pairs.now i)) }
+    ensures { OnOk result (values.new.items ≡ values.old.items ++ map (λ p. p.1) (pairs_there (L.live live.now) (option_to_list slot.now))) }
 {
-    if let Some((key, v)) = pairs.at(i) {
+    if let Some((key, v)) = slot {
         if as_read(key, live).is_some() {
             values.push(v.copy()?)?;
         }

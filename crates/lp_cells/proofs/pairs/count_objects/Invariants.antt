@@ -1,6 +1,7 @@
 use Rattle.std.proofs.Common.{◌≡◌, ◌≤◌, take}
 use Rattle.lp_cells.specs.Mapping.{objects_in}
+use Rattle.lp_cells.specs.Slots.{filled}
 use Rattle.lp_cells.proofs.pairs.count_objects.Given as goal
 
-abbrev pub invariant-loop-i : goal.invariant-loop-i
-invariant-loop-i l = (l.count ≡ objects_in (take l.i l.pairs.entries)) × (l.count ≤ l.i)
+abbrev pub invariant-loop-slot : goal.invariant-loop-slot
+invariant-loop-slot l = (l.count ≡ objects_in (filled (take l.slot-index l.slots))) × (l.count ≤ l.slot-index)

@@ -1,5 +1,6 @@
 use Rattle.std.proofs.Common.{◌≡◌, ◌+◌, ◌*◌, [], ◌∷◌, ◌++◌, drop, map}
 use Rattle.lp_cells.specs.Mapping.{pairs_there}
+use Rattle.lp_cells.specs.Slots.{filled}
 use Rattle.lp_format.specs.Spelled.{array_spelled, mapping_spelled, pair_spelled, spaced, spelled_within}
 use Rattle.lp_format.proofs.spell.+spell.Given as goal
 
@@ -21,8 +22,8 @@ invariant-write_array-loop-v g l = record {
   text : l.fn.out ++ array_spelled (map (spelled_within (g.L.Living.live l.names) (g.L.Names.name l.names) l.cells l.levels l.fn.path.items) l.items) ≡ l.out ++ (spaced l.others (map (spelled_within (g.L.Living.live l.names) (g.L.Names.name l.names) l.cells l.levels l.fn.path.items) (drop l.v-index l.items)) ++ 32 ∷ 125 ∷ 41 ∷ []);
 }
 
-abbrev pub invariant-write_mapping-loop-i : goal.invariant-write_mapping-loop-i
-invariant-write_mapping-loop-i g l = record {
+abbrev pub invariant-write_mapping-loop-slot : goal.invariant-write_mapping-loop-slot
+invariant-write_mapping-loop-slot g l = record {
   path : l.path.items ≡ l.fn.path.items;
-  text : l.fn.out ++ mapping_spelled (map (pair_spelled (spelled_within (g.L.Living.live l.names) (g.L.Names.name l.names) l.cells l.levels l.fn.path.items)) (pairs_there (g.L.Living.live l.names) l.pairs)) ≡ l.out ++ (spaced l.others (map (pair_spelled (spelled_within (g.L.Living.live l.names) (g.L.Names.name l.names) l.cells l.levels l.fn.path.items)) (pairs_there (g.L.Living.live l.names) (drop l.i l.pairs))) ++ 32 ∷ 93 ∷ 41 ∷ []);
+  text : l.fn.out ++ mapping_spelled (map (pair_spelled (spelled_within (g.L.Living.live l.names) (g.L.Names.name l.names) l.cells l.levels l.fn.path.items)) (pairs_there (g.L.Living.live l.names) (filled l.slots))) ≡ l.out ++ (spaced l.others (map (pair_spelled (spelled_within (g.L.Living.live l.names) (g.L.Names.name l.names) l.cells l.levels l.fn.path.items)) (pairs_there (g.L.Living.live l.names) (filled (drop l.slot-index l.slots)))) ++ 32 ∷ 93 ∷ 41 ∷ []);
 }

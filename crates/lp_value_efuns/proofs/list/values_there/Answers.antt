@@ -1,5 +1,5 @@
 use Rattle.lp_value_efuns.proofs.ListLemmas.{there_next}
 use Rattle.lp_value_efuns.proofs.list.values_there.Goals as goal
 
-pub loop-i-preserved : goal.loop-i-preserved
-loop-i-preserved g c = there_next (λ p. p.1) (g.L.Living.live c.args.live.now) c.args.pairs.now c.loop-i.i c.loop-i.values.items c.keep_value.new.values.items c.loop-i.invariant c.in_ok-keep_value.ensures
+pub loop-slot-preserved : goal.loop-slot-preserved
+loop-slot-preserved g c = there_next (λ p. p.1) (g.L.Living.live c.args.live.now) c.slots-slots.result.now c.loop-slot.slot-index c.slot-item.result c.loop-slot.values.items c.keep_value.new.values.items c.loop-slot-test.true c.slot-item.is c.loop-slot.invariant c.in_ok-keep_value.ensures

@@ -1,7 +1,6 @@
 use Rattle.std.proofs.Common.{◌≡◌, ◌≤◌, subst, length, arith, rules}
 use Rattle.std.specs.Vec.Iter.{into_iter_items}
 use Rattle.indexmap.specs.IndexMap.{insert_all}
-use Rattle.lp_values.specs.Limits.{max_items}
 use Rattle.lp_values.specs.Read.{value_eq}
 use Rattle.lp_cells.specs.Mapping.{pairs_of}
 use Rattle.lp_cells.proofs.MappingLemmas.{insert_all_grows}
