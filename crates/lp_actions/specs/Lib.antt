@@ -1,3 +1,4 @@
 pub mod Actions
 pub mod Held
 pub mod Stored
+pub use Rattle.lp_places.specs.Places

@@ -3,7 +3,7 @@ use Rattle.std.proofs.Common.{◌≡◌, ◌∙◌, ◌<◌, ℕ, List, Some, No
 use Rattle.lp_values.specs.declared.error.RunError.{RunError}
 use Rattle.lp_values.specs.declared.value.Value.{Value}
 use Rattle.lp_language.specs.Course as course
-use Rattle.lp_language.specs.Course.{Gives, State, Stops, caught, here}
+use Rattle.lp_language.specs.Course.{Gives, Stops, caught, here}
 use Rattle.lp_isa.specs.Machine.{Goes}
 use Rattle.lp_isa.specs.Runs.{Comes}
 use Rattle.lp_isa.specs.SoundCode.{NextMatches}

@@ -3,7 +3,7 @@ use Rattle.std.proofs.Common.{◌≡◌, ◌∙◌, ◌++◌, ◌∷◌, [], ◌
 use Rattle.std.proofs.Math.Seq.{take-append_seam}
 use Rattle.lp_values.specs.declared.value.Value.{Value}
 use Rattle.lp_language.specs.Course as course
-use Rattle.lp_language.specs.Course.{End, Gives, Stops}
+use Rattle.lp_language.specs.Course.{End, Stops}
 use Rattle.lp_isa.specs.Machine.{Moment, Ended, push_end}
 use Rattle.lp_world.specs.declared.frame.Frame.{Frame}
 use Rattle.lp_world.specs.declared.live.Live.{Live}

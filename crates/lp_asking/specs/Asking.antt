@@ -6,7 +6,7 @@ use Rattle.lp_code.specs.declared.tables.Slot.{Slot}
 use Rattle.lp_code.specs.Programs.{code_of}
 use Rattle.lp_instr.specs.Code.{Code, parent_row}
 use Rattle.lp_language.specs.Course as course
-use Rattle.lp_language.specs.Course.{Ask, Asked, Scene, Internal, Parent}
+use Rattle.lp_language.specs.Course.{Ask, Asked, Internal, Parent}
 use Rattle.lp_meaning.specs.FunctionCalls.{depth_behind}
 use Rattle.lp_efuns.specs.Turns.{commands_of}
 use Rattle.lp_step.specs.declared.next.Target.{Target}

@@ -6,7 +6,7 @@ use Rattle.lp_cells.specs.Cells.{IsThere, Store}
 use Rattle.lp_code.specs.declared.program.RawProgram.{RawProgram}
 use Rattle.lp_language.specs.World.{World, object_at, version_at}
 use Rattle.lp_language.specs.Course as course
-use Rattle.lp_language.specs.Course.{Answer, End, Gives, Stops, Outcome, Plain, Reply, Returned, WasRead, IsSound, IsFaulty}
+use Rattle.lp_language.specs.Course.{Answer, End, Gives, Stops, Plain, Reply, Returned, WasRead, IsSound, IsFaulty}
 use Rattle.lp_language.specs.Resolve.{without_c}
 use Rattle.lp_asking.specs.declared.ending.Cause.{Cause}
 use Rattle.lp_asking.specs.declared.ending.Cause.TheVariants as causes

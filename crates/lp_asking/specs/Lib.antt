@@ -4,3 +4,4 @@ pub mod Courses
 pub mod Stopping
 pub mod Resuming
 pub mod Beginning
+pub use Rattle.lp_frames.specs.declared.entry.Callee

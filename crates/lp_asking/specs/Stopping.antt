@@ -15,7 +15,7 @@ use Rattle.lp_world.specs.declared.live.Live.{Live}
 use Rattle.lp_world.specs.Matches.{Around, Matches}
 use Rattle.lp_step.specs.Steps.{IsFit}
 use Rattle.lp_step.specs.declared.next.Next.TheVariants as nexts
-use Rattle.lp_step_laws.specs.Running.{IsOf, Runs}
+use Rattle.lp_run.specs.Running.{IsOf, Runs}
 use Rattle.lp_run.specs.Kept.{Later}
 use Rattle.lp_run.specs.Runs.{Came}
 use Rattle.lp_asking.specs.declared.advance.Halt.{Halt}

@@ -29,3 +29,5 @@ pub fn law_questions_end()
 pub fn law_questions_have()
     ensures { QuestionsHave }
 {}
+
+pub use lp_frames::entry::Callee;

@@ -19,7 +19,7 @@ use Rattle.lp_targets.specs.Brought.{program_at}
 use Rattle.lp_targets.proofs.Memory.{some_row}
 use Rattle.lp_targets.proofs.Worlds.{program_is}
 use Rattle.lp_beginning.specs.Beginning.{ArePartsBelow, ArePartsOf, HasPart, TellsPart, TellsVersion}
-use Rattle.lp_initialisers.specs.Rows.{IsInitialiserRowIf, has_initialisers}
+use Rattle.lp_reaching.specs.Rows.{IsInitialiserRowIf, has_initialisers}
 
 -- a row tells that there are initialisers
 pub row_tells : (h : Heritage) (p : RawProgram) (r : Option ℕ) → IsInitialiserRowIf h p r → is_some r ≡ has_initialisers h

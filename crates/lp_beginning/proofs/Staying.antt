@@ -12,7 +12,7 @@ use Rattle.lp_residence.proofs.RowChanges.{object_behind, row_there}
 use Rattle.lp_part_laws.specs.Versions.{AreRising}
 use Rattle.lp_part_laws.proofs.Lists.{is_below}
 use Rattle.lp_making.specs.Trees.{timeless_part, timeless_tree}
-use Rattle.lp_initialisers.specs.Rows.{has_initialisers}
+use Rattle.lp_reaching.specs.Rows.{has_initialisers}
 use Rattle.lp_reaching.proofs.Later.{part_kept}
 use Rattle.lp_beginning.specs.Beginning.{IsInitialised, PartsStay}
 use Rattle.lp_beginning.specs.Jobs.{parts_left}

@@ -5,7 +5,7 @@ use Rattle.lp_values.specs.declared.id.ProgId.{ProgId}
 use Rattle.lp_code.specs.declared.program.RawProgram.{RawProgram}
 use Rattle.lp_swapfile.specs.Device.{Bytes}
 use Rattle.lp_language.specs.World as world
-use Rattle.lp_language.specs.World.{World, no_version, version_at}
+use Rattle.lp_language.specs.World.{no_version}
 use Rattle.lp_language.specs.Resolve.{without_c}
 use Rattle.lp_world.specs.declared.live.Live.{Live}
 use Rattle.lp_world.specs.declared.versions.Version.{Version}

@@ -20,7 +20,7 @@ use Rattle.lp_targets.specs.Brought.{Brings}
 use Rattle.lp_targets.specs.Callees.{IsWorldOf}
 use Rattle.lp_efuns.specs.declared.caller.Turn.{Turn}
 use Rattle.lp_efuns.specs.Turns.{At, Setting}
-use Rattle.lp_initialisers.specs.Rows.{has_initialisers}
+use Rattle.lp_reaching.specs.Rows.{has_initialisers}
 use Rattle.lp_asking.specs.declared.ending.Cause.TheVariants as causes
 use Rattle.lp_asking.specs.declared.ending.Ending.{Ending}
 use Rattle.lp_asking.specs.declared.ending.Ending.TheVariants as endings

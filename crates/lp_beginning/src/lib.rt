@@ -11,3 +11,5 @@ pub mod looking;
 pub mod next;
 pub mod parts;
 pub mod report;
+
+pub use lp_reaching::{bring_program, program_of};

@@ -4,10 +4,9 @@ ghost use Rattle.lp_code.specs.declared.program.RawProgram.{RawProgram as Raw};
 ghost use Rattle.lp_language.specs.Resolve.{Heritage};
 ghost use Rattle.lp_part_laws.specs.Versions.{FitsVersion};
 ghost use Rattle.lp_targets.specs.Brought.{program_at};
-ghost use Rattle.lp_initialisers.specs.Rows.{has_initialisers};
+ghost use Rattle.lp_reaching.specs.Rows.{has_initialisers};
 
-use lp_initialisers::looking::program_of;
-use lp_initialisers::rows::initialiser_row;
+use lp_reaching::{initialiser_row, program_of};
 use lp_values::id::ProgId;
 use lp_world::versions::VersionTable;
 

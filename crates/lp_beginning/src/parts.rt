@@ -9,8 +9,7 @@ ghost use Rattle.lp_beginning.specs.Beginning.{ArePartsBelow, ArePartsOf, NotesP
 
 use crate::looking::{has_initialisers, part_count};
 use lp_asking::truth::Truthful;
-use lp_initialisers::bringing::bring_program;
-use lp_initialisers::looking::part_version;
+use lp_reaching::{bring_program, part_version};
 use lp_residence::answers::EnterFault;
 use lp_values::id::ProgId;
 use lp_world::live::Live;

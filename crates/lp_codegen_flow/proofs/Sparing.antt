@@ -2,7 +2,6 @@
 -- statement is not clear.
 use Rattle.std.proofs.Common.{◌≡◌, ℕ, zero, suc, ◌<◌, List, [], ◌∷◌, ◌++◌, length, take, map, get_or, Bool, true, false, ◌||◌, cond, Option, Some, None, is_some, refl, sym, subst, arith, append_assoc, append-nil}
 use Rattle.std.specs.Prelude.{option_map}
-use Rattle.lp_tree.specs.declared.expr.Expr.{Expr}
 use Rattle.lp_tree.specs.declared.keyword.Modifier.{Modifier}
 use Rattle.lp_tree.specs.declared.stmt.Declarator.{Declarator}
 use Rattle.lp_tree.specs.declared.stmt.Label.{Label}
@@ -20,7 +19,7 @@ use Rattle.lp_language.specs.Exec.{first_label, is_default}
 use Rattle.lp_language.specs.Resolve.{Variable, counted, own_variables}
 use Rattle.lp_language.specs.Scope.{Names, behind, names_of}
 use Rattle.lp_codegen_expr.specs.Names.{Plan, layout_of}
-use Rattle.lp_codegen_expr.specs.Clear.{IsClear, Spares}
+use Rattle.lp_codegen_expr.specs.Clear.{Spares}
 use Rattle.lp_codegen_expr.specs.declared.code.GenFault.{GenFault}
 use Rattle.lp_codegen_expr.specs.declared.scope.Scope.{Scope}
 use Rattle.lp_codegen_flow.specs.Clear.{AreClearOnes, AreClearParts, AreClearStmts, AreClearVariables, IsClearIf, IsClearStmt, IsNew}

@@ -5,7 +5,7 @@ use Rattle.lp_tree.specs.declared.fault.FaultKind.TheVariants.{TooManyNames}
 use Rattle.lp_tree.specs.declared.keyword.Modifier.{Modifier}
 use Rattle.lp_tree.specs.declared.seen.Seen.{Seen}
 use Rattle.lp_tree.specs.declared.unit.Param.{Param}
-use Rattle.lp_tree.specs.Statements.{DeclaratorTree, StmtTree, StmtTrees, PartTrees, SpellsStmt, SpellsStmts, SpellsParts, in_switch}
+use Rattle.lp_tree.specs.Statements.{DeclaratorTree, StmtTree, StmtTrees, PartTrees, SpellsStmt, SpellsStmts, SpellsParts}
 use Rattle.lp_tree.specs.Statements as forms
 use Rattle.lp_tree.specs.Units.{ItemTree, Inherit, Proto, Fun, Var, Phase, Definitions, SpellsItems}
 use Rattle.lp_tree.specs.Units as units

@@ -27,7 +27,7 @@ use Rattle.lp_compile.specs.Compiles.{Compiles, IsRefused}
 use Rattle.lp_sound_laws.specs.Heights.{gains}
 use Rattle.lp_compile.specs.Known.{AreGiven, AreNotGiven, Known}
 use Rattle.lp_compile.specs.Outcomes.{IsAlone, IsMade, IsMadeOf, IsMadeOver, IsRefusedOf, IsRefusedOver}
-use Rattle.lp_compile.specs.Settled.{IsOfTokens, IsSettledUnit}
+use Rattle.lp_compile.specs.Settled.{IsOfTokens}
 use Rattle.lp_compile.specs.Translated.{IsGenerated}
 use Rattle.lp_unit_laws.specs.Units.{rows_of}
 use Rattle.lp_unit_laws.specs.Versions.{AreOfVersions, IsOfVersion, variables_in}

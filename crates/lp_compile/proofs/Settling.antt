@@ -1,7 +1,6 @@
 -- A unit that is settled: it is that of a version, it is clear, and its program is sound.
-use Rattle.std.proofs.Common.{◌≡◌, ◌≢◌, ℕ, suc, ◌+◌, ◌-◌, ◌≤◌, List, [], ◌∷◌, ◌++◌, length, map, Option, Some, None, refl, sym, ap, ◌∙◌, subst, arith, length-append}
+use Rattle.std.proofs.Common.{◌≡◌, ℕ, suc, ◌+◌, ◌-◌, ◌≤◌, List, [], ◌∷◌, ◌++◌, length, map, Option, Some, None, refl, sym, ap, ◌∙◌, subst, arith, length-append}
 use Rattle.std.specs.Prelude.{slice_get}
-use Rattle.lp_tree.specs.declared.fault.Fault.{Fault}
 use Rattle.lp_tree.specs.Units.{ItemTree}
 use Rattle.lp_values.specs.declared.id.ProgId.{ProgId}
 use Rattle.lp_code.specs.declared.program.RawProgram.{RawProgram}
@@ -10,22 +9,19 @@ use Rattle.lp_code.specs.Programs.{IsProgram, code_of}
 use Rattle.lp_layout.specs.Layout.{inherits, parts_before}
 use Rattle.lp_front.specs.declared.read.Declared.{Declared}
 use Rattle.lp_front.specs.Reading.{items_of}
-use Rattle.lp_front.specs.Settling.{IsSettled, if_any, in_file, own_version, tables_of, types_or_layout, versions_of, with_version}
+use Rattle.lp_front.specs.Settling.{IsSettled, in_file, own_version, types_or_layout, versions_of, with_version}
 use Rattle.lp_inherit.specs.Heirs.{table, tables}
 use Rattle.lp_isa.specs.Programs.{own_functions}
 use Rattle.lp_language.specs.Resolve.{Heir, Heritage, own_variables}
 use Rattle.lp_types_expr.specs.declared.fault.FaultAt.{FaultAt}
 use Rattle.lp_types.specs.TypeFaults.{type_faults}
 use Rattle.lp_layout.specs.LayoutFaults.{layout_fault}
-use Rattle.lp_codegen_expr.specs.Clear.{Spares}
 use Rattle.lp_codegen_expr.specs.Names.{Lays}
-use Rattle.lp_codegen_expr.specs.declared.code.GenFault.{GenFault}
-use Rattle.lp_codegen_expr.specs.declared.code.GenFault.TheVariants.{Unclear}
 use Rattle.lp_codegen_layout.specs.Laid.{plan_of}
 use Rattle.lp_codegen_expr.proofs.Compose.{slice_get-seam}
 use Rattle.lp_codegen_unit.specs.Stands.{IsClearUnit}
 use Rattle.lp_unit_laws.specs.Units.{FaultlessIsSound, HasCode, rows_of}
-use Rattle.lp_unit_laws.specs.Versions.{AreOfVersions, AreTablesOf, IsFine, IsOfVersion}
+use Rattle.lp_unit_laws.specs.Versions.{AreOfVersions, AreTablesOf, IsOfVersion}
 use Rattle.lp_unit_laws.proofs.Versioned.{is_version}
 use Rattle.lp_compile.specs.Faultless.{FaultlessHasCode}
 use Rattle.lp_compile.specs.Settled.{IsOfTokens, IsSettledUnit}

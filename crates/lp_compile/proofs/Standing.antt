@@ -1,10 +1,10 @@
 -- A program that is the translation of a unit stands for its version.
-use Rattle.std.proofs.Common.{◌≡◌, ℕ, ◌+◌, List, map, length, refl, sym, ap, ◌∙◌, subst}
+use Rattle.std.proofs.Common.{◌≡◌, ℕ, List, map, sym, ap, ◌∙◌, subst}
 use Rattle.lp_tree.specs.Units.{ItemTree}
 use Rattle.lp_code.specs.declared.program.RawProgram.{RawProgram}
 use Rattle.lp_code.specs.declared.tables.Tables.{Tables}
 use Rattle.lp_code.specs.Programs.{code_of}
-use Rattle.lp_language.specs.Resolve.{Heritages, NoParent, OneParent, parents_of, variables_before, version_of}
+use Rattle.lp_language.specs.Resolve.{parents_of, version_of}
 use Rattle.lp_isa.specs.Programs.{AreFuns, StandsForVersion, own_functions}
 use Rattle.lp_inherit.specs.Heirs.{table, tables}
 use Rattle.lp_codegen_expr.specs.Names.{Lays}

@@ -20,7 +20,7 @@ use Rattle.lp_front_end.specs.Stores.{ReadsStore, StoresAreRead}
 use Rattle.lp_front_end.specs.Parents.{KnowsParents, MissingAreTheSame, TablesAreTheSame, by_file, first_not_known}
 use Rattle.lp_compile.specs.Known.{Known, AreGiven, IsFirstMissing, IsMissing as IsMissingThere}
 use Rattle.lp_compile.specs.Compiles as compiling
-use Rattle.lp_compile.specs.Compiles.{Compiles, IsRefused, Needs, IsUnread}
+use Rattle.lp_compile.specs.Compiles.{IsRefused, IsUnread}
 use Rattle.lp_compile.specs.declared.fault.CompileFault.{CompileFault}
 use Rattle.lp_compile.specs.declared.fault.CompileFault.TheVariants as faults
 use Rattle.lp_compile_laws.specs.Told.{CompiledIsSound, IsChecked, IsUnitWithoutFault, IsFaultyFile, IsFaultyUnit, IsMissing, IsToldAs, RefusedIsTold, StandsOn}

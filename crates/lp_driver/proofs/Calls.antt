@@ -15,8 +15,8 @@ use Rattle.lp_efuns.specs.Turns.{commands_of}
 use Rattle.lp_asking.specs.declared.asker.Asker.{Asker}
 use Rattle.lp_asking.specs.declared.ending.Ending.{Ending}
 use Rattle.lp_asking.specs.Asking.{IsBy, loading_of}
-use Rattle.lp_loading.specs.declared.job.Answer.{Answer}
-use Rattle.lp_reaching.specs.Reaching.{Applies}
+use Rattle.lp_vm.specs.LoadAnswer.{Answer}
+use Rattle.lp_vm.specs.Reaching.{Applies}
 use Rattle.lp_turn.specs.Calls.{IsEndOf}
 use Rattle.lp_turn.specs.Resting.{Rests}
 use Rattle.lp_turn.specs.declared.job.CallEnd.{CallEnd}

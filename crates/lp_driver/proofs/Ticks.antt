@@ -1,5 +1,5 @@
 -- The steps of a tick, one after another.
-use Rattle.std.proofs.Common.{◌≡◌, ◌++◌, ◌∷◌, [], ℕ, List, Option, refl, sym, subst}
+use Rattle.std.proofs.Common.{◌++◌, ◌∷◌, [], ℕ, List, Option, sym, subst}
 use Rattle.lp_swapfile.specs.Device.{Bytes}
 use Rattle.lp_language.specs.Course.{AreCalled, Asks, Course, End, Entry, Fits, Gives, Over, State, and_then}
 use Rattle.lp_lasting_laws.specs.Numbers.{NumbersAreEnough, calls_due}

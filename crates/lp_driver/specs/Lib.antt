@@ -4,3 +4,5 @@ pub mod Starting
 pub mod Knowing
 pub mod Driving
 pub mod Tidying
+pub use Rattle.lp_vm.specs.Causes
+pub use Rattle.lp_vm.specs.declared.fault.VmFault

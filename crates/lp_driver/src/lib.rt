@@ -14,3 +14,5 @@ pub mod starting;
 mod ticking;
 mod tidying;
 mod turning;
+
+pub use lp_vm::fault::VmFault;

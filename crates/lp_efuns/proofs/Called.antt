@@ -34,7 +34,7 @@ use Rattle.lp_efuns.specs.declared.answer.Did.TheVariants as did
 use Rattle.lp_efuns.specs.declared.caller.Caller.{Caller}
 use Rattle.lp_efuns.specs.declared.caller.Turn.{Turn}
 use Rattle.lp_efuns.specs.Deeds.{Does, Done, Gave, IsDone, Refused, Threw, deed_done, effect_done, efun_done, group_done}
-use Rattle.lp_efuns.specs.Plain.{CallsEfun, Finishes, IsDidThere, IsEnd, PaysFor, is_computing, is_deed, is_plain, is_plain_in, price_of_value}
+use Rattle.lp_efuns.specs.Plain.{CallsEfun, Finishes, IsDidThere, IsEnd, PaysFor, is_computing, is_deed, is_plain_in, price_of_value}
 use Rattle.lp_efuns.specs.Turns.{At, Setting}
 use Rattle.lp_efuns.proofs.Parted.{price_same}
 

@@ -1,5 +1,5 @@
 -- Connections that go from one object to another, and the objects that have them.
-use Rattle.std.proofs.Common.{◌≡◌, ◌∙◌, ◌<◌, ◌≤◌, ◌∷◌, [], ℕ, pos, Bool, true, false, List, Option, Some, None, All, is_some, refl, ap, sym, subst, map, length, nat_eq, nat_lt, if◌then◌else◌}
+use Rattle.std.proofs.Common.{◌≡◌, ◌∙◌, ◌≤◌, ◌∷◌, [], ℕ, pos, Bool, true, false, List, Option, Some, None, All, is_some, refl, ap, sym, subst, map, length, nat_eq, nat_lt, if◌then◌else◌}
 use Rattle.std.proofs.lemmas.Bool.{le-ltb}
 use Rattle.std.proofs.lemmas.List.{length-map}
 use Rattle.std.proofs.lemmas.List.Elements.{All-cons, All-nil}
@@ -18,7 +18,6 @@ use Rattle.lp_values.specs.declared.error.ErrorKind.TheVariants.{TooLong}
 use Rattle.lp_instr.specs.declared.efun.Efun.TheVariants as efuns
 use Rattle.lp_language.specs.Course.{State}
 use Rattle.lp_language.specs.Operations.{with_world}
-use Rattle.lp_language.specs.World as world
 use Rattle.lp_meaning.specs.EfunArguments.{object_arg, opened_args}
 use Rattle.lp_meaning.specs.WorldEfuns.{Deed, Yields, changes, deed, exec, object_values, of_live, one, zero}
 use Rattle.lp_meaning.specs.WorldSteps as steps

@@ -1,5 +1,5 @@
 -- Transcripts: the bytes of the outputs of turns.
-use Rattle.std.specs.Prelude.{◌≡◌, ℕ, List, [], ◌∷◌, ◌++◌, length, flat_map, nat_eq, if◌then◌else◌, codes}
+use Rattle.std.specs.Prelude.{ℕ, List, [], ◌∷◌, ◌++◌, flat_map, nat_eq, if◌then◌else◌, codes}
 use Rattle.std.specs.Str.{encode_utf8_all}
 use Rattle.lp_events.specs.Script.{numeral, counted}
 use Rattle.lp_events.specs.declared.out.Out.{Out}

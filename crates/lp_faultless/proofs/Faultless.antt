@@ -12,7 +12,7 @@ use Rattle.lp_tree.specs.Units.{Fun, Inherit, ItemTree, Proto, Var}
 use Rattle.lp_code.specs.declared.tables.Tables.{Tables}
 use Rattle.lp_code.specs.declared.tables.VarRow.{VarRow}
 use Rattle.lp_instr.specs.EfunList.{is_name}
-use Rattle.lp_language.specs.Resolve.{Function, Heir, Heritage, Heritages, NoParent, OneParent, Variable, is_private, own_names, own_variables, place_moved, sighted_from, variable_count, variable_last, variable_outside}
+use Rattle.lp_language.specs.Resolve.{Function, Heir, Heritages, NoParent, OneParent, Variable, is_private, own_names, own_variables, place_moved, sighted_from, variable_count, variable_last, variable_outside}
 use Rattle.lp_isa.specs.Programs.{own_functions}
 use Rattle.lp_language.specs.Resolve as names_mean
 use Rattle.lp_types_expr.specs.ExprFaults.{when}

@@ -1,28 +1,23 @@
 -- What is read of the files, and what is done to them, is what it means.
-use Rattle.std.proofs.Common.{◌≡◌, ◌<◌, ◌≤◌, ◌∙◌, ◌++◌, ℕ, suc, zero, Bool, true, false, List, [], ◌∷◌, Option, Some, None, refl, ap, sym, subst, map, slice_get, slice_set, unwrap_or, length, pos, is_some, IsSome, All, if◌then◌else◌, IfSome}
+use Rattle.std.proofs.Common.{◌≡◌, ◌∙◌, ◌++◌, ℕ, Bool, true, false, List, Option, Some, None, refl, ap, sym, subst, length, pos, is_some, if◌then◌else◌}
 use Rattle.std.specs.Prelude.{◌&&◌, IsUtf8, bytes_eq, chars, encode_utf8_all, nat_le, nat_lt}
 use Rattle.std.proofs.lemmas.Bool.{le-leb, lt-leb, ltb-false, ltb-true}
 use Rattle.std.proofs.lemmas.Slice.Eq.{bytes_eq-Decides}
 use Rattle.lp_values.specs.Limits.{max_code_points}
-use Rattle.lp_values.specs.declared.id.ObjId.{ObjId}
 use Rattle.lp_values.specs.declared.value.Value.{Value}
-use Rattle.lp_values.specs.declared.value.Value.TheVariants.{Arr, Int, Map, Str}
-use Rattle.lp_code.specs.declared.program.RawProgram.{RawProgram}
+use Rattle.lp_values.specs.declared.value.Value.TheVariants.{Int, Str}
 use Rattle.lp_files.specs.Store.{IsWith, file_at}
 use Rattle.lp_files.specs.declared.store.Store.{Store}
-use Rattle.lp_swapfile.specs.Device.{Bytes}
 use Rattle.lp_save.proofs.LineLemmas.{valid_len}
-use Rattle.lp_language.specs.Course.{Course, Scene, State, gives, zero_value}
-use Rattle.lp_language.specs.Operations.{cells_of, living, with_store, with_world}
-use Rattle.lp_language.specs.World.{Object as ObjectOf, World, is_live, no_object, object_at, with_cells, with_object}
-use Rattle.lp_meaning.specs.FileEfuns.{Saved, bytes_of, named_value, or_empty, read_value, removed, restored, restoring, restoring_from, saved_bytes, saved_of, saving, size_value, text_or_zero, value_at, with_values, with_variables, written_to}
+use Rattle.lp_language.specs.Course.{gives, zero_value}
+use Rattle.lp_language.specs.Operations.{with_world}
+use Rattle.lp_language.specs.World.{World}
+use Rattle.lp_meaning.specs.FileEfuns.{bytes_of, or_empty, removed, text_or_zero, written_to}
 use Rattle.lp_meaning.specs.WorldSteps as steps
-use Rattle.lp_world.specs.Stands.{IsPart, Stands}
 use Rattle.lp_world.specs.declared.live.Live.{Live}
-use Rattle.lp_filing.specs.declared.outcome.Outcome.{Outcome}
 use Rattle.lp_filing.specs.declared.outcome.Outcome.TheVariants as outcomes
-use Rattle.lp_filing.specs.Filing.{Comes, ComesWith, EndsWith, Follows, Shows}
-use Rattle.lp_filing.proofs.Worlds.{follows_files, follows_gone, follows_still, follows_written, own_with_more, part_with_more}
+use Rattle.lp_filing.specs.Filing.{Comes, EndsWith, Follows, Shows}
+use Rattle.lp_filing.proofs.Worlds.{follows_files, follows_gone, follows_still, follows_written}
 
 -- Reading
 

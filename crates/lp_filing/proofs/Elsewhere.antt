@@ -16,7 +16,7 @@ use Rattle.lp_cells.specs.declared.content.Content.TheVariants as content
 use Rattle.lp_cells.specs.Cells.{Store, content_set}
 use Rattle.lp_text.specs.Pieces.{pieces}
 use Rattle.lp_text.specs.Scans.{digits_number, signed}
-use Rattle.lp_save.specs.Desks.{Desk, cell_of, desk_begun, desk_filled, rest_of}
+use Rattle.lp_save.specs.Desks.{Desk, cell_of, rest_of}
 use Rattle.lp_save.specs.SaveText.{Line, Lines, Read, Faulty, Reading, Rest, Restored, Values, FaultyLine, all_lines, array_done, as_text, begins, cell_begun, cell_read, digits_at, given, int_of, int_read, is_array_cell, is_header, is_number, is_variable_name, items_read, left, line_of, line_read, lines_read, mapping_done, max_saved_levels, named, needed, next_cell, number_read, pairs_read, restored_from, restored_text, shared_cell, text_read, then_read, value_of_cell, value_read, whole as whole_value}
 use Rattle.lp_save.proofs.DeskLemmas.{begun_is, filled_is}
 

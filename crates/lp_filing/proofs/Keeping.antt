@@ -1,32 +1,29 @@
 -- The saved variables of an object become a file, and come from one, as it means.
-use Rattle.std.proofs.Common.{◌≡◌, ◌≢◌, ◌∙◌, ◌++◌, ℕ, suc, zero, Bool, true, false, List, [], ◌∷◌, Option, Some, None, refl, ap, sym, subst, map, slice_get, slice_set, unwrap_or, length, pos, is_some, IsSome, All, if◌then◌else◌, IfSome}
+use Rattle.std.proofs.Common.{◌≡◌, ◌∙◌, ◌++◌, ℕ, suc, zero, List, [], ◌∷◌, Option, Some, None, refl, ap, sym, subst, map, slice_get, slice_set, unwrap_or, pos, IsSome, All, IfSome}
 use Rattle.std.specs.Prelude.{IfOk, OnOk, Result, Ok, Err, Vec}
 use Rattle.std.proofs.lemmas.List.Elements.{All-cons, All-head, All-nil, All-tail, All-weaker}
 use Rattle.lp_values.specs.Errors.{bad_save, plain}
 use Rattle.lp_values.specs.declared.error.ErrorKind.TheVariants.{TooNested}
-use Rattle.lp_values.specs.declared.id.CellId.{CellId}
 use Rattle.lp_values.specs.declared.id.ObjId.{ObjId}
 use Rattle.lp_values.specs.declared.value.Value.{Value}
-use Rattle.lp_values.specs.declared.value.Value.TheVariants.{Arr, Int, Map, Str}
-use Rattle.lp_cells.specs.Cells.{IsThere, KeepsThere, Store as Cells, as_items, as_pairs, content_at, items_of, stored_pairs}
+use Rattle.lp_values.specs.declared.value.Value.TheVariants.{Int}
+use Rattle.lp_cells.specs.Cells.{IsThere, KeepsThere, Store as Cells, as_items, as_pairs}
 use Rattle.lp_code.specs.declared.program.RawProgram.{RawProgram}
 use Rattle.lp_files.specs.Store.{IsWith, file_at}
-use Rattle.lp_files.specs.declared.store.Store.{Store}
 use Rattle.lp_swapfile.specs.Device.{Bytes}
 use Rattle.lp_save.specs.Reading.{FaultIn, Given, outcome, without_kind}
 use Rattle.lp_save.specs.SaveText.{FaultyLine, Restored, Values, restored_text, saved_text}
 use Rattle.lp_save.specs.declared.fault.FaultKind.{FaultKind}
 use Rattle.lp_save.proofs.KindLemmas.{kinds_same}
-use Rattle.lp_language.specs.Course.{Course, Scene, State, gives, zero_value}
-use Rattle.lp_language.specs.Operations.{cells_of, living, with_store, with_world}
+use Rattle.lp_language.specs.Course.{Scene, State, gives}
+use Rattle.lp_language.specs.Operations.{cells_of, living, with_world}
 use Rattle.lp_language.specs.Resolve.{heritage_of}
 use Rattle.lp_language.specs.World.{Object as ObjectOf, World, is_live, no_object, object_at, with_cells, with_object}
-use Rattle.lp_meaning.specs.FileEfuns.{Saved, bytes_of, named_value, or_empty, read_value, removed, restored, restoring, restoring_from, saved_bytes, saved_of, saving, size_value, text_or_zero, value_at, with_values, with_variables, written_to}
-use Rattle.lp_meaning.specs.WorldSteps as steps
+use Rattle.lp_meaning.specs.FileEfuns.{Saved, named_value, restored, restoring, restoring_from, saved_bytes, saved_of, saving, value_at, with_values, with_variables}
 use Rattle.lp_part_laws.specs.Versions.{FitsVersion}
 use Rattle.lp_world.specs.Closed.{IsClosed}
-use Rattle.lp_world.specs.Rows.{live_in, row_at, variables_at, variables_in, variables_of}
-use Rattle.lp_world.specs.Stands.{IsPart, Stands}
+use Rattle.lp_world.specs.Rows.{live_in, variables_at, variables_in, variables_of}
+use Rattle.lp_world.specs.Stands.{Stands}
 use Rattle.lp_world.specs.declared.live.Live.{Live}
 use Rattle.lp_world.specs.declared.objects.Object.{Object}
 use Rattle.lp_world.specs.declared.objects.ObjectState.{ObjectState}
@@ -34,7 +31,7 @@ use Rattle.lp_world.specs.declared.objects.ObjectState.TheVariants as objects_of
 use Rattle.lp_world.proofs.Keeping.{items_same, live_same, pairs_same, with_other_cells}
 use Rattle.lp_filing.specs.declared.outcome.Outcome.{Outcome}
 use Rattle.lp_filing.specs.declared.outcome.Outcome.TheVariants as outcomes
-use Rattle.lp_filing.specs.Filing.{Comes, ComesWith, EndsWith, Follows, Shows}
+use Rattle.lp_filing.specs.Filing.{ComesWith, EndsWith, Follows}
 use Rattle.lp_filing.specs.Rows.{Become, KeepsVariables, ReadsFrom, saved_in, with_places}
 use Rattle.lp_filing.proofs.Become.{closed_become, keeps_become, places_are, places_many, places_there, stands_become, with_these, world_has}
 use Rattle.lp_world.proofs.Closing.{closed_with_cells}
@@ -45,7 +42,7 @@ use Rattle.lp_cells.specs.Cells.{IsClosed as AreClosed}
 use Rattle.lp_filing.proofs.Elsewhere.{fault_elsewhere, values_elsewhere}
 use Rattle.lp_filing.proofs.Spelled as spelled
 use Rattle.lp_filing.proofs.Variables.{saved_same}
-use Rattle.lp_filing.proofs.Worlds.{follows_files, follows_gone, follows_still, follows_written, own_with_more, part_with_more}
+use Rattle.lp_filing.proofs.Worlds.{follows_still, follows_written, own_with_more, part_with_more}
 
 -- Variables in memory
 

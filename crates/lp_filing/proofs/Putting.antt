@@ -1,9 +1,9 @@
 -- Values are put into the variables of an object, one after another.
-use Rattle.std.proofs.Common.{◌≡◌, ◌∙◌, ◌+◌, ◌<◌, ◌≤◌, ℕ, suc, zero, arith, List, [], ◌∷◌, Option, Some, None, refl, ap, sym, subst, drop, get_or, length, slice_get, slice_set, unwrap_or, IsSome, drop-cons, add-one}
+use Rattle.std.proofs.Common.{◌≡◌, ◌∙◌, ◌+◌, ◌<◌, ◌≤◌, ℕ, suc, zero, List, [], ◌∷◌, Option, Some, None, refl, ap, sym, subst, drop, get_or, length, slice_get, slice_set, unwrap_or, IsSome, drop-cons, add-one}
 use Rattle.std.proofs.lemmas.List.{drop_all, set_past}
 use Rattle.lp_values.specs.declared.id.ObjId.{ObjId}
 use Rattle.lp_values.specs.declared.value.Value.{Value}
-use Rattle.lp_world.specs.Rows.{row_at, variables_at, variables_in, variables_of}
+use Rattle.lp_world.specs.Rows.{variables_at, variables_in, variables_of}
 use Rattle.lp_world.specs.declared.objects.Object.{Object}
 use Rattle.lp_world.specs.declared.objects.ObjectState.{ObjectState}
 use Rattle.lp_world.specs.declared.objects.ObjectState.TheVariants as objects_of

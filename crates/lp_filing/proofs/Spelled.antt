@@ -1,5 +1,5 @@
 -- Values are spelled in the same way by other cells that hold the same where the values lead.
-use Rattle.std.proofs.Common.{◌≡◌, ◌∙◌, ℕ, zero, suc, Bool, false, List, [], ◌∷◌, ◌++◌, Option, Some, None, refl, ap, sym, All, map, if◌then◌else◌, codes, is_some}
+use Rattle.std.proofs.Common.{◌≡◌, ◌∙◌, ℕ, zero, suc, Bool, false, List, [], ◌∷◌, ◌++◌, Some, None, refl, ap, All, map, if◌then◌else◌, codes, is_some}
 use Rattle.std.specs.Prelude.{encode_utf8_all, flat_map, fold}
 use Rattle.std.proofs.lemmas.List.Elements.{All-cons, All-filter, All-head, All-map, All-nil, All-tail}
 use Rattle.lp_values.specs.declared.id.CellId.{CellId}

@@ -1,6 +1,6 @@
 -- The saved rows of a program that fits an object's version are the saved variables of the object.
 use Rattle.std.proofs.Common.{◌≡◌, ◌∙◌, ◌≤◌, ℕ, suc, arith, Bool, true, false, ◌||◌, nat_eq, List, [], ◌∷◌, ◌++◌, map, length, refl, ap, sym, subst, append_assoc, ◌%◌, ◌/◌, ◌+◌, ◌*◌, if◌then◌else◌}
-use Rattle.std.specs.Prelude.{⊤, IsAscii, chars}
+use Rattle.std.specs.Prelude.{⊤, chars}
 use Rattle.std.proofs.lemmas.Str.{chars-IsAscii}
 use Rattle.lp_tree.specs.declared.keyword.Base.{Base}
 use Rattle.lp_tree.specs.declared.keyword.Modifier.{Modifier}

@@ -1,28 +1,25 @@
 -- Worlds with other files, and with other cells and variables.
-use Rattle.std.proofs.Common.{◌≡◌, ◌∙◌, ◌++◌, ◌⊎◌, ℕ, zero, suc, Bool, true, false, List, [], ◌∷◌, Option, Some, None, refl, ap, sym, subst, find, filter, not, inl, inr, slice_get, slice_set, unwrap_or, length, length-append, arith, IsSome, map, if◌then◌else◌}
+use Rattle.std.proofs.Common.{◌≡◌, ◌∙◌, ◌++◌, ◌⊎◌, ℕ, zero, suc, Bool, true, false, List, [], ◌∷◌, Option, Some, None, refl, ap, sym, subst, find, not, inl, inr, slice_get, unwrap_or, length, length-append, arith, IsSome, if◌then◌else◌}
 use Rattle.std.specs.Prelude.{bytes_eq}
 use Rattle.std.specs.Option.{option_map}
 use Rattle.std.proofs.lemmas.Bool.{false≢true}
 use Rattle.std.proofs.lemmas.Slice.Eq.{bytes_eq-Decides}
-use Rattle.lp_values.specs.declared.id.CellId.{CellId}
-use Rattle.lp_values.specs.declared.id.ObjId.{ObjId}
-use Rattle.lp_values.specs.declared.value.Value.{Value}
 use Rattle.lp_code.specs.declared.program.RawProgram.{RawProgram}
 use Rattle.lp_cells.specs.Cells as cells
 use Rattle.lp_cells.specs.Cells.{content_at}
 use Rattle.lp_cells.specs.declared.content.Content.{Content}
 use Rattle.lp_instr.specs.EfunList.{is_name}
-use Rattle.lp_files.specs.Store.{IsSame, IsWith, changed_in, file_at}
+use Rattle.lp_files.specs.Store.{IsSame, IsWith, file_at}
 use Rattle.lp_files.specs.declared.store.Store.{Store}
 use Rattle.lp_swapfile.specs.Device.{Bytes}
 use Rattle.lp_language.specs.Course.{State}
 use Rattle.lp_language.specs.Operations.{with_world}
-use Rattle.lp_language.specs.World.{File, World, with_cells}
+use Rattle.lp_language.specs.World.{File, World}
 use Rattle.lp_meaning.specs.FileEfuns.{without_file}
 use Rattle.lp_meaning.specs.WorldSteps as steps
 use Rattle.lp_meaning.specs.WorldSteps.{file_removed, file_written, with_file}
 use Rattle.lp_world.specs.Closed.{IsClosed}
-use Rattle.lp_world.specs.Stands.{IsOwn, IsPart, Stands}
+use Rattle.lp_world.specs.Stands.{IsPart, Stands}
 use Rattle.lp_world.specs.declared.live.Live.{Live}
 use Rattle.lp_world.proofs.Keeping.{KeepsOwn, get_kept}
 use Rattle.lp_filing.specs.Filing.{Follows, StandsStill}

@@ -13,7 +13,7 @@ use Rattle.lp_world.specs.declared.live.Live.{Live}
 use Rattle.lp_world.specs.Matches.{Around, Belongs, Matches}
 use Rattle.lp_world.specs.Stands.{Stands}
 use Rattle.lp_step.specs.Steps.{IsFit}
-use Rattle.lp_step_laws.specs.Running.{IsHome, IsOf, Runs}
+use Rattle.lp_run.specs.Running.{IsHome, IsOf, Runs}
 use Rattle.lp_run.specs.Runs.{CanRun}
 use Rattle.lp_frames.specs.declared.entry.Callee.{Callee}
 

@@ -12,7 +12,7 @@ use Rattle.lp_world.specs.declared.frame.Frame.{Frame}
 use Rattle.lp_world.specs.declared.live.Live.{Live}
 use Rattle.lp_world.specs.Matches.{Around, Matches, Sits}
 use Rattle.lp_step.specs.Steps.{IsFit}
-use Rattle.lp_step_laws.specs.Running.{IsHome, IsOf, Runs}
+use Rattle.lp_run.specs.Running.{IsHome, IsOf, Runs}
 use Rattle.lp_run.specs.Catches.{CatchesAt}
 
 -- The caller of a function waits for it at a moment, with these operands left. Below the function lie the caller's locals and

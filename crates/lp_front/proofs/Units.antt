@@ -25,7 +25,7 @@ use Rattle.lp_tree.specs.Trees.{Tree, Trees, Pairs, End}
 use Rattle.lp_tree.specs.Expressions as exprs
 use Rattle.lp_tree.specs.Expressions.{Spells, SpellsEdge, SpellsParts as SpellsSequence, SpellsItems as SpellsList, SpellsPairs, SpellsPlaces, SpellsEnd, from_front, from_back, final, further, last, more, no_pair, last_pair, more_pairs, no_place, comma_last, one_place}
 use Rattle.lp_tree.specs.Statements as stmts
-use Rattle.lp_tree.specs.Statements.{Around, DeclaratorTree, LocalTree, InitTree, StmtTree, StmtTrees, PartTrees, SpellsDeclarator, SpellsDeclarators, SpellsLocal, SpellsEach, SpellsEaches, IsIn, SpellsConstant, SpellsLabel, SpellsInit, SpellsOptional, SpellsStmt, SpellsStmts, SpellsParts, plain, set_to, one, another, declares, one_each, two_eaches, case_value, case_range, default_case}
+use Rattle.lp_tree.specs.Statements.{Around, DeclaratorTree, LocalTree, InitTree, StmtTree, StmtTrees, PartTrees, SpellsDeclarator, SpellsDeclarators, SpellsLocal, SpellsEach, SpellsEaches, SpellsConstant, SpellsLabel, SpellsInit, SpellsOptional, SpellsStmt, SpellsStmts, SpellsParts, plain, set_to, one, another, declares, one_each, two_eaches, case_value, case_range, default_case}
 use Rattle.lp_tree.specs.Units.{ItemTree, BlockTree, Phase, SpellsMods, no_mod, mod_word, SpellsTypeIf, no_type, type_given, SpellsParam, param, SpellsParams, one_param, more_params, SpellsParamsIf, no_params, params, SpellsBlock, block, SpellsItem, inherit, proto, fun, var, SpellsItems, no_item, item, SpellsUnit}
 use Rattle.lp_parser.specs.Theorem.{sight}
 use Rattle.lp_layout.specs.Layout.{AreSpelled, IsSpelled, variable_names}

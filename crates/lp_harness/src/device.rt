@@ -8,21 +8,14 @@ use lp_swapfile::{Failed, MemSwap, SwapFile};
 use std::alloc::{AllocError, Global};
 use std::marker::Model;
 
-/// Which calls of a swap file go wrong, by their numbers from 1, or 0 where none does: a read that fails, one whose first byte has
-/// each bit flipped, and a write that fails.
+/// Which calls of a swap file go wrong, by their numbers from 1: reads that fail, a read whose first byte has each bit flipped, or 0
+/// where none lies, and writes that fail.
 #[derive(Clone, Copy)]
-pub struct Troubles {
-    pub read: u64,
+pub struct Troubles<'a> {
+    pub reads: &'a [u64],
     pub lie: u64,
-    pub write: u64,
+    pub writes: &'a [u64],
 }
-
-/// Nothing goes wrong.
-pub const NONE: Troubles = Troubles {
-    read: 0,
-    lie: 0,
-    write: 0,
-};
 
 /// A swap file in memory of which such calls go wrong. It tells the truth up to its lie.
 #[derive(Drop)]
@@ -45,20 +38,15 @@ impl Model for TestSwap {
 
 impl TestSwap {
     /// An empty one.
-    pub fn new(alloc: Global, troubles: Troubles) -> Result<TestSwap, AllocError> {
+    pub fn new(alloc: Global, troubles: Troubles<'_>) -> Result<TestSwap, AllocError> {
         let lies = vec![in alloc; (troubles.lie, 0)]?;
-        let reads = vec![in alloc; troubles.read]?;
-        let writes = vec![in alloc; troubles.write]?;
+        let reads = troubles.reads.to_vec(alloc)?;
+        let writes = troubles.writes.to_vec(alloc)?;
         Ok(TestSwap {
             memory: MemSwap::new(alloc, reads, writes, lies),
             lying: troubles.lie,
             lied: false,
         })
-    }
-
-    /// How many reads and writes were made.
-    pub fn calls(&self) -> (u64, u64) {
-        (self.memory.reads(), self.memory.writes())
     }
 
     /// Whether the next read lies.

@@ -1,10 +1,7 @@
-//! Runs of the whole driver over devices in memory, for the crates of tests: scripts made of files, replays of small mudlibs, and swap
-//! files with troubles.
+//! Runs of the whole driver over devices in memory, of which some calls may go wrong.
 //!
-//! What stands here is safe, and no clause says what it gives: a run is held to its transcript by the tests.
+//! What stands here is safe, and no clause says what it gives: a run is held by its case to what it must write.
 #![tactic(auto)]
 
 pub mod device;
-pub mod games;
-pub mod reports;
 pub mod running;

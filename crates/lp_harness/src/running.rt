@@ -1,42 +1,31 @@
 //! Runs of the driver over devices in memory.
+use crate::device::{TestSwap, Troubles};
+use lp_asking::truth::Truthful;
 use lp_io::{MemSink, MemSource, Octets};
 use lp_memory_file::MemoryFile;
-use lp_top::{Status, code, run};
-use lp_tree::fault::FaultKind;
+use lp_top::{Faults, Status, code, run};
 use std::alloc::{AllocError, Global};
 
-/// The master whose `logon` says hello.
-pub const HELLO: &str =
-    "object connect() { return this_object(); }\nint logon() { write(\"Hello\\n\"); return 1; }\n";
+/// The devices of a run: the reads of the input and the writes of the output that fail, by their numbers from 1, the most bytes that a
+/// write of the output takes, and the troubles of a swap file that has some. Without troubles it is the one with which the program runs.
+#[derive(Clone, Copy)]
+pub struct Devices<'a> {
+    pub reads: &'a [u64],
+    pub writes: &'a [u64],
+    pub takes: usize,
+    pub swap: Option<Troubles<'a>>,
+}
 
-/// How a run ended, what it asked of its devices, and what it wrote.
+/// How a run ended, what it wrote, and what it tells of its end.
 #[derive(Drop)]
 pub struct Outcome {
     pub status: u8,
-    pub at: Option<u64>,
-    pub faults: Vec<(u32, FaultKind)>,
-    pub reads: u64,
-    pub writes: u64,
-    pub bytes: Vec<u8>,
+    pub written: Vec<u8>,
+    pub told: String,
 }
 
-pub fn script(alloc: Global, master: &str, items: &str) -> Result<String, AllocError> {
-    let len = master.len();
-    format!(in alloc; "mudscript 1 0 0\nfile /secure/master.c {len}\n{master}\nstart\n{items}")
-}
-
-pub fn ran(
-    alloc: Global,
-    words: &[&str],
-    script: &[u8],
-    failing: &[u64],
-    takes: usize,
-) -> Result<Outcome, AllocError> {
-    ran_over(alloc, words, script, failing, &[], takes)
-}
-
-// Words that are owned.
-pub fn owned(alloc: Global, words: &[&str]) -> Result<Vec<String>, AllocError> {
+/// Words that are owned.
+fn owned(alloc: Global, words: &[&str]) -> Result<Vec<String>, AllocError> {
     let mut all = Vec::new(alloc);
     for word in words {
         all.push(String::from_str(alloc, word)?)?;
@@ -44,71 +33,71 @@ pub fn owned(alloc: Global, words: &[&str]) -> Result<Vec<String>, AllocError> {
     Ok(all)
 }
 
-// The lines and kinds of the faults that an end names.
-fn faults_of(alloc: Global, status: &Status) -> Result<Vec<(u32, FaultKind)>, AllocError> {
-    let mut faults = Vec::new(alloc);
-    if let Status::NoMaster { faults: found } = status {
-        for fault in found.as_slice() {
-            faults.push((fault.line, fault.kind))?;
-        }
+/// A line for each fault, as a check writes it.
+fn lines_of(alloc: Global, faults: &Faults) -> Result<String, AllocError> {
+    let mut text = String::new(alloc);
+    for fault in faults.as_slice() {
+        let file = fault.file.as_str();
+        let line = fault.line;
+        let kind = fault.kind.text();
+        let told = format!(in alloc; "{file} line {line}: {kind}\n")?;
+        text.push_str(told.as_str())?;
     }
-    Ok(faults)
+    Ok(text)
 }
 
-// The offset that an end names.
-fn at_of(status: &Status) -> Option<u64> {
+/// What the program tells of an end beside its status.
+fn told_of(alloc: Global, status: &Status) -> Result<String, AllocError> {
     match status {
-        Status::BadScript { at } => Some(*at),
-        _ => None,
+        Status::BadScript { at } => format!(in alloc; "at byte {at} of the script\n"),
+        Status::NoMaster { faults } => lines_of(alloc, faults),
+        _ => Ok(String::new(alloc)),
     }
 }
 
-// What a run has ended with, and what its devices tell.
-fn outcome_of(
+/// A run over a source, a sink and a swap file.
+fn ran_over<W: Truthful>(
     alloc: Global,
-    status: &Status,
-    input: &MemSource,
-    out: &MemSink,
+    words: &[String],
+    input: &mut MemSource,
+    mut out: MemSink,
+    swap: &mut W,
 ) -> Result<Outcome, AllocError> {
+    let status = run(alloc, words, input, &mut out, swap);
     Ok(Outcome {
-        status: code(status),
-        at: at_of(status),
-        reads: input.calls(),
-        writes: out.calls(),
-        faults: faults_of(alloc, status)?,
-        bytes: out.as_slice().to_vec(alloc)?,
+        status: code(&status),
+        written: out.as_slice().to_vec(alloc)?,
+        told: told_of(alloc, &status)?,
     })
 }
 
-// A source of bytes, of whose reads those with these numbers fail.
-pub fn source(alloc: Global, script: &[u8], failing: &[u64]) -> Result<MemSource, AllocError> {
-    let bytes = Octets::from_vec(script.to_vec(alloc)?);
-    Ok(MemSource::new(bytes, failing.to_vec(alloc)?))
-}
-
-// The same with words that are owned.
+/// A run over a source and a sink, and the swap file that it is to have.
 fn ran_with(
     alloc: Global,
     words: &[String],
     input: &mut MemSource,
-    out: &mut MemSink,
+    out: MemSink,
+    swap: Option<Troubles<'_>>,
 ) -> Result<Outcome, AllocError> {
-    let mut swap = MemoryFile::new(alloc);
-    let status = run(alloc, words, input, out, &mut swap);
-    outcome_of(alloc, &status, input, out)
+    match swap {
+        None => ran_over(alloc, words, input, out, &mut MemoryFile::new(alloc)),
+        Some(troubles) => {
+            let mut file = TestSwap::new(alloc, troubles)?;
+            ran_over(alloc, words, input, out, &mut file)
+        }
+    }
 }
 
-/// The same over a sink whose calls with these numbers fail.
-pub fn ran_over(
+/// A run with these words over this input.
+pub fn ran(
     alloc: Global,
     words: &[&str],
     script: &[u8],
-    failing: &[u64],
-    failing_writes: &[u64],
-    takes: usize,
+    devices: Devices<'_>,
 ) -> Result<Outcome, AllocError> {
     let all = owned(alloc, words)?;
-    let mut input = source(alloc, script, failing)?;
-    let mut out = MemSink::new(alloc, failing_writes.to_vec(alloc)?, takes);
-    ran_with(alloc, all.as_slice(), &mut input, &mut out)
+    let bytes = Octets::from_vec(script.to_vec(alloc)?);
+    let mut input = MemSource::new(bytes, devices.reads.to_vec(alloc)?);
+    let out = MemSink::new(alloc, devices.writes.to_vec(alloc)?, devices.takes);
+    ran_with(alloc, all.as_slice(), &mut input, out, devices.swap)
 }

@@ -11,7 +11,7 @@ use Rattle.lp_code.specs.declared.tables.Tables.{Tables}
 use Rattle.lp_instr.specs.EfunList.{is_name}
 use Rattle.lp_language.specs.Resolve.{Heritage, Heir, Heritages, NoParent, OneParent, Found, Function, or_else as or_found, found_in, moved, shown, resolve, resolve_last, own_function, own_names, own_variables, is_private, is_private_word, part_count, parts_before, variable_count, variables_before}
 use Rattle.lp_types_expr.specs.Signatures.{or_else, is_private_number, has_function}
-use Rattle.lp_layout.specs.Layout.{bit_of, has_word, digit, bits_from, bits, kinds, slot, own_slot, prototype_slot, slot_named, slot_shown, last_slot, parts_of, laid_slot, var_row, own_rows, row_moved, laid_variables}
+use Rattle.lp_layout.specs.Layout.{bit_of, has_word, digit, bits_from, bits, slot, own_slot, prototype_slot, slot_named, slot_shown, last_slot, parts_of, var_row, own_rows, row_moved, laid_variables}
 use Rattle.lp_layout.specs.Layout as layout
 use Rattle.lp_inherit.specs.Heirs.{table, tables, with_function, IsRowOf, MeansTheSame, IsNumbered, AreNumbered}
 use Rattle.lp_layout.proofs.RowLaid.{row_laid}

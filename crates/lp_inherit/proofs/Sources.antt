@@ -6,7 +6,7 @@ use Rattle.lp_values.specs.declared.id.ProgId.{ProgId}
 use Rattle.lp_code.specs.declared.tables.Slot.{Slot}
 use Rattle.lp_language.specs.Resolve.{Heritage, Heir, Heritages, NoParent, OneParent, Found, Part, number_of, part_at, resolve, shown, is_private}
 use Rattle.lp_types_expr.specs.Signatures.{has_function, is_private_number}
-use Rattle.lp_layout.specs.Layout.{bits, slot_named}
+use Rattle.lp_layout.specs.Layout.{slot_named}
 use Rattle.lp_layout.specs.Layout as layout
 use Rattle.lp_layout.specs.LayoutFaults.{source, source_of}
 use Rattle.lp_inherit.specs.Heirs.{table, tables, with_function, tree_of_part, number_of_part, source_found, MeansTheSame, IsRowOf, IsNumbered}

@@ -4,7 +4,7 @@ use Rattle.lp_values.specs.declared.id.ObjId.{ObjId}
 use Rattle.lp_values.specs.declared.id.ProgId.{ProgId}
 use Rattle.lp_code.specs.declared.program.RawProgram.{RawProgram}
 use Rattle.lp_language.specs.Resolve.{Part}
-use Rattle.lp_frames.specs.declared.entry.Callee.{Callee}
+use Rattle.lp_asking.specs.Callee.{Callee}
 use Rattle.lp_part_laws.specs.Parts.{IsSplit}
 use Rattle.lp_initialisers.specs.Rows.{IsInitialiserRow, has_initialisers}
 

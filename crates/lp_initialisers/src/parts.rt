@@ -9,9 +9,9 @@ ghost use Rattle.lp_initialisers.specs.Callees.{AreInitialisersIf, IsBase};
 
 use crate::looking::program_of;
 use crate::rows::initialiser_row;
+use lp_asking::Callee;
 use lp_code::program::RawProgram;
 use lp_code::tables::VarRow;
-use lp_frames::entry::Callee;
 use lp_values::id::{ObjId, ProgId};
 use lp_world::versions::VersionTable;
 

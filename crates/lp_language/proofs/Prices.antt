@@ -82,7 +82,7 @@ pub range_after_all : (r : State) (a b : EndKind) (x y z : Value) (s : State) �
 unfolding range
 range_after_all r a b x y z s h =
     let e = part_between (seen s x) (bound_of a (seen s y)) (bound_of b (seen s z)) in
-    effect_after r (range_before (seen s x)) (range_after (living s) (cells_of s) e) e s h
+    effect_after r (range_before (seen s x) (seen s y) (seen s z)) (range_after (living s) (cells_of s) e) e s h
 
 pub stepped_after : (r : State) (st : Step) (x : Value) (s : State) → After r s → EndsAfter r (stepped st x s)
 unfolding stepped

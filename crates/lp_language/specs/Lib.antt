@@ -6,3 +6,4 @@ pub mod Scope
 pub mod Eval
 pub mod Exec
 pub mod Afterwards
+pub use Rattle.lp_ops.specs.Operands

@@ -28,7 +28,7 @@ use Rattle.lp_ops.specs.Effects.{refused, reference, within}
 use Rattle.lp_ops.specs.Integers.{whole}
 use Rattle.lp_ops.specs.Operands.{Opened, Number, Chars, Array, Mapping, Object, operand, size_of}
 use Rattle.lp_ops.specs.Operators as operators
-use Rattle.lp_ops.specs.Operators.{array, mapping, at_place, from_zero, place_of}
+use Rattle.lp_ops.specs.Operators.{array, mapping, from_zero, place_of}
 use Rattle.lp_ops.specs.Prices.{share, binary_before, binary_after, range_before, range_after, size_made}
 use Rattle.lp_text.specs.Forms.{parts, fault_of, count_of}
 use Rattle.lp_text.specs.Scans.{scanned}
@@ -99,11 +99,11 @@ part_between x (Some a) (Some b) = operators.range x a b
 part_between x (Some a) None = refused BadOperands
 part_between x None b = refused BadOperands
 
--- `x[a..b]`: an end that is not given is any value
+-- `x[a..b]`: an end that is not given is any value without a length
 unfoldable pub range : EndKind → EndKind → Value → Value → Value → State → End Value
 range from to x a b s =
     let effect = part_between (seen s x) (bound_of from (seen s a)) (bound_of to (seen s b)) in
-    pay (range_before (seen s x)) s (finished (range_after (living s) (cells_of s) effect) effect)
+    pay (range_before (seen s x) (seen s a) (seen s b)) s (finished (range_after (living s) (cells_of s) effect) effect)
 
 -- `++` and `--`: of an integer
 abbrev pub step_effect : Step → Opened → Effect

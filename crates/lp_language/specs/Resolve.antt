@@ -9,7 +9,7 @@ use Rattle.lp_values.specs.declared.id.ObjId.{ObjId}
 use Rattle.lp_values.specs.declared.id.ProgId.{ProgId}
 use Rattle.lp_instr.specs.EfunList.{is_name}
 use Rattle.lp_language.specs.World.{World, Version, object_at, version_at}
-use Rattle.lp_places.specs.Places.{is_object, shadows_of}
+use Rattle.lp_actions.specs.Places.{is_object, shadows_of}
 use Rattle.lp_language.specs.Course.{Scene}
 
 -- the first that is there

@@ -1,5 +1,5 @@
 -- The world: all that lasts from one turn to the next. Nothing is ever removed from its versions, objects and cells.
-use Rattle.std.specs.Prelude.{◌≡◌, ◌≤◌, ℕ, suc, List, [], ◌∷◌, length, Bool, false, ◌&&◌, Option, Some, None, unwrap_or, slice_get, slice_set, nat_eq, if◌then◌else◌, pos}
+use Rattle.std.specs.Prelude.{◌≡◌, ◌≤◌, ℕ, suc, List, [], ◌∷◌, length, Bool, false, ◌&&◌, Option, Some, None, unwrap_or, slice_get, slice_set, if◌then◌else◌, pos}
 use Rattle.lp_tree.specs.declared.pragma.Pragmas.{Pragmas}
 use Rattle.lp_tree.specs.declared.pragma.TypeMode.TheVariants.{Weak}
 use Rattle.lp_tree.specs.Units.{ItemTree}
@@ -10,7 +10,7 @@ use Rattle.lp_values.specs.declared.value.Value.TheVariants.{Int, Obj}
 use Rattle.lp_values.specs.Read.{as_read}
 use Rattle.lp_cells.specs.Cells.{Store, IsThere}
 use Rattle.lp_instr.specs.EfunList.{is_name}
-use Rattle.lp_places.specs.Places.{Lying, Shadowing}
+use Rattle.lp_actions.specs.Places.{Lying, Shadowing}
 use Rattle.lp_actions.specs.Actions.{Sentence}
 use Rattle.lp_timers.specs.Timers.{CallOut, Beat, Watching}
 

@@ -1,6 +1,5 @@
 -- Which steps of a world keep call-outs: all but those that make one and take one out keep all of them as they are.
-use Rattle.std.proofs.Common.{◌≡◌, ◌⊎◌, ◌++◌, ◌∷◌, [], ℕ, suc, ◌<◌, ◌≤◌, ◌+◌, inl, inr, Bool, true, false, cond, List, Option, Some, None, refl, ap, sym, subst, filter, not, nat_eq, length, arith, IsSome, if◌then◌else◌}
-use Rattle.std.specs.Prelude.{slice_set}
+use Rattle.std.proofs.Common.{◌≡◌, ◌⊎◌, ◌++◌, ◌∷◌, [], ℕ, ◌≤◌, ◌+◌, inl, inr, Bool, true, false, cond, List, Option, Some, None, refl, ap, subst, filter, not, nat_eq, length, arith, IsSome, if◌then◌else◌}
 use Rattle.lp_values.specs.declared.id.CellId.{CellId}
 use Rattle.lp_values.specs.declared.id.ObjId.{ObjId}
 use Rattle.lp_values.specs.declared.id.ProgId.{ProgId}
@@ -8,8 +7,8 @@ use Rattle.lp_values.specs.declared.value.Value.{Value}
 use Rattle.lp_cells.specs.declared.content.Content.{Content}
 use Rattle.lp_cells.specs.declared.content.Content.TheVariants.{Mapping}
 use Rattle.lp_cells.specs.Cells.{KeepsThere, Store, content_set, item_set, items_at, pairs_at, with_cell}
-use Rattle.lp_timers.specs.Timers.{CallOut, call_outs_without, without_call_out}
-use Rattle.lp_language.specs.World.{World, Version, Object, IsSameVersion, IsSameObject, object_at, version_at, with_object, with_version, with_cells, is_live}
+use Rattle.lp_timers.specs.Timers.{CallOut}
+use Rattle.lp_language.specs.World.{World, Version, Object, IsSameObject, object_at, with_object, with_cells, is_live}
 use Rattle.lp_language.specs.Operations.{with_variable}
 use Rattle.lp_meaning.specs.WorldEfuns.{with_call_out, without_one}
 use Rattle.lp_meaning.specs.WorldSteps.{with_new_object, with_new_version, entered, without_object, without_connection_if, destructed, connection_of}

@@ -1,19 +1,18 @@
 -- Call-outs by their numbers are those that were due.
-use Rattle.std.proofs.Common.{◌≡◌, ◌∙◌, ◌⊎◌, ◌∷◌, [], ℕ, ◌<◌, ◌≤◌, arith, inl, inr, Bool, true, false, ◌||◌, List, Option, Some, None, refl, ap, sym, subst, filter, map, nat_eq, nat_lt, nat_le, unwrap_or, if◌then◌else◌}
+use Rattle.std.proofs.Common.{◌≡◌, ◌∙◌, ◌⊎◌, ◌∷◌, [], ℕ, ◌<◌, arith, inl, inr, Bool, true, false, ◌||◌, List, Option, Some, None, refl, ap, sym, subst, filter, map, nat_eq, nat_lt, nat_le, unwrap_or, if◌then◌else◌}
 use Rattle.std.specs.Prelude.{fold}
 use Rattle.std.proofs.lemmas.Bool.{eqb-true}
-use Rattle.lp_timers.specs.Timers.{CallOut, due_at, first_call_out, placed_by_due, waits, without_call_out}
+use Rattle.lp_timers.specs.Timers.{CallOut, due_at, first_call_out, placed_by_due, waits}
 use Rattle.lp_timers.specs.Waiting.{numbered}
 use Rattle.lp_language.specs.World.{World}
 use Rattle.lp_language.specs.Course as course
-use Rattle.lp_language.specs.Course.{Answer, Ask, Asks, Course, End, Entry, Fits, Gives, Outcome, Over, Returned, State, after, and_then, end_of_answer, AreCalled, Called}
+use Rattle.lp_language.specs.Course.{Answer, Ask, Course, End, Over, Returned, State, and_then, end_of_answer}
 use Rattle.lp_meaning.specs.Closing.{Ends}
-use Rattle.lp_meaning.specs.EventTurns.{Done, call_end, done, driver_apply}
-use Rattle.lp_meaning.specs.FrontEnd.{FrontEnd, IsTold}
-use Rattle.lp_meaning.specs.Questions.{means}
+use Rattle.lp_meaning.specs.EventTurns.{Done, call_end, driver_apply}
+use Rattle.lp_meaning.specs.FrontEnd.{FrontEnd}
 use Rattle.lp_meaning.specs.Ticks.{at_moment, calls_out, without_due}
-use Rattle.lp_lasting_laws.specs.Lasting.{CallOutsLast, IsAmong, Keeps}
-use Rattle.lp_lasting_laws.specs.Numbers.{HaveNumbers, NumbersAreEnough, calls_due, calls_numbered}
+use Rattle.lp_lasting_laws.specs.Lasting.{IsAmong, Keeps}
+use Rattle.lp_lasting_laws.specs.Numbers.{NumbersAreEnough, calls_numbered}
 use Rattle.lp_lasting_laws.proofs.KeptCalls.{keeps_filter}
 use Rattle.lp_lasting_laws.proofs.Questions.{call_outs_last}
 

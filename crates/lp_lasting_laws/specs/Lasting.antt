@@ -1,5 +1,5 @@
 -- What lasts of call-outs over a question: one that waits still is the one that waited.
-use Rattle.std.specs.Prelude.{◌≡◌, ◌⊎◌, ◌<◌, ◌≤◌, ◌+◌, ◌*◌, ℕ, List, [], ◌∷◌, Some}
+use Rattle.std.specs.Prelude.{◌≡◌, ◌⊎◌, ◌<◌, ◌≤◌, ℕ, List, [], ◌∷◌, Some}
 use Rattle.lp_timers.specs.Timers.{CallOut}
 use Rattle.lp_language.specs.World.{World}
 use Rattle.lp_language.specs.Course.{AreSameCommands, Ask, Asks, Course, End, Gives, Outcome, Over, Reply, State, Stops}

@@ -1,5 +1,5 @@
 -- Integer tokens are not negative.
-use Rattle.std.proofs.Common.{◌≡◌, ℕ, Bool, true, false, List, [], ◌∷◌, Option, Some, None, subst, if◌then◌else◌, pos, ◌==◌, ◌&&◌, ◌||◌, not}
+use Rattle.std.proofs.Common.{ℕ, Bool, true, false, List, [], ◌∷◌, Option, Some, None, subst, if◌then◌else◌, pos, ◌==◌, ◌&&◌, ◌||◌, not}
 use Rattle.std.specs.Prelude.{option_map, ⊤}
 use Rattle.std.proofs.lemmas.List.Elements.{All-nil, All-append, All-cons}
 use Rattle.lp_tree.specs.declared.token.Token.{Token}
@@ -10,7 +10,7 @@ use Rattle.lp_lexer.specs.declared.sign.Sign.{Sign}
 use Rattle.lp_lexer.specs.Source.{Rest, code_at, passed, skipped}
 use Rattle.lp_lexer.specs.Marks.{Fit, longest}
 use Rattle.lp_lexer.specs.Forms.{Read, read, name, number, text, literal, mark, marked, letter_at, is_letter, is_digit}
-use Rattle.lp_lexer.specs.Lexis.{Place, Comment, begin, next, next_by, Reaches, here, more, IsLexed, past_blank, past_line_comment, past_comment, past_token, comment_at, is_blank, opens_line, opens_block, token_from}
+use Rattle.lp_lexer.specs.Lexis.{Place, Comment, next_by, Reaches, here, more, IsLexed, past_blank, past_line_comment, past_comment, past_token, comment_at, is_blank, opens_line, opens_block, token_from}
 
 either : {A : Type 0} (P : A → Type 0) (b : Bool) (x y : A) → P x → P y → P (if b then x else y)
 either P true x y h k = h

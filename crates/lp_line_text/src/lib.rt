@@ -102,36 +102,3 @@ pub fn text_of_line(alloc: Global, bytes: &[u8]) -> Result<Vec<char>, AllocError
     }
     Ok(text)
 }
-
-#[cfg(test)]
-mod tests {
-    use super::*;
-    use std::test::Fail;
-
-    /// Lines, with the code points of their texts.
-    const LINES: [(&[u8], &[char]); 14] = [
-        (b"", &[]),
-        (b"look", &['l', 'o', 'o', 'k']),
-        (b"\xc3\xa9t\xe9", &['\u{e9}', 't', '\u{fffd}']),
-        (b"\xff\xfe", &['\u{fffd}']),
-        (b"a\xffb\x80\x80", &['a', '\u{fffd}', 'b', '\u{fffd}']),
-        (b"\xc3", &['\u{fffd}']),
-        (b"\xe2\x82\xac", &['\u{20ac}']),
-        (b"\xe2\x82", &['\u{fffd}']),
-        (b"\xe2\x82a", &['\u{fffd}', 'a']),
-        (b"\xed\xa0\x80", &['\u{fffd}']),
-        (b"\xc0\x80", &['\u{fffd}']),
-        (b"\xf0\x9f\x98\x80!", &['\u{1f600}', '!']),
-        (b"\xf4\x90\x80\x80", &['\u{fffd}']),
-        (b"\xff\xc3\xa9\xff", &['\u{fffd}', '\u{e9}', '\u{fffd}']),
-    ];
-
-    #[test]
-    fn lines_have_their_texts(rt: HostRuntime) -> Result<(), Fail> {
-        for (line, want) in LINES {
-            let got = text_of_line(rt.alloc(), line)?;
-            assert_eq!(rt; got.as_slice(), want, "of {line:?}");
-        }
-        Ok(())
-    }
-}

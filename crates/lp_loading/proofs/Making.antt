@@ -6,7 +6,6 @@ use Rattle.lp_values.specs.declared.id.ProgId.{ProgId}
 use Rattle.lp_code.specs.declared.program.RawProgram.{RawProgram}
 use Rattle.lp_code.specs.declared.tables.Tables.{Tables}
 use Rattle.lp_language.specs.World as world
-use Rattle.lp_language.specs.World.{World}
 use Rattle.lp_meaning.specs.FileLoads.{parents_in, version_known, version_now}
 use Rattle.lp_meaning.specs.WorldSteps.{file_of_name, with_new_version}
 use Rattle.lp_front_end.specs.Parents.{file_bytes}

@@ -4,7 +4,7 @@ use Rattle.std.specs.Str.{IsAscii}
 use Rattle.std.proofs.lemmas.Bool.{lt-ltb, le-ltb}
 use Rattle.std.proofs.lemmas.List.{map-append, reverse-append}
 use Rattle.lp_language.specs.Course as course
-use Rattle.lp_language.specs.Course.{Ask, Course, LoadKind, Over, Reply, Spent, State, Stops, here}
+use Rattle.lp_language.specs.Course.{Ask, Course, LoadKind, Over, Reply, Spent, Stops, here}
 use Rattle.lp_meaning.specs.Askers.{asker_of, state_of}
 use Rattle.lp_meaning.specs.FileLoads.{Made, nested_in, reading, under_way, with_simul}
 use Rattle.lp_meaning.specs.Limits.{load_price}

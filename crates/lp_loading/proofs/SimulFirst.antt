@@ -6,7 +6,7 @@ use Rattle.lp_values.specs.declared.id.ObjId.{ObjId}
 use Rattle.lp_code.specs.declared.program.RawProgram.{RawProgram}
 use Rattle.lp_swapfile.specs.Device.{Bytes}
 use Rattle.lp_language.specs.Course as course
-use Rattle.lp_language.specs.Course.{Asks, Course, Load, Over, Reply, Returned, State, after, and_then, end_of_reply}
+use Rattle.lp_language.specs.Course.{Asks, Load, Over, Returned, State, after, and_then, end_of_reply}
 use Rattle.lp_language.specs.World.{World, object_named}
 use Rattle.lp_meaning.specs.Askers.{ask_reply, question}
 use Rattle.lp_meaning.specs.Closing.{Ends}

@@ -16,7 +16,7 @@ use Rattle.lp_code.specs.declared.tables.Tables.{Tables}
 use Rattle.lp_objects.specs.Objects as named
 use Rattle.lp_objects.specs.Objects.{Named, max_live, may_add}
 use Rattle.lp_objects.specs.Stands as names
-use Rattle.lp_objects.specs.Stands.{IsAdded, IsNotAdded, is_memory}
+use Rattle.lp_objects.specs.Stands.{IsAdded, is_memory}
 use Rattle.lp_objects.specs.declared.fault.ObjectFault.{ObjectFault}
 use Rattle.lp_objects.specs.declared.fault.ObjectFault.TheVariants.{NameTaken, NoMemory, TooMany}
 use Rattle.lp_objects.specs.declared.objects.Objects.{Objects}
@@ -24,7 +24,7 @@ use Rattle.lp_swapfile.specs.Device.{Bytes}
 use Rattle.lp_timers.specs.Timers.{CallOut, CleanUp, Reset}
 use Rattle.lp_timers.specs.Timing.{Timing}
 use Rattle.lp_language.specs.World as world
-use Rattle.lp_language.specs.World.{World, named_from, new_world, no_version, object_named, version_at}
+use Rattle.lp_language.specs.World.{World, named_from, new_world, object_named, version_at}
 use Rattle.lp_language.specs.Resolve.{Found, Heritage, heritage, resolve, variable_count}
 use Rattle.lp_meaning.specs.IdleAndKept.{IsKept, by_child, by_object}
 use Rattle.lp_meaning.specs.WorldSteps as steps

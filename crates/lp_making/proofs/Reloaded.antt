@@ -18,7 +18,7 @@ use Rattle.lp_objects.specs.Objects as named
 use Rattle.lp_language.specs.Resolve.{without_c}
 use Rattle.lp_language.specs.World.{File, World, is_live, object_named}
 use Rattle.lp_meaning.specs.WorldSteps as steps
-use Rattle.lp_meaning.specs.WorldSteps.{blueprint, closing, connection_of, destructed, destructed_if, destruction, file_written, is_clone_name, reload_outputs, reloaded, reloaded_blueprint, with_file}
+use Rattle.lp_meaning.specs.WorldSteps.{blueprint, closing, connection_of, destructed, destructed_if, destruction, file_written, is_clone_name, reloaded_blueprint, with_file}
 use Rattle.lp_world.specs.Closed.{IsClosed}
 use Rattle.lp_world.specs.Stands.{Stands, named_of}
 use Rattle.lp_world.specs.declared.live.Live.{Live}

@@ -11,7 +11,7 @@ use Rattle.lp_instr.specs.EfunList.{is_name}
 use Rattle.lp_isa.specs.Programs.{IsReached, Reached}
 use Rattle.lp_language.specs.Resolve.{Found, Heir, Heritage, is_nomask, is_nomask_word, names_in, resolve, version_of}
 use Rattle.lp_meaning.specs.CallingEfuns.{is_nomask_found}
-use Rattle.lp_types_expr.specs.Signatures.{has_bit, has_function}
+use Rattle.lp_types_expr.specs.Signatures.{has_function}
 use Rattle.lp_layout.specs.Layout.{bit_of, bits, bits_from, digit, has_word, slot_named}
 use Rattle.lp_layout.specs.LayoutFaults.{is_nomask_number}
 use Rattle.lp_layout.proofs.RowLaid.{same_name}

@@ -1,11 +1,11 @@
 -- Where names of functions stand in an inheritance tree.
-use Rattle.std.proofs.Common.{◌≡◌, ◌∙◌, ℕ, zero, suc, Bool, true, false, ◌||◌, is_some, List, [], ◌∷◌, ◌++◌, Option, Some, None, refl, ap, sym, if◌then◌else◌}
+use Rattle.std.proofs.Common.{◌≡◌, ◌∙◌, ℕ, zero, suc, Bool, true, false, ◌||◌, is_some, List, [], ◌∷◌, ◌++◌, Option, Some, None, refl, ap, if◌then◌else◌}
 use Rattle.std.specs.Prelude.{◌+◌, slice_get}
 use Rattle.std.specs.List.{list_any}
 use Rattle.std.proofs.lemmas.List.Folds.{list_any-append}
 use Rattle.lp_tree.specs.Units.{ItemTree, Inherit, Proto, Fun, Var}
 use Rattle.lp_instr.specs.EfunList.{is_name}
-use Rattle.lp_language.specs.Resolve.{Found, Function, Heritage, Heritages, Heir, NoParent, OneParent, found_in, is_private, moved, names_before, names_in, or_else, own_function, own_names, part_count, parts_before, resolve, resolve_last, shown}
+use Rattle.lp_language.specs.Resolve.{Found, Function, Heritage, Heritages, Heir, NoParent, OneParent, found_in, moved, names_before, names_in, or_else, own_function, own_names, part_count, parts_before, resolve, resolve_last, shown}
 
 differ : false ≡ true → ⊥
 differ q = cc

@@ -1,5 +1,5 @@
 -- Rows of names, found by the map of the names.
-use Rattle.std.proofs.Common.{◌≡◌, ◌∙◌, ℕ, Bool, true, false, is_some, List, Option, Some, None, refl, sym, subst, slice_get, if◌then◌else◌}
+use Rattle.std.proofs.Common.{◌≡◌, ◌∙◌, ℕ, Bool, true, false, is_some, List, Some, None, refl, sym, subst, slice_get, if◌then◌else◌}
 use Rattle.lp_code.specs.declared.tables.Slot.{Slot}
 use Rattle.lp_code.specs.Slots.{first_place}
 use Rattle.lp_types_expr.specs.Signatures.{has_function}

@@ -22,7 +22,7 @@ use Rattle.lp_meaning.specs.WorldSteps.{as_name, master_name, was_made, holder_o
 use Rattle.lp_meaning.specs.Askers.{driver, ask_reply, ask_value, told}
 use Rattle.lp_meaning.specs.FileLoads.{text_target, loaded_value}
 use Rattle.lp_meaning.specs.EventTurns as turns
-use Rattle.lp_meaning.specs.EventTurns.{Done, Start, Begins, NoMaster, begun, notice, call_end, driver_call, driver_apply, driver_load, applied_if, driver_master, starting, at_rest, done, closed, numbered, admitted, after_logon, free_object, connect_turn, line_text, line_taken, line_of, line_turn, without_number, gone_turn, reload_turn, waiting_for, without_waiting, shown, preloading, with_epilog, with_simul, simul_set, simul_answered, after_master, aborted, faults_in, master_loaded}
+use Rattle.lp_meaning.specs.EventTurns.{Done, Start, Begins, NoMaster, begun, call_end, driver_call, driver_apply, driver_load, applied_if, driver_master, starting, at_rest, done, closed, numbered, admitted, after_logon, free_object, connect_turn, line_text, line_taken, line_of, line_turn, without_number, gone_turn, reload_turn, waiting_for, without_waiting, shown, preloading, with_epilog, with_simul, simul_set, simul_answered, after_master, aborted, faults_in, master_loaded}
 use Rattle.lp_meaning.specs.Ticks.{without_due, calls_out, player_if_living, with_next_beat, without_beat, after_beat, heart_beats, with_next_watch, resets, clean_up_argument, without_clean_up, after_clean_up, clean_ups, at_moment, tick_turn, turn}
 use Rattle.lp_meaning.specs.FrontEnd.{FrontEnd}
 use Rattle.lp_meaning.specs.Closing.{Ends, Turns, MakesNoMaster, RunsFrom, over, then, Run}

@@ -1,7 +1,7 @@
 -- Rows on loading and reloading: files, events and the transcript that a run of them has.
 use Rattle.std.specs.Prelude.{pos, [], ◌∷◌, ◌++◌, Some, None, codes}
 use Rattle.lp_tree.specs.Trees as tr
-use Rattle.lp_tree.specs.Trees.{trees, pairs}
+use Rattle.lp_tree.specs.Trees.{trees}
 use Rattle.lp_tree.specs.Statements as sm
 use Rattle.lp_tree.specs.Units as un
 use Rattle.lp_tree.specs.declared.keyword.Base.TheVariants as bw

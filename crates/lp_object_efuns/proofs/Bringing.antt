@@ -1,15 +1,12 @@
 -- What came into memory, and then was put somewhere.
-use Rattle.std.proofs.Common.{◌≡◌, ◌∙◌, ℕ, Bool, true, List, Option, Result, Ok, Err, refl, ap, sym, subst}
-use Rattle.lp_code.specs.declared.program.RawProgram.{RawProgram}
+use Rattle.std.proofs.Common.{◌≡◌, ◌∙◌, ℕ, Bool, List, Option, Result, Ok, Err, refl, ap, sym, subst}
 use Rattle.lp_swapfile.specs.Device.{Bytes, Last}
 use Rattle.lp_values.specs.declared.id.ObjId.{ObjId}
 use Rattle.lp_values.specs.declared.value.Value.{Value}
-use Rattle.lp_language.specs.Course.{State}
 use Rattle.lp_language.specs.Operations.{cells_of, living}
-use Rattle.lp_language.specs.World.{World}
 use Rattle.lp_cells.specs.Cells.{Store}
 use Rattle.lp_ops.specs.Operands.{operand}
-use Rattle.lp_meaning.specs.EfunArguments.{opened_args, text_arg}
+use Rattle.lp_meaning.specs.EfunArguments.{text_arg}
 use Rattle.lp_meaning.specs.WorldEfuns.{has_function}
 use Rattle.std.proofs.Common.{map}
 use Rattle.std.specs.Prelude.{OnErr}
@@ -18,11 +15,8 @@ use Rattle.lp_residence.specs.declared.answers.EnterFault.TheVariants.{NoMemory}
 use Rattle.lp_world.specs.declared.live.Live.{Live}
 use Rattle.lp_world.specs.Stands.{Stands}
 use Rattle.lp_targets.specs.Brought.{Brings, StaysInMemory}
-use Rattle.lp_targets.specs.Callees.{IsWorldOf}
 use Rattle.lp_targets.proofs.Memory.{brings_no_memory, brings_ok, stays_same}
 use Rattle.lp_efuns.specs.declared.answer.Did.{Did}
-use Rattle.lp_efuns.specs.declared.caller.Turn.{Turn}
-use Rattle.lp_efuns.specs.Turns.{At, Setting}
 use Rattle.lp_object_efuns.specs.Called.{AnswersOver, IsFunctionAsked, StandsOver, brought}
 use Rattle.lp_putting.specs.Plans.{AnswersPlan, IsOnlyPut, StandsStill}
 use Rattle.lp_putting.specs.declared.plans.Plan.{Plan}

@@ -1,5 +1,5 @@
 -- What a look-up of a function tells of the program in whose text it stands.
-use Rattle.std.proofs.Common.{◌≡◌, ◌∙◌, ◌<◌, ℕ, zero, suc, pos, Bool, true, false, List, [], Option, Some, None, refl, ap, sym, subst, unwrap_or, is_some, if◌then◌else◌}
+use Rattle.std.proofs.Common.{◌≡◌, ◌∙◌, ℕ, zero, suc, pos, Bool, true, false, List, [], Option, Some, None, refl, ap, sym, unwrap_or, is_some, if◌then◌else◌}
 use Rattle.std.specs.Prelude.{IsAscii}
 use Rattle.lp_values.specs.declared.id.ObjId.{ObjId}
 use Rattle.lp_values.specs.declared.id.ProgId.{ProgId}

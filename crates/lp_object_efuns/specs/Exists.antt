@@ -1,5 +1,5 @@
 -- What `function_exists` answers, in the meaning and on the live state.
-use Rattle.std.specs.Prelude.{◌≡◌, ℕ, ◌<◌, pos, List, All, Option, None, Some, IsSome}
+use Rattle.std.specs.Prelude.{◌≡◌, ℕ, pos, List, Option, None, Some}
 use Rattle.lp_values.specs.declared.value.Value.{Value}
 use Rattle.lp_values.specs.declared.value.Value.TheVariants as values
 use Rattle.lp_swapfile.specs.Device.{Bytes}

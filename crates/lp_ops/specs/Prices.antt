@@ -54,9 +54,9 @@ binary_before op a b = price_before (Binary op) (size_of a + size_of b)
 abbrev pub binary_after : (ObjId → Bool) → BinOp → Store → Effect → ℕ
 binary_after live op cells e = price_after (Binary op) (size_made live cells e)
 
--- a range
-abbrev pub range_before : Opened → ℕ
-range_before a = price_before Range (size_of a)
+-- a range: the lengths of the value and of both ends count
+abbrev pub range_before : Opened → Opened → Opened → ℕ
+range_before x a b = price_before Range (size_of x + size_of a + size_of b)
 
 abbrev pub range_after : (ObjId → Bool) → Store → Effect → ℕ
 range_after live cells e = price_after Range (size_made live cells e)

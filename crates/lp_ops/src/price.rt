@@ -100,12 +100,18 @@ pub fn binary_after<L: Living>(op: BinOp, v: &Value, cells: &Cells, live: &L) ->
     0
 }
 
-/// What a range costs before it acts. Takes no memory.
-pub fn range_before<L: Living>(a: &Value, cells: &Cells, live: &L) -> u64
-    requires { IsThere cells.now a.now }
-    ensures { result ≡ range_before (operand (L.live live.now) cells.now a.now) }
+/// What a range of a value from one end to another costs before it acts: the lengths of all three count, also where an end that
+/// has a length is none. Takes no memory.
+pub fn range_before<L: Living>(x: &Value, a: &Value, b: &Value, cells: &Cells, live: &L) -> u128
+    requires value { IsThere cells.now x.now }
+    requires first { IsThere cells.now a.now }
+    requires last { IsThere cells.now b.now }
+    ensures { result ≡ range_before (operand (L.live live.now) cells.now x.now) (operand (L.live live.now) cells.now a.now) (operand (L.live live.now) cells.now b.now) }
 {
-    price_before(Operation::Range, size(a, cells, live))
+    let value = size(x, cells, live) as u128;
+    let first = size(a, cells, live) as u128;
+    let last = size(b, cells, live) as u128;
+    1 + (value + first + last) / SHARE as u128
 }
 
 /// What its result costs after it acted. Takes no memory.

@@ -15,7 +15,7 @@ use Rattle.lp_tree.specs.Seen.{word, text, mark, reserved, first_line}
 use Rattle.lp_tree.specs.Types.{SpellsStars, none as no_star, one_more as one_star, typed as type_of}
 use Rattle.lp_tree.specs.Statements.{DeclaratorTree, StmtTrees, SpellsStmts, in_function}
 use Rattle.lp_tree.specs.Units as units
-use Rattle.lp_tree.specs.Units.{ItemTree, Inherit, Proto, Fun, Var, Phase, Inherits, Definitions, SpellsMods, no_mod, mod_word, SpellsTypeIf, no_type, type_given, SpellsParam, SpellsParams, one_param, more_params, SpellsParamsIf, SpellsItem, Turns, by_proto, by_inherit, by_fun, by_var, SpellsItems, no_item, item}
+use Rattle.lp_tree.specs.Units.{ItemTree, Var, Phase, SpellsMods, no_mod, mod_word, SpellsTypeIf, no_type, type_given, SpellsParam, SpellsParams, one_param, more_params, SpellsParamsIf, SpellsItem, Turns, by_proto, by_inherit, by_fun, by_var, SpellsItems, no_item, item}
 use Rattle.lp_parser_stmt.specs.Machine as stmts
 use Rattle.lp_parser_stmt.specs.Machine.{Names, AtOne, names_step, names_finished, names_run, names_end, names_then, ReadNames, Read, mark_in}
 use Rattle.lp_parser_stmt.proofs.Laws.{reads_names, reads_blocks}

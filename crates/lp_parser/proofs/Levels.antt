@@ -17,7 +17,7 @@ use Rattle.lp_tree.specs.Statements.{DeclaratorTree, declarator_heights}
 use Rattle.lp_tree.specs.Units.{ItemTree, Inherit, Var, Phase, Inherits, Definitions, item_height, unit_height}
 use Rattle.lp_parser_stmt.specs.Machine as stmts
 use Rattle.lp_parser_stmt.specs.Depth as depths
-use Rattle.lp_parser_stmt.specs.Depth.{names_height, names_here}
+use Rattle.lp_parser_stmt.specs.Depth.{names_height}
 use Rattle.lp_parser_stmt.specs.Machine.{Names, AtOne, names_step, names_finished, mark_in}
 use Rattle.lp_parser_stmt.proofs.Laws.{reads_names, reads_blocks}
 use Rattle.lp_parser.specs.Machine.{Before, Head, State, Top, NeedPath, EndInherit, Modified, Typed, NeedOpen, NeedParam, NextParam, ParamStars, BehindParam, HaveParams, InBody, inherits, word_at_top, at_top, need_path, end_inherit, word_modified, modified, named_head, is_paren, after_names, names_go, typed_goes, need_open, need_param, next_param, param_stars, behind_param, have_params, proto_of, fun_of, body, step, run}

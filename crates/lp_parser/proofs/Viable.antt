@@ -17,7 +17,7 @@ use Rattle.lp_tree.specs.Seen.{word, text, mark}
 use Rattle.lp_tree.specs.Types.{none as no_star}
 use Rattle.lp_tree.specs.Statements.{DeclaratorTree}
 use Rattle.lp_tree.specs.Units as units
-use Rattle.lp_tree.specs.Units.{ItemTree, Inherit, Proto, Fun, Var, Phase, Inherits, Definitions, SpellsItems, no_item, no_type, unit_height, item_height}
+use Rattle.lp_tree.specs.Units.{ItemTree, Inherit, Var, Phase, Inherits, Definitions, no_item, no_type, unit_height}
 use Rattle.lp_parser_stmt.specs.Machine as stmts
 use Rattle.lp_parser_stmt.specs.Machine.{Names, AtOne, names_step, names_finished, names_walk, mark_in}
 use Rattle.lp_parser_stmt.proofs.Laws.{reads_names, reads_blocks}

@@ -9,7 +9,7 @@ use Rattle.lp_tree.specs.declared.expr.Expr.TheOpen as layer
 use Rattle.lp_tree.specs.declared.expr.Expr.TheFolds.{fold-roll-Expr}
 use Rattle.lp_tree.specs.declared.expr.Bound.{Bound}
 use Rattle.lp_tree.specs.declared.expr.Bound.TheVariants as bounds
-use Rattle.lp_tree.specs.Trees.{Tree, height, end_height}
+use Rattle.lp_tree.specs.Trees.{Tree, height, end_height, Range}
 use Rattle.lp_tree.specs.TreeView.{tree_of, layer_tree}
 use Rattle.lp_parser_expr.specs.Depth.{tallest, tallest_pair}
 use Rattle.lp_parser_expr.specs.Capped.{pair_of, end_of}
@@ -47,3 +47,9 @@ range_height line t bounds.Open bounds.Open = ap height (ap tree_of (sym (rolls-
 range_height line t bounds.Open (bounds.At e i) = ap height (ap tree_of (sym (rolls-Range line t bounds.Open (bounds.At e i))) ∙ fold-roll-Expr Tree layer_tree (layer.Range line t bounds.Open (bounds.At e i)))
 range_height line t (bounds.At e i) bounds.Open = ap height (ap tree_of (sym (rolls-Range line t (bounds.At e i) bounds.Open)) ∙ fold-roll-Expr Tree layer_tree (layer.Range line t (bounds.At e i) bounds.Open))
 range_height line t (bounds.At e i) (bounds.At f j) = ap height (ap tree_of (sym (rolls-Range line t (bounds.At e i) (bounds.At f j))) ∙ fold-roll-Expr Tree layer_tree (layer.Range line t (bounds.At e i) (bounds.At f j)))
+
+pub range_tree : (line : ℕ) (t : Box Expr Global) (a b : Bound (Box Expr Global)) → tree_of (variants.Range line t a b) ≡ Range line (tree_of t.value) (end_of a) (end_of b)
+range_tree line t bounds.Open bounds.Open = ap tree_of (sym (rolls-Range line t bounds.Open bounds.Open)) ∙ fold-roll-Expr Tree layer_tree (layer.Range line t bounds.Open bounds.Open)
+range_tree line t bounds.Open (bounds.At e i) = ap tree_of (sym (rolls-Range line t bounds.Open (bounds.At e i))) ∙ fold-roll-Expr Tree layer_tree (layer.Range line t bounds.Open (bounds.At e i))
+range_tree line t (bounds.At e i) bounds.Open = ap tree_of (sym (rolls-Range line t (bounds.At e i) bounds.Open)) ∙ fold-roll-Expr Tree layer_tree (layer.Range line t (bounds.At e i) bounds.Open)
+range_tree line t (bounds.At e i) (bounds.At f j) = ap tree_of (sym (rolls-Range line t (bounds.At e i) (bounds.At f j))) ∙ fold-roll-Expr Tree layer_tree (layer.Range line t (bounds.At e i) (bounds.At f j))

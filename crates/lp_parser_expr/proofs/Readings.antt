@@ -46,5 +46,5 @@ pub at_end : (limit : ℕ) (ts : List Token) (i : ℕ) (st : State) → i ≡ le
 at_end limit ts i st e w k =
     (record { within = omega arith; walked = ap (λ n. walk (Need []) (sight (take n ts))) (sym e) ∙ w; shallow = λ h. k (omega arith) }, λ h. absurd (omega arith))
 
-pub same_tree : (a b : Tall) → a ≡ b → Some (tree_of a.expr) ≡ Some (tree_of b.expr)
-same_tree a b e = ap (λ t. Some (tree_of t.expr)) e
+pub same_tree : (a b : Tall) → a ≡ b → Some (tree_of a.expr.value) ≡ Some (tree_of b.expr.value)
+same_tree a b e = ap (λ t. Some (tree_of t.expr.value)) e

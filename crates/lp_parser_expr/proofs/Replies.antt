@@ -1,7 +1,8 @@
 -- What the reader answers is what is spelled.
-use Rattle.std.proofs.Common.{◌≡◌, ℕ, ◌+◌, ◌≤◌, ◌<◌, List, [], take, true, false, leb, inl, inr, ap, ◌∙◌, subst, arith}
+use Rattle.std.proofs.Common.{◌≡◌, ℕ, ◌+◌, ◌≤◌, ◌<◌, List, [], take, true, false, leb, inl, inr, ap, ◌∙◌, subst, sym, arith}
 use Rattle.std.specs.Prelude.{Result, Ok, Err, ◌⊎◌}
 use Rattle.std.proofs.lemmas.Bool.Decides.{leb_tells}
+use Rattle.lp_tree.specs.declared.expr.Expr.{Expr}
 use Rattle.lp_tree.specs.declared.token.Token.{Token}
 use Rattle.lp_tree.specs.Trees.{Tree}
 use Rattle.lp_tree.specs.TreeView.{tree_of}
@@ -15,8 +16,8 @@ use Rattle.lp_parser_expr.proofs.Main.{begun, deep, spells_one, found, unexpecte
 stops_as : (limit lim : ℕ) (ts us : List Token) (r : Result (Tall × ℕ) Stop) → lim ≡ limit → us ≡ ts → Stops lim us r → Stops limit ts r
 stops_as limit lim ts us r e f s = subst (λ l. Stops l ts r) e (subst (λ xs. Stops lim xs r) f s)
 
-pub read_found : (limit lim : ℕ) (ts us : List Token) (w : Tall) (n : ℕ) → lim ≡ limit → us ≡ ts → Stops lim us (Ok (w, n)) → IsRead limit ts n (tree_of w.expr)
-read_found limit lim ts us w n e f s = let r = stops_as limit lim ts us (Ok (w, n)) e f s in found limit ts (tree_of w.expr) n r.0 r.1 r.2 r.3
+pub read_found : (limit lim : ℕ) (ts us : List Token) (w : Tall) (n : ℕ) → lim ≡ limit → us ≡ ts → Stops lim us (Ok (w, n)) → IsRead limit ts n (tree_of w.expr.value)
+read_found limit lim ts us w n e f s = let r = stops_as limit lim ts us (Ok (w, n)) e f s in found limit ts (tree_of w.expr.value) n r.0 r.1 r.2 r.3
 
 equal : (m n : ℕ) → (n < m → ⊥) → (m < n → ⊥) → m ≡ n
 equal m n a b = go (leb_tells m n)
@@ -28,6 +29,9 @@ equal m n a b = go (leb_tells m n)
     go : ((leb m n ≡ true) × (m ≤ n)) ⊎ ((leb m n ≡ false) × (n < m)) → m ≡ n
     go (inl x) = below x.1 (leb_tells n m)
     go (inr x) = absurd (a x.1)
+
+pub read_found_as : (limit lim : ℕ) (ts us : List Token) (w : Tall) (n : ℕ) (x : Expr) → x ≡ w.expr.value → lim ≡ limit → us ≡ ts → Stops lim us (Ok (w, n)) → IsRead limit ts n (tree_of x)
+read_found_as limit lim ts us w n x d e f s = subst (λ y. IsRead limit ts n (tree_of y)) (sym d) (read_found limit lim ts us w n e f s)
 
 pub read_once : (limit : ℕ) (ts : List Token) (from m n : ℕ) (u t : Tree) → IsRead limit ts m u → IsRead limit ts n t → (u ≡ t) × (from + m ≡ from + n)
 read_once limit ts from m n u t q r =

@@ -4,7 +4,6 @@ use Rattle.std.specs.Prelude.{Some, option_and_then, IsTrue}
 use Rattle.std.proofs.lemmas.Bool.{le-leb, lt-leb}
 use Rattle.lp_tree.specs.declared.operator.BinOp.{BinOp}
 use Rattle.lp_tree.specs.declared.operator.BinOp.TheVariants as ops
-use Rattle.lp_tree.specs.declared.operator.BinOp.TheVariants.{Sub, Lt, Mul}
 use Rattle.lp_tree.specs.declared.seen.Seen.{Seen}
 use Rattle.lp_tree.specs.Trees.{Tree, Int, Name, Index, PreStep, Unary, Cast, Binary, AndThen, OrElse, Cond, Assign, Sequence, Trees, level, rank, is_place}
 use Rattle.lp_parser_expr.specs.Machine.{Callee, Function, called, infix_level, infix_tree, Frame, Stepping, LeftOf, Stack, wants_of, needs, needs_of, plug, Held, settle, Have, binds, act, act_held, step, whole_held, run}

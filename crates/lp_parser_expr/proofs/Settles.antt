@@ -53,9 +53,9 @@ settled_none : (p : ℕ) (t : Tree) (s s1 : Stack) (o : Option Tall) → Settled
 settled_none p t s s1 None d e = d
 settled_none p t s s1 (Some w) d e = cc
 
-settled_some : (p : ℕ) (t : Tree) (s s1 : Stack) (o : Option Tall) (w : Tall) → Settled p t s s1 o → o ≡ Some w → settle p t s ≡ Some (held (tree_of w.expr) s1)
+settled_some : (p : ℕ) (t : Tree) (s s1 : Stack) (o : Option Tall) (w : Tall) → Settled p t s s1 o → o ≡ Some w → settle p t s ≡ Some (held (tree_of w.expr.value) s1)
 settled_some p t s s1 None w d e = cc
-settled_some p t s s1 (Some v) w d e = d ∙ ap (λ y. Some (held (tree_of y.expr) s1)) (same e)
+settled_some p t s s1 (Some v) w d e = d ∙ ap (λ y. Some (held (tree_of y.expr.value) s1)) (same e)
   where
     same : {a b : Tall} → Some a ≡ Some b → a ≡ b
     same e = cc
@@ -63,5 +63,5 @@ settled_some p t s s1 (Some v) w d e = d ∙ ap (λ y. Some (held (tree_of y.exp
 pub behind_none : (x : Seen) (t : Tree) (s s1 : Stack) (p : ℕ) (o : Option Tall) → p ≡ binds x.sort → Settled p t s s1 o → o ≡ None → (step (Have t s) x ≡ None) × (None ≡ finished (Have t s))
 behind_none x t s s1 p o e d n = behind_fails x t s (ap (λ q. settle q t s) (sym e) ∙ settled_none p t s s1 o d n)
 
-pub behind_some : (x : Seen) (t : Tree) (s s1 s' : Stack) (p : ℕ) (o : Option Tall) (w : Tall) (r : Result Moved AllocError) → p ≡ binds x.sort → Settled p t s s1 o → o ≡ Some w → MovesOn (act x.sort (tree_of w.expr) s1) (finished (Have (tree_of w.expr) s1)) s' r → Moves (Have t s) x s' r
-behind_some x t s s1 s' p o w r e d n m = behind_moves x t (tree_of w.expr) s s1 s' r (ap (λ q. settle q t s) (sym e) ∙ settled_some p t s s1 o w d n) m
+pub behind_some : (x : Seen) (t : Tree) (s s1 s' : Stack) (p : ℕ) (o : Option Tall) (w : Tall) (r : Result Moved AllocError) → p ≡ binds x.sort → Settled p t s s1 o → o ≡ Some w → MovesOn (act x.sort (tree_of w.expr.value) s1) (finished (Have (tree_of w.expr.value) s1)) s' r → Moves (Have t s) x s' r
+behind_some x t s s1 s' p o w r e d n m = behind_moves x t (tree_of w.expr.value) s s1 s' r (ap (λ q. settle q t s) (sym e) ∙ settled_some p t s s1 o w d n) m

@@ -18,16 +18,16 @@ use Rattle.lp_parser_expr.specs.Machine.{Frame, ScanText, ScanForm, ScanPlaces, 
 -- the state of the machine
 abbrev pub state_of : Focus → Stack → State
 state_of focus.Need s = Need s
-state_of (focus.Have t) s = Have (tree_of t.expr) s
+state_of (focus.Have t) s = Have (tree_of t.expr.value) s
 state_of (focus.EndCast line ty) s = EndCast line ty s
-state_of (focus.EndLiteral t) s = EndLiteral (tree_of t.expr) s
+state_of (focus.EndLiteral t) s = EndLiteral (tree_of t.expr.value) s
 state_of (focus.NeedName c) s = NeedName (callee_of c) s
 state_of (focus.NeedParen f) s = NeedParen (frame_of f) s
 
 -- ending productions: the tree and the stack that are left, or none
 abbrev pub Settled : ℕ → Tree → Stack → Stack → Option Tall → Type 0
 Settled p t s s' None = settle p t s ≡ None
-Settled p t s s' (Some u) = settle p t s ≡ Some (record { tree = tree_of u.expr; stack = s' })
+Settled p t s s' (Some u) = settle p t s ≡ Some (record { tree = tree_of u.expr.value; stack = s' })
 
 -- where an operand is waited for: the state that is next, or none
 abbrev pub Begins : Option State → Stack → Result (Option Focus) AllocError → Type 0
@@ -38,7 +38,7 @@ Begins o s' (Err e) = Unit {0}
 -- behind an operand: the state that is next, or none, and then all is as it was
 abbrev pub Acts : Option State → Tree → Stack → Stack → Result Acted AllocError → Type 0
 Acts o t s s' (Ok (acted.Goes f)) = o ≡ Some (state_of f s')
-Acts o t s s' (Ok (acted.Refuses u)) = (o ≡ None) × ((tree_of u.expr ≡ t) × (s' ≡ s))
+Acts o t s s' (Ok (acted.Refuses u)) = (o ≡ None) × ((tree_of u.expr.value ≡ t) × (s' ≡ s))
 Acts o t s s' (Err e) = Unit {0}
 
 -- the state that is next, or none, and then what was read is finished

@@ -91,7 +91,7 @@ IsStuck ts n = n < length ts → walk (Need []) (sight (take (n + 1) ts)) ≡ No
 
 -- why the machine stopped: at an end, a token refused, or a token that leads too deep
 abbrev pub Stops : ℕ → List Token → Result (Tall × ℕ) Stop → Type 0
-Stops limit ts (Ok r) = (st : State) × Stands limit ts r.1 st × IsStuck ts r.1 × (finished st ≡ Some (tree_of r.0.expr))
+Stops limit ts (Ok r) = (st : State) × Stands limit ts r.1 st × IsStuck ts r.1 × (finished st ≡ Some (tree_of r.0.expr.value))
 Stops limit ts (Err stop.NoMemory) = Unit {0}
 Stops limit ts (Err (stop.Unexpected at)) = (st : State) × Stands limit ts at st × IsStuck ts at × (finished st ≡ None)
 Stops limit ts (Err (stop.TooNested at)) = (st next : State) × Stands limit ts at st × (at < length ts) × (walk (Need []) (sight (take (at + 1) ts)) ≡ Some next) × (limit < least next)

@@ -10,7 +10,7 @@ ghost use Rattle.lp_tree.specs.declared.expr.Edge.TheVariants.{Front};
 ghost use Rattle.lp_tree.specs.declared.token.Mark.TheVariants.{OpenBracket};
 ghost use Rattle.lp_parser_expr.specs.StackView.{stack_of};
 
-use crate::build::{array, call, catch, index, mapping, paren, post_step, range, sscanf};
+use crate::build::{array, boxed, call, catch, index, mapping, paren, post_step, range, sscanf};
 use crate::focus::{Acted, Focus};
 use crate::frame::{Callee, Frame, level_of};
 use crate::infix::Infix;
@@ -39,7 +39,7 @@ fn restore(stack: &mut Stack, popped: Option<Frame>, tree: Tall) -> Result<Tall,
 
 // An operator, where what it makes may stand.
 fn infixed(stack: &mut Stack, op: Infix, tree: Tall) -> Result<Acted, AllocError>
-    ensures { Acts (infix_acted op (tree_of tree.expr) (stack_of stack.old)) (tree_of tree.expr) (stack_of stack.old) (stack_of stack.new) result }
+    ensures { Acts (infix_acted op (tree_of tree.expr.value) (stack_of stack.old)) (tree_of tree.expr.value) (stack_of stack.old) (stack_of stack.new) result }
 {
     if stack.wants() > level_of(op) {
         return Ok(Acted::Refuses(tree));
@@ -50,7 +50,7 @@ fn infixed(stack: &mut Stack, op: Infix, tree: Tall) -> Result<Acted, AllocError
 
 // `?`
 fn tested(stack: &mut Stack, tree: Tall) -> Result<Acted, AllocError>
-    ensures { Acts (test_acted (tree_of tree.expr) (stack_of stack.old)) (tree_of tree.expr) (stack_of stack.old) (stack_of stack.new) result }
+    ensures { Acts (test_acted (tree_of tree.expr.value) (stack_of stack.old)) (tree_of tree.expr.value) (stack_of stack.old) (stack_of stack.new) result }
 {
     if stack.wants() > 3 {
         return Ok(Acted::Refuses(tree));
@@ -61,7 +61,7 @@ fn tested(stack: &mut Stack, tree: Tall) -> Result<Acted, AllocError>
 
 // An assignment to a place.
 fn assigned(stack: &mut Stack, op: AssignOp, tree: Tall) -> Result<Acted, AllocError>
-    ensures { Acts (assign_acted op (tree_of tree.expr) (stack_of stack.old)) (tree_of tree.expr) (stack_of stack.old) (stack_of stack.new) result }
+    ensures { Acts (assign_acted op (tree_of tree.expr.value) (stack_of stack.old)) (tree_of tree.expr.value) (stack_of stack.old) (stack_of stack.new) result }
 {
     if !tree.expr.is_place() {
         return Ok(Acted::Refuses(tree));
@@ -75,7 +75,7 @@ fn assigned(stack: &mut Stack, op: AssignOp, tree: Tall) -> Result<Acted, AllocE
 
 // `++` or `--` behind a place.
 fn stepped(alloc: Global, step: Step, tree: Tall) -> Result<Acted, AllocError>
-    ensures { (s : Frames) → Acts (step_acted step (tree_of tree.expr) s) (tree_of tree.expr) s s result }
+    ensures { (s : Frames) → Acts (step_acted step (tree_of tree.expr.value) s) (tree_of tree.expr.value) s s result }
 {
     if !tree.expr.is_place() {
         return Ok(Acted::Refuses(tree));
@@ -85,18 +85,15 @@ fn stepped(alloc: Global, step: Step, tree: Tall) -> Result<Acted, AllocError>
 
 // A parenthesis behind a name.
 fn opened(alloc: Global, stack: &mut Stack, tree: Tall) -> Result<Acted, AllocError>
-    ensures { Acts (paren_opened (tree_of tree.expr) (stack_of stack.old)) (tree_of tree.expr) (stack_of stack.old) (stack_of stack.new) result }
+    ensures { Acts (paren_opened (tree_of tree.expr.value) (stack_of stack.old)) (tree_of tree.expr.value) (stack_of stack.old) (stack_of stack.new) result }
 {
     let Tall { expr, height } = tree;
-    match expr {
+    match Box::into_inner(expr) {
         Expr::Name { line, name } => {
             stack.push(Frame::InArgs(Callee::Function(line), name, Talls::new(alloc)))?;
             Ok(Acted::Goes(Focus::Need))
         }
-        other => Ok(Acted::Refuses(Tall {
-            expr: other,
-            height,
-        })),
+        other => Ok(Acted::Refuses(boxed(alloc, other, height)?)),
     }
 }
 
@@ -108,25 +105,21 @@ fn is_efun(name: &Chars) -> bool
 }
 
 // `::` behind `efun` or behind a text.
-fn scoped(tree: Tall) -> Acted
-    ensures { (s : Frames) → Acts (scope_acted (tree_of tree.expr) s) (tree_of tree.expr) s s (Ok result) }
+fn scoped(alloc: Global, tree: Tall) -> Result<Acted, AllocError>
+    ensures { (s : Frames) → Acts (scope_acted (tree_of tree.expr.value) s) (tree_of tree.expr.value) s s result }
 {
     let Tall { expr, height } = tree;
-    match expr {
+    match Box::into_inner(expr) {
         Expr::Name { line, name } => {
             if is_efun(&name) {
-                return Acted::Goes(Focus::NeedName(Callee::Efun(line)));
+                return Ok(Acted::Goes(Focus::NeedName(Callee::Efun(line))));
             }
-            Acted::Refuses(Tall {
-                expr: Expr::Name { line, name },
-                height,
-            })
+            Ok(Acted::Refuses(boxed(alloc, Expr::Name { line, name }, height)?))
         }
-        Expr::Text { line, text } => Acted::Goes(Focus::NeedName(Callee::NamedParent(line, text))),
-        other => Acted::Refuses(Tall {
-            expr: other,
-            height,
-        }),
+        Expr::Text { line, text } => Ok(Acted::Goes(Focus::NeedName(Callee::NamedParent(
+            line, text,
+        )))),
+        other => Ok(Acted::Refuses(boxed(alloc, other, height)?)),
     }
 }
 
@@ -140,7 +133,7 @@ fn end_scan(
     done: Talls,
     place: Tall,
 ) -> Result<Acted, AllocError>
-    ensures { Acts (scan_ended line (tree_of text.expr) (tree_of form.expr) (map tree_of done.items.items) (tree_of place.expr) (stack_of stack.old)) (tree_of place.expr) (ScanPlaces line (tree_of text.expr) (tree_of form.expr) (map tree_of done.items.items) ∷ stack_of stack.old) (stack_of stack.new) result }
+    ensures { Acts (scan_ended line (tree_of text.expr.value) (tree_of form.expr.value) (map tree_of done.items.items) (tree_of place.expr.value) (stack_of stack.old)) (tree_of place.expr.value) (ScanPlaces line (tree_of text.expr.value) (tree_of form.expr.value) (map tree_of done.items.items) ∷ stack_of stack.old) (stack_of stack.new) result }
 {
     if place.expr.is_place() {
         let places = done.with(place)?;
@@ -162,7 +155,7 @@ fn next_place(
     done: Talls,
     place: Tall,
 ) -> Result<Acted, AllocError>
-    ensures { Acts (place_read line (tree_of text.expr) (tree_of form.expr) (map tree_of done.items.items) (tree_of place.expr) (stack_of stack.old)) (tree_of place.expr) (ScanPlaces line (tree_of text.expr) (tree_of form.expr) (map tree_of done.items.items) ∷ stack_of stack.old) (stack_of stack.new) result }
+    ensures { Acts (place_read line (tree_of text.expr.value) (tree_of form.expr.value) (map tree_of done.items.items) (tree_of place.expr.value) (stack_of stack.old)) (tree_of place.expr.value) (ScanPlaces line (tree_of text.expr.value) (tree_of form.expr.value) (map tree_of done.items.items) ∷ stack_of stack.old) (stack_of stack.new) result }
 {
     if place.expr.is_place() {
         let places = done.with(place)?;
@@ -178,7 +171,7 @@ fn next_place(
 
 // `)` behind an operand.
 fn closed(alloc: Global, stack: &mut Stack, tree: Tall) -> Result<Acted, AllocError>
-    ensures { Acts (paren_closed (tree_of tree.expr) (stack_of stack.old)) (tree_of tree.expr) (stack_of stack.old) (stack_of stack.new) result }
+    ensures { Acts (paren_closed (tree_of tree.expr.value) (stack_of stack.old)) (tree_of tree.expr.value) (stack_of stack.old) (stack_of stack.new) result }
 {
     match stack.pop() {
         Some(Frame::InParen(line)) => Ok(Acted::Goes(Focus::Have(paren(alloc, line, tree)?))),
@@ -202,27 +195,29 @@ fn closed(alloc: Global, stack: &mut Stack, tree: Tall) -> Result<Acted, AllocEr
 }
 
 // `}` behind an operand.
-fn ended_brace(stack: &mut Stack, tree: Tall) -> Result<Acted, AllocError>
-    ensures { Acts (brace_ended (tree_of tree.expr) (stack_of stack.old)) (tree_of tree.expr) (stack_of stack.old) (stack_of stack.new) result }
+fn ended_brace(alloc: Global, stack: &mut Stack, tree: Tall) -> Result<Acted, AllocError>
+    ensures { Acts (brace_ended (tree_of tree.expr.value) (stack_of stack.old)) (tree_of tree.expr.value) (stack_of stack.old) (stack_of stack.new) result }
 {
     match stack.pop() {
         Some(Frame::InArray(line, done)) => Ok(Acted::Goes(Focus::EndLiteral(array(
+            alloc,
             line,
             done.with(tree)?,
-        )))),
+        )?))),
         other => Ok(Acted::Refuses(restore(stack, other, tree)?)),
     }
 }
 
 // `]` behind an operand.
 fn ended_bracket(alloc: Global, stack: &mut Stack, tree: Tall) -> Result<Acted, AllocError>
-    ensures { Acts (bracket_ended (tree_of tree.expr) (stack_of stack.old)) (tree_of tree.expr) (stack_of stack.old) (stack_of stack.new) result }
+    ensures { Acts (bracket_ended (tree_of tree.expr.value) (stack_of stack.old)) (tree_of tree.expr.value) (stack_of stack.old) (stack_of stack.new) result }
 {
     match stack.pop() {
         Some(Frame::AtValue(line, done, key)) => Ok(Acted::Goes(Focus::EndLiteral(mapping(
+            alloc,
             line,
             done.with(key, tree)?,
-        )))),
+        )?))),
         Some(Frame::InIndex(of, edge)) => Ok(Acted::Goes(Focus::Have(index(
             alloc, of, edge, tree,
         )?))),
@@ -235,7 +230,7 @@ fn ended_bracket(alloc: Global, stack: &mut Stack, tree: Tall) -> Result<Acted, 
 
 // `..` behind an operand.
 fn after_dots(alloc: Global, stack: &mut Stack, tree: Tall) -> Result<Acted, AllocError>
-    ensures { Acts (dots_acted (tree_of tree.expr) (stack_of stack.old)) (tree_of tree.expr) (stack_of stack.old) (stack_of stack.new) result }
+    ensures { Acts (dots_acted (tree_of tree.expr.value) (stack_of stack.old)) (tree_of tree.expr.value) (stack_of stack.old) (stack_of stack.new) result }
 {
     match stack.pop() {
         Some(Frame::InIndex(of, edge)) => begin_end(alloc, stack, of, edge, tree),
@@ -245,7 +240,7 @@ fn after_dots(alloc: Global, stack: &mut Stack, tree: Tall) -> Result<Acted, All
 
 // `:` behind an operand.
 fn after_colon(stack: &mut Stack, tree: Tall) -> Result<Acted, AllocError>
-    ensures { Acts (colon_acted (tree_of tree.expr) (stack_of stack.old)) (tree_of tree.expr) (stack_of stack.old) (stack_of stack.new) result }
+    ensures { Acts (colon_acted (tree_of tree.expr.value) (stack_of stack.old)) (tree_of tree.expr.value) (stack_of stack.old) (stack_of stack.new) result }
 {
     match stack.pop() {
         Some(Frame::Testing(test)) => {
@@ -262,7 +257,7 @@ fn after_colon(stack: &mut Stack, tree: Tall) -> Result<Acted, AllocError>
 
 // A comma where a sequence may begin.
 fn begin_sequence(alloc: Global, stack: &mut Stack, tree: Tall) -> Result<Acted, AllocError>
-    ensures { Acts (sequence_begun (tree_of tree.expr) (stack_of stack.old)) (tree_of tree.expr) (stack_of stack.old) (stack_of stack.new) result }
+    ensures { Acts (sequence_begun (tree_of tree.expr.value) (stack_of stack.old)) (tree_of tree.expr.value) (stack_of stack.old) (stack_of stack.new) result }
 {
     if stack.wants() > 0 {
         return Ok(Acted::Refuses(tree));
@@ -275,7 +270,7 @@ fn begin_sequence(alloc: Global, stack: &mut Stack, tree: Tall) -> Result<Acted,
 
 // A comma behind the first part of a scan, or its second, or a place.
 fn comma_in_scan(alloc: Global, stack: &mut Stack, tree: Tall) -> Result<Acted, AllocError>
-    ensures { Acts (comma_scanned (tree_of tree.expr) (stack_of stack.old)) (tree_of tree.expr) (stack_of stack.old) (stack_of stack.new) result }
+    ensures { Acts (comma_scanned (tree_of tree.expr.value) (stack_of stack.old)) (tree_of tree.expr.value) (stack_of stack.old) (stack_of stack.new) result }
 {
     match stack.pop() {
         Some(Frame::ScanText(line)) => {
@@ -298,7 +293,7 @@ fn comma_in_scan(alloc: Global, stack: &mut Stack, tree: Tall) -> Result<Acted, 
 
 // `,` behind an operand.
 fn after_comma(alloc: Global, stack: &mut Stack, tree: Tall) -> Result<Acted, AllocError>
-    ensures { Acts (comma_acted (tree_of tree.expr) (stack_of stack.old)) (tree_of tree.expr) (stack_of stack.old) (stack_of stack.new) result }
+    ensures { Acts (comma_acted (tree_of tree.expr.value) (stack_of stack.old)) (tree_of tree.expr.value) (stack_of stack.old) (stack_of stack.new) result }
 {
     match stack.pop() {
         Some(Frame::InArray(line, done)) => next_item(
@@ -323,7 +318,7 @@ fn after_comma(alloc: Global, stack: &mut Stack, tree: Tall) -> Result<Acted, Al
 
 // A mark behind an operand.
 fn act_mark(alloc: Global, stack: &mut Stack, mark: Mark, tree: Tall) -> Result<Acted, AllocError>
-    ensures { Acts (mark_acted mark (tree_of tree.expr) (stack_of stack.old)) (tree_of tree.expr) (stack_of stack.old) (stack_of stack.new) result }
+    ensures { Acts (mark_acted mark (tree_of tree.expr.value) (stack_of stack.old)) (tree_of tree.expr.value) (stack_of stack.old) (stack_of stack.new) result }
 {
     match mark {
         Mark::Binary(op) => infixed(stack, Infix::Plain(op), tree),
@@ -335,9 +330,9 @@ fn act_mark(alloc: Global, stack: &mut Stack, mark: Mark, tree: Tall) -> Result<
         Mark::OpenParen => opened(alloc, stack, tree),
         Mark::OpenBracket => open_index(stack, tree),
         Mark::Arrow => Ok(Acted::Goes(Focus::NeedName(Callee::Other(tree)))),
-        Mark::ColonColon => Ok(scoped(tree)),
+        Mark::ColonColon => scoped(alloc, tree),
         Mark::CloseParen => closed(alloc, stack, tree),
-        Mark::CloseBrace => ended_brace(stack, tree),
+        Mark::CloseBrace => ended_brace(alloc, stack, tree),
         Mark::CloseBracket => ended_bracket(alloc, stack, tree),
         Mark::DotDot => after_dots(alloc, stack, tree),
         Mark::Colon => after_colon(stack, tree),
@@ -348,7 +343,7 @@ fn act_mark(alloc: Global, stack: &mut Stack, mark: Mark, tree: Tall) -> Result<
 
 /// A token behind an operand whose inner productions are ended.
 pub fn act(alloc: Global, stack: &mut Stack, sort: Sort, tree: Tall) -> Result<Acted, AllocError>
-    ensures { Acts (acted sort (tree_of tree.expr) (stack_of stack.old)) (tree_of tree.expr) (stack_of stack.old) (stack_of stack.new) result }
+    ensures { Acts (acted sort (tree_of tree.expr.value) (stack_of stack.old)) (tree_of tree.expr.value) (stack_of stack.old) (stack_of stack.new) result }
 {
     match sort {
         Sort::Mark(mark) => act_mark(alloc, stack, mark, tree),
@@ -358,7 +353,7 @@ pub fn act(alloc: Global, stack: &mut Stack, sort: Sort, tree: Tall) -> Result<A
 
 // An index begins.
 fn open_index(stack: &mut Stack, tree: Tall) -> Result<Acted, AllocError>
-    ensures { Acts (mark_acted OpenBracket (tree_of tree.expr) (stack_of stack.old)) (tree_of tree.expr) (stack_of stack.old) (stack_of stack.new) result }
+    ensures { Acts (mark_acted OpenBracket (tree_of tree.expr.value) (stack_of stack.old)) (tree_of tree.expr.value) (stack_of stack.old) (stack_of stack.new) result }
 {
     stack.push(Frame::InIndex(tree, Edge::Front))?;
     Ok(Acted::Goes(Focus::Need))
@@ -380,7 +375,7 @@ fn next_arg(
     done: Talls,
     tree: Tall,
 ) -> Result<Acted, AllocError>
-    ensures { OpensTo (InArgs (callee_of callee) name (map tree_of done.items.items ++ tree_of tree.expr ∷ [])) (stack_of stack.old) (stack_of stack.new) result }
+    ensures { OpensTo (InArgs (callee_of callee) name (map tree_of done.items.items ++ tree_of tree.expr.value ∷ [])) (stack_of stack.old) (stack_of stack.new) result }
 {
     let args = done.with(tree)?;
     stack.push(Frame::InArgs(callee, name, args))?;
@@ -395,7 +390,7 @@ fn begin_end(
     edge: Edge,
     tree: Tall,
 ) -> Result<Acted, AllocError>
-    ensures { OpensTo (InRange (tree_of of.expr) (At edge (tree_of tree.expr)) Front) (stack_of stack.old) (stack_of stack.new) result }
+    ensures { OpensTo (InRange (tree_of of.expr.value) (At edge (tree_of tree.expr.value)) Front) (stack_of stack.old) (stack_of stack.new) result }
 {
     let from = TallEnd::at(alloc, edge, tree)?;
     stack.push(Frame::InRange(of, from, Edge::Front))?;
@@ -410,7 +405,7 @@ fn end_range(
     edge: Edge,
     tree: Tall,
 ) -> Result<Tall, AllocError>
-    ensures { IfOk result (λ t. tree_of t.expr ≡ Range (line_of (tree_of of.expr)) (tree_of of.expr) (end_of from.bound) (At edge (tree_of tree.expr))) }
+    ensures { IfOk result (λ t. tree_of t.expr.value ≡ Range (line_of (tree_of of.expr.value)) (tree_of of.expr.value) (end_of from.bound) (At edge (tree_of tree.expr.value))) }
 {
     let to = TallEnd::at(alloc, edge, tree)?;
     range(alloc, of, from, to)

@@ -1,8 +1,8 @@
 //! How productions end.
-ghost use Rattle.std.specs.Prelude.{◌≡◌, IfOk, Some, None, if◌then◌else◌};
+ghost use Rattle.std.specs.Prelude.{◌≡◌, ◌∷◌, IfOk, Some, None, if◌then◌else◌};
 ghost use Rattle.lp_tree.specs.Trees.{Tree};
 ghost use Rattle.lp_tree.specs.TreeView.{tree_of};
-ghost use Rattle.lp_parser_expr.specs.Machine.{Have, finished, whole as whole_on};
+ghost use Rattle.lp_parser_expr.specs.Machine.{Alone, Have, finished, whole as whole_on};
 ghost use Rattle.lp_parser_expr.specs.Moves.{Settled, state_of};
 ghost use Rattle.lp_parser_expr.specs.StackView.{stack_of};
 ghost use Rattle.lp_parser_expr.specs.View.{tree_in};
@@ -22,7 +22,7 @@ pub fn settle(
     tree: Tall,
     level: u8,
 ) -> Result<Option<Tall>, AllocError>
-    ensures { IfOk result (λ o. Settled level (tree_of tree.expr) (stack_of stack.old) (stack_of stack.new) o) }
+    ensures { IfOk result (λ o. Settled level (tree_of tree.expr.value) (stack_of stack.old) (stack_of stack.new) o) }
 {
     let mut tree = tree;
     while let Some(frame) = stack.pop() {
@@ -44,14 +44,30 @@ fn is_over(stack: &mut Stack) -> bool
 {
     match stack.pop() {
         None => true,
-        Some(Frame::Alone) => stack.pop().is_none(),
-        Some(_) => false,
+        Some(Frame::Alone) => is_bare(stack),
+        other => {
+            drop(other);
+            false
+        }
+    }
+}
+
+// Whether no production is open.
+fn is_bare(stack: &mut Stack) -> bool
+    ensures { (t : Tree) → whole_on t (Alone ∷ stack_of stack.old) ≡ (if result then Some t else None) }
+{
+    match stack.pop() {
+        None => true,
+        Some(frame) => {
+            drop(frame);
+            false
+        }
     }
 }
 
 /// The expression that ends behind this operand, where it is whole there.
 pub fn finish_tree(alloc: Global, stack: &mut Stack, tree: Tall) -> Result<Option<Tall>, AllocError>
-    ensures { IfOk result (λ o. tree_in o ≡ finished (Have (tree_of tree.expr) (stack_of stack.old))) }
+    ensures { IfOk result (λ o. tree_in o ≡ finished (Have (tree_of tree.expr.value) (stack_of stack.old))) }
 {
     match settle(alloc, stack, tree, 0)? {
         None => Ok(None),

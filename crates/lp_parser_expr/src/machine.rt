@@ -46,7 +46,7 @@ fn binds(sort: &Sort) -> u8
 
 // A token behind an operand whose inner productions are ended.
 fn act_or_end(alloc: Global, stack: &mut Stack, sort: Sort, tree: Tall) -> Result<Moved, AllocError>
-    ensures { MovesOn (acted sort (tree_of tree.expr) (stack_of stack.old)) (finished (Have (tree_of tree.expr) (stack_of stack.old))) (stack_of stack.new) result }
+    ensures { MovesOn (acted sort (tree_of tree.expr.value) (stack_of stack.old)) (finished (Have (tree_of tree.expr.value) (stack_of stack.old))) (stack_of stack.new) result }
 {
     match act(alloc, stack, sort, tree)? {
         Acted::Goes(next) => Ok(Moved::Goes(next)),
@@ -56,7 +56,7 @@ fn act_or_end(alloc: Global, stack: &mut Stack, sort: Sort, tree: Tall) -> Resul
 
 // A token behind an operand.
 fn behind(alloc: Global, stack: &mut Stack, tree: Tall, seen: Seen) -> Result<Moved, AllocError>
-    ensures { Moves (Have (tree_of tree.expr) (stack_of stack.old)) seen (stack_of stack.new) result }
+    ensures { Moves (Have (tree_of tree.expr.value) (stack_of stack.old)) seen (stack_of stack.new) result }
 {
     match settle(alloc, stack, tree, binds(&seen.sort))? {
         None => Ok(Moved::Ends(None)),
@@ -92,7 +92,7 @@ fn end_cast(stack: &mut Stack, line: u32, to: TypeName, sort: Sort) -> Result<Mo
 
 // The parenthesis behind a literal.
 fn end_literal(literal: Tall, sort: Sort) -> Moved
-    ensures { (s : Frames) → MovesOn (literal_ended sort (tree_of literal.expr) s) None s (Ok result) }
+    ensures { (s : Frames) → MovesOn (literal_ended sort (tree_of literal.expr.value) s) None s (Ok result) }
 {
     match sort {
         Sort::Mark(Mark::CloseParen) => Moved::Goes(Focus::Have(literal)),

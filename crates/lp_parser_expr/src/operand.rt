@@ -37,14 +37,14 @@ fn empty_paren(alloc: Global, stack: &mut Stack) -> Result<Option<Focus>, AllocE
 }
 
 // `}` where an operand may be missing.
-fn empty_brace(stack: &mut Stack) -> Result<Option<Focus>, AllocError>
+fn empty_brace(alloc: Global, stack: &mut Stack) -> Result<Option<Focus>, AllocError>
     ensures { Begins (brace_emptied (stack_of stack.old)) (stack_of stack.new) result }
 {
     let Some(frame) = stack.pop() else {
         return Ok(None);
     };
     match frame {
-        Frame::InArray(line, done) => Ok(Some(Focus::EndLiteral(array(line, done)))),
+        Frame::InArray(line, done) => Ok(Some(Focus::EndLiteral(array(alloc, line, done)?))),
         other => {
             drop(other);
             Ok(None)
@@ -57,7 +57,7 @@ fn empty_bracket(alloc: Global, stack: &mut Stack) -> Result<Option<Focus>, Allo
     ensures { Begins (bracket_emptied (stack_of stack.old)) (stack_of stack.new) result }
 {
     match stack.pop() {
-        Some(Frame::AtKey(line, done)) => Ok(Some(Focus::EndLiteral(mapping(line, done)))),
+        Some(Frame::AtKey(line, done)) => Ok(Some(Focus::EndLiteral(mapping(alloc, line, done)?))),
         Some(Frame::InRange(of, from, Edge::Front)) => Ok(Some(Focus::Have(range(
             alloc,
             of,
@@ -213,7 +213,7 @@ fn begin_mark(
         Mark::OpenParen => begin_paren(stack, line),
         Mark::CloseParen => empty_paren(alloc, stack),
         Mark::OpenBrace => open_brace(alloc, stack),
-        Mark::CloseBrace => empty_brace(stack),
+        Mark::CloseBrace => empty_brace(alloc, stack),
         Mark::OpenBracket => open_bracket(alloc, stack),
         Mark::CloseBracket => empty_bracket(alloc, stack),
         Mark::ColonColon => Ok(Some(Focus::NeedName(Callee::Parent(line)))),
@@ -248,9 +248,9 @@ pub fn begin(
     ensures { Begins (begun sort line (stack_of stack.old)) (stack_of stack.new) result }
 {
     match sort {
-        Sort::Name(name) => Ok(Some(Focus::Have(leaf(Expr::Name { line, name })))),
-        Sort::Text(text) => Ok(Some(Focus::Have(leaf(Expr::Text { line, text })))),
-        Sort::Int(value) => Ok(Some(Focus::Have(leaf(Expr::Int { line, value })))),
+        Sort::Name(name) => Ok(Some(Focus::Have(leaf(alloc, Expr::Name { line, name })?))),
+        Sort::Text(text) => Ok(Some(Focus::Have(leaf(alloc, Expr::Text { line, text })?))),
+        Sort::Int(value) => Ok(Some(Focus::Have(leaf(alloc, Expr::Int { line, value })?))),
         Sort::Mark(mark) => begin_mark(alloc, stack, mark, line),
         Sort::Reserved(word) => begin_word(stack, word, line),
         Sort::Wrong => Ok(None),

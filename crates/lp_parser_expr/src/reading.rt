@@ -118,7 +118,7 @@ pub fn expr(
     let limit = (DEEPEST + 1).saturating_sub(depth);
     let rest = rest(tokens, from);
     match read(alloc, rest, limit) {
-        Ok((whole, count)) => Ok((whole.expr, from + count)),
+        Ok((whole, count)) => Ok((Box::into_inner(whole.expr), from + count)),
         Err(Stop::NoMemory) => Err(ParseFault::NoMemory),
         Err(Stop::Unexpected(at)) => Err(ParseFault::Unexpected {
             line: line_at(tokens, rest, at),

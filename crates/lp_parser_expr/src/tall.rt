@@ -12,10 +12,10 @@ use std::alloc::{AllocError, Global};
 #[derive(Drop)]
 pub struct Tall {
     /// The expression.
-    pub expr: Expr,
+    pub expr: Box<Expr>,
     /// Its levels. 4294967295 stands for all numbers from there on.
     pub height: u32,
-    ghost right: { height ≡ capped (levels (tree_of expr)) },
+    ghost right: { height ≡ capped (levels (tree_of expr.value)) },
 }
 
 /// Expressions with the levels of the tallest, or 0 where there are none.
@@ -68,11 +68,12 @@ impl Talls {
 
     /// These expressions and one more.
     pub fn with(self, tree: Tall) -> Result<Talls, AllocError>
-        ensures { IfOk result (λ a. map tree_of a.items.items ≡ map tree_of self.items.items ++ tree_of tree.expr ∷ []) }
+        ensures { IfOk result (λ a. map tree_of a.items.items ≡ map tree_of self.items.items ++ tree_of tree.expr.value ∷ []) }
     {
         let tallest = self.tallest.max(tree.height);
         let mut items = self.items;
-        items.push(tree.expr)?;
+        let one = Box::into_inner(tree.expr);
+        items.push(one)?;
         Ok(Talls { items, tallest })
     }
 }
@@ -90,11 +91,13 @@ impl TallPairs {
 
     /// These pairs and one more.
     pub fn with(self, key: Tall, value: Tall) -> Result<TallPairs, AllocError>
-        ensures { IfOk result (λ a. map pair_of a.pairs.items ≡ map pair_of self.pairs.items ++ (tree_of key.expr, tree_of value.expr) ∷ []) }
+        ensures { IfOk result (λ a. map pair_of a.pairs.items ≡ map pair_of self.pairs.items ++ (tree_of key.expr.value, tree_of value.expr.value) ∷ []) }
     {
         let tallest = self.tallest.max(key.height.max(value.height));
         let mut pairs = self.pairs;
-        pairs.push((key.expr, value.expr))?;
+        let first = Box::into_inner(key.expr);
+        let second = Box::into_inner(value.expr);
+        pairs.push((first, second))?;
         Ok(TallPairs { pairs, tallest })
     }
 }
@@ -112,10 +115,10 @@ impl TallEnd {
 
     /// The end at this index.
     pub fn at(alloc: Global, edge: Edge, index: Tall) -> Result<TallEnd, AllocError>
-        ensures { IfOk result (λ a. end_of a.bound ≡ At edge (tree_of index.expr)) }
+        ensures { IfOk result (λ a. end_of a.bound ≡ At edge (tree_of index.expr.value)) }
     {
         Ok(TallEnd {
-            bound: Bound::At(edge, Box::new(alloc, index.expr)?),
+            bound: Bound::At(edge, index.expr),
             height: index.height,
         })
     }

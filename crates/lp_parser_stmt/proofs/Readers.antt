@@ -1,5 +1,5 @@
 -- Steps of expressions in statements and names, as the program takes them.
-use Rattle.std.proofs.Common.{◌≡◌, ℕ, List, refl, ap, sym, ◌∙◌, subst, Bool, true, false, not}
+use Rattle.std.proofs.Common.{◌≡◌, ℕ, List, refl, ap, sym, ◌∙◌, subst, Bool, not}
 use Rattle.std.specs.Prelude.{Vec, Option, Some, None, option_map, Result, Ok, if◌then◌else◌}
 use Rattle.std.specs.declared.alloc.AllocError.{AllocError}
 use Rattle.lp_tree.specs.declared.seen.Seen.{Seen}
@@ -8,7 +8,6 @@ use Rattle.lp_tree.specs.declared.token.Mark.TheVariants.{Comma, Semicolon}
 use Rattle.lp_tree.specs.declared.keyword.Base.{Base as BaseWord}
 use Rattle.lp_tree.specs.Trees.{Tree}
 use Rattle.lp_tree.specs.Statements.{DeclaratorTree}
-use Rattle.lp_tree.specs.TreeView.{tree_of}
 use Rattle.lp_parser_expr.specs.declared.focus.Focus.{Focus as ExprFocus}
 use Rattle.lp_parser_expr.specs.declared.focus.Moved.{Moved as ExprMoved}
 use Rattle.lp_parser_expr.specs.declared.focus.Moved.TheVariants as expr_moved
@@ -23,7 +22,7 @@ use Rattle.lp_tree.specs.declared.stmt.Declarator.{Declarator}
 use Rattle.std.specs.declared.alloc.Global.{Global}
 use Rattle.lp_parser_stmt.specs.declared.focus.Moved.{Moved}
 use Rattle.lp_parser_stmt.specs.Moves.{NamesMove, NamesMoveOn, Steps}
-use Rattle.lp_parser_stmt.specs.Machine.{Names, Valued, mark_valued, value_goes, with_name, names_step, names_finished, mark_in, Stack, Role, OneOf, Optional, filled, State, Reading, Declaring, Whose, after_some, reading_goes, mark_after_names, names_go, reads, by_paren, semicolon_skips, paren_skips, step}
+use Rattle.lp_parser_stmt.specs.Machine.{Names, Valued, mark_valued, value_goes, with_name, names_step, names_finished, mark_in, Stack, Role, OneOf, Optional, filled, State, Reading, Declaring, Whose, after_some, reading_goes, mark_after_names, names_go, by_paren, semicolon_skips, paren_skips, step}
 use Rattle.lp_parser_stmt.proofs.Ends.{semicolon-is, paren-is}
 
 pub expr_ends : (st : expr.State) (x : Seen) (s' : expr.Stack) (m : ExprMoved) (u : Option Tall) → MovesOn (expr.step st x) (expr.finished st) s' (Ok m) → m ≡ expr_moved.Ends u → (expr.step st x ≡ None) × (tree_in u ≡ expr.finished st)

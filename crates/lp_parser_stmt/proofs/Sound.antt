@@ -21,7 +21,7 @@ use Rattle.lp_tree.specs.Types.{SpellsStars, none as no_star, one_more as one_st
 use Rattle.lp_tree.specs.Trees.{Tree}
 use Rattle.lp_tree.specs.Expressions.{Spells}
 use Rattle.lp_tree.specs.Statements as stmts
-use Rattle.lp_tree.specs.Statements.{DeclaratorTree, LocalTree, InitTree, DeclaresFirst, StmtTree, Block, Empty, Run, Declares, If, While, DoWhile, For, Foreach, Switch, Break, Continue, Return, StmtTrees, NoStmt, MoreStmts, NoElse, Else, PartTrees, NoPart, LabelPart, StmtPart, Around, in_function, in_loop, in_switch, SpellsLocal, declares, SpellsDeclarators, SpellsEach, SpellsEaches, one_each, two_eaches, IsIn, word_in, SpellsConstant, SpellsLabel, case_value, case_range, default_case, SpellsInit, SpellsOptional, else_follows, SpellsStmt, SpellsStmts, SpellsParts}
+use Rattle.lp_tree.specs.Statements.{DeclaratorTree, LocalTree, InitTree, DeclaresFirst, StmtTree, Block, If, While, DoWhile, For, Foreach, Switch, Break, Continue, Return, StmtTrees, NoStmt, MoreStmts, NoElse, Else, PartTrees, NoPart, LabelPart, StmtPart, Around, in_function, in_switch, SpellsLocal, declares, SpellsDeclarators, SpellsEach, SpellsEaches, one_each, two_eaches, IsIn, word_in, SpellsConstant, SpellsLabel, case_value, case_range, default_case, SpellsInit, SpellsOptional, else_follows, SpellsStmt, SpellsStmts, SpellsParts}
 use Rattle.lp_tree.specs.StatementView.{stmt_trees, part_trees}
 use Rattle.lp_parser_expr.specs.Machine as expr
 use Rattle.lp_parser_expr.proofs.Sound.{needs_more, bottom}

@@ -1,5 +1,5 @@
 -- The stack as the program keeps it.
-use Rattle.std.proofs.Common.{◌≡◌, ℕ, map, length, take, get_or, suc, ◌+◌, ◌-◌, List, [], ◌∷◌, ◌++◌, refl, ◌<◌, ap, ◌∙◌, sym, subst, arith, Bool, true, false, cond}
+use Rattle.std.proofs.Common.{◌≡◌, ℕ, map, length, take, get_or, ◌+◌, ◌-◌, List, [], ◌∷◌, ◌++◌, refl, ◌<◌, ap, ◌∙◌, sym, subst, arith, Bool, true, false, cond}
 use Rattle.std.specs.Prelude.{Option, Some, None}
 use Rattle.std.specs.Option.{option_to_list}
 use Rattle.std.proofs.lemmas.List.{take_more}

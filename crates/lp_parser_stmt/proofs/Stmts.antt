@@ -17,7 +17,7 @@ use Rattle.lp_tree.specs.Trees.{Tree}
 use Rattle.lp_tree.specs.Expressions as exprs
 use Rattle.lp_tree.specs.Expressions.{Spells}
 use Rattle.lp_tree.specs.Statements as stmts
-use Rattle.lp_tree.specs.Statements.{DeclaratorTree, LocalTree, InitTree, Nothing, DeclaresFirst, RunsFirst, StmtTree, Block, Empty, Run, Declares, If, While, DoWhile, For, Foreach, Switch, Break, Continue, Return, StmtTrees, NoStmt, MoreStmts, NoElse, Else, PartTrees, NoPart, LabelPart, StmtPart, Around, in_function, in_loop, in_switch, SpellsLocal, declares, SpellsDeclarators, SpellsEach, SpellsEaches, one_each, two_eaches, IsIn, word_in, SpellsConstant, SpellsLabel, case_value, case_range, default_case, SpellsInit, SpellsOptional, else_follows, SpellsStmt, SpellsStmts, SpellsParts}
+use Rattle.lp_tree.specs.Statements.{DeclaratorTree, InitTree, StmtTree, Block, If, While, For, Foreach, Switch, Break, Continue, StmtTrees, NoStmt, MoreStmts, NoElse, Else, PartTrees, NoPart, Around, in_function, in_switch, declares, SpellsDeclarators, SpellsEach, SpellsEaches, one_each, two_eaches, IsIn, word_in, SpellsLabel, case_value, case_range, default_case, SpellsInit, SpellsOptional, else_follows, SpellsStmt, SpellsStmts, SpellsParts}
 use Rattle.lp_tree.specs.StatementView.{stmt_trees, part_of, part_trees}
 use Rattle.lp_parser_expr.specs.Machine as expr
 use Rattle.lp_parser_stmt.specs.declared.class.Class.TheVariants.{ExpressionBegins}

@@ -22,7 +22,7 @@ use Rattle.lp_tree.specs.Trees.{Tree, Name, height}
 use Rattle.lp_tree.specs.Types.{none as no_star}
 use Rattle.lp_tree.specs.Expressions as exprs
 use Rattle.lp_tree.specs.Statements as stmts
-use Rattle.lp_tree.specs.Statements.{DeclaratorTree, LocalTree, InitTree, StmtTree, Block, Empty, If, While, DoWhile, For, Foreach, Switch, StmtTrees, NoElse, Else, else_follows, declarator_heights, stmt_height, stmt_heights, case_value, case_range}
+use Rattle.lp_tree.specs.Statements.{DeclaratorTree, LocalTree, InitTree, StmtTree, Block, Empty, If, While, DoWhile, For, Foreach, Switch, StmtTrees, NoElse, Else, else_follows, declarator_heights, stmt_heights, case_value, case_range}
 use Rattle.lp_tree.specs.StatementView.{stmt_trees, part_trees}
 use Rattle.lp_parser_expr.specs.Machine as expr
 use Rattle.lp_parser_expr.specs.Depth as levels

@@ -1,5 +1,5 @@
 -- How an open statement ends with a whole one, and an expression with a mark.
-use Rattle.std.specs.Prelude.{◌≡◌, Bool, true, false, not, Option, Some, None, Result, Ok, Err, if◌then◌else◌}
+use Rattle.std.specs.Prelude.{◌≡◌, Bool, false, not, Option, Some, None, Result, Ok, Err, if◌then◌else◌}
 use Rattle.std.specs.declared.alloc.AllocError.{AllocError}
 use Rattle.lp_tree.specs.declared.token.Mark.{Mark}
 use Rattle.lp_tree.specs.declared.token.Mark.TheVariants.{Semicolon, CloseParen}
@@ -21,8 +21,8 @@ ended b t _ = None
 
 -- it ends, or all is as it was
 abbrev pub Ends : Bool → StmtTree → Frame → Result Ended AllocError → Type 0
-Ends b t f (Ok (endings.Whole u)) = ended b t f ≡ Some (stmt_of u)
-Ends b t f (Ok (endings.Stays g u)) = (ended b t f ≡ None) × ((frame_of g ≡ f) × (stmt_of u ≡ t))
+Ends b t f (Ok (endings.Whole u)) = ended b t f ≡ Some (stmt_of u.value)
+Ends b t f (Ok (endings.Stays g u)) = (ended b t f ≡ None) × ((frame_of g ≡ f) × (stmt_of u.value ≡ t))
 Ends b t f (Err e) = Unit {0}
 
 -- whether a mark ends what is read for this

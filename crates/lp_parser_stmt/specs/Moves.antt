@@ -1,5 +1,5 @@
 -- What the program's steps come to.
-use Rattle.std.specs.Prelude.{◌≡◌, ℕ, List, [], ◌∷◌, Option, Some, None, option_map, Result, Ok, Err, ⊤}
+use Rattle.std.specs.Prelude.{◌≡◌, ℕ, List, [], Option, Some, None, option_map, Result, Ok, Err, ⊤}
 use Rattle.std.specs.declared.alloc.AllocError.{AllocError}
 use Rattle.lp_tree.specs.declared.seen.Seen.{Seen}
 use Rattle.lp_tree.specs.declared.seen.Sort.{Sort}
@@ -9,7 +9,6 @@ use Rattle.lp_tree.specs.declared.token.Mark.TheVariants.{OpenParen, Semicolon}
 use Rattle.lp_tree.specs.Signs.{IsFromZero}
 use Rattle.lp_tree.specs.Statements.{DeclaratorTree}
 use Rattle.lp_tree.specs.StatementView.{stmt_of, stmt_trees}
-use Rattle.lp_parser_expr.specs.Machine as expr
 use Rattle.lp_parser_expr.specs.Moves.{state_of as expr_state}
 use Rattle.lp_parser_expr.specs.StackView.{stack_of as expr_stack}
 use Rattle.lp_parser_stmt.specs.declared.names.NamesMoved.{NamesMoved}
@@ -79,9 +78,9 @@ label_state (labels.ToMinus n) line w s = NeedToDigits line n w s
 -- the state of the machine
 abbrev pub state_of : Focus → Stack → State
 state_of focus.Need s = Need s
-state_of (focus.Have t) s = Have (stmt_of t) s
+state_of (focus.Have t) s = Have (stmt_of t.value) s
 state_of (focus.Awaits m) s = Expect m (Need s)
-state_of (focus.EndStmt t) s = Expect Semicolon (Have (stmt_of t) s)
+state_of (focus.EndStmt t) s = Expect Semicolon (Have (stmt_of t.value) s)
 state_of (focus.Opens o) s = opening_state o s
 state_of (focus.Reading es ef role) s = Reading (expr_state ef (expr_stack es)) (role_of role) s
 state_of (focus.Maybe part) s = Maybe (optional_of part) s

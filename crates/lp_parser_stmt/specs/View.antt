@@ -1,5 +1,5 @@
 -- What the program's frames and names stand for.
-use Rattle.std.specs.Prelude.{List, map, Option, option_map, Vec}
+use Rattle.std.specs.Prelude.{List, map, option_map, Vec}
 use Rattle.std.specs.declared.alloc.Global.{Global}
 use Rattle.lp_tree.specs.declared.stmt.Declarator.{Declarator}
 use Rattle.lp_tree.specs.declared.stmt.Stmt.{Stmt}
@@ -40,14 +40,14 @@ stmts_of v = map stmt_of v.items
 abbrev pub optional_of : CodeOptional → Optional
 optional_of (optionals.Value line) = Value line
 optional_of (optionals.First line) = First line
-optional_of (optionals.Test line i) = Test line (init_of i)
-optional_of (optionals.Step line i t) = Step line (init_of i) (option_map tree_of t)
+optional_of (optionals.Test line i) = Test line (init_of i.value)
+optional_of (optionals.Step line i t) = Step line (init_of i.value) (option_map (λ b. tree_of b.value) t)
 
 abbrev pub role_of : CodeRole → Role
 role_of roles.ToRun = ToRun
 role_of (roles.TestIf line) = TestIf line
 role_of (roles.TestWhile line) = TestWhile line
-role_of (roles.TestDo line b) = TestDo line (stmt_of b)
+role_of (roles.TestDo line b) = TestDo line (stmt_of b.value)
 role_of (roles.OverEach line f g) = OverEach line f g
 role_of (roles.OnSwitch line) = OnSwitch line
 role_of (roles.OneOf part) = OneOf (optional_of part)
@@ -62,14 +62,14 @@ part_view (parts.Label k) = parts.Label k
 part_view (parts.Stmt s) = parts.Stmt (stmt_of s)
 
 abbrev pub switching_of : CodeSwitching → Switching
-switching_of w = record { line = w.line; on = tree_of w.on; done = map part_view w.done.items }
+switching_of w = record { line = w.line; on = tree_of w.on.value; done = map part_view w.done.items }
 
 abbrev pub frame_of : CodeFrame → Frame
 frame_of (frames.InBlock line done) = InBlock line (stmts_of done)
 frame_of (frames.InSwitch w) = InSwitch (switching_of w)
-frame_of (frames.IfYes line e) = IfYes line (tree_of e)
-frame_of (frames.IfNo line e y) = IfNo line (tree_of e) (stmt_of y.value)
-frame_of (frames.WhileBody line e) = WhileBody line (tree_of e)
+frame_of (frames.IfYes line e) = IfYes line (tree_of e.value)
+frame_of (frames.IfNo line e y) = IfNo line (tree_of e.value) (stmt_of y.value)
+frame_of (frames.WhileBody line e) = WhileBody line (tree_of e.value)
 frame_of (frames.DoBody line) = DoBody line
-frame_of (frames.ForBody line i t p) = ForBody line (init_of i) (option_map tree_of t) (option_map tree_of p)
-frame_of (frames.EachBody line f g e) = EachBody line f g (tree_of e)
+frame_of (frames.ForBody line i t p) = ForBody line (init_of i.value) (option_map (λ b. tree_of b.value) t) (option_map (λ b. tree_of b.value) p)
+frame_of (frames.EachBody line f g e) = EachBody line f g (tree_of e.value)

@@ -7,8 +7,8 @@ ghost use Rattle.lp_parser_stmt.specs.Moves.{Steps};
 ghost use Rattle.lp_parser_stmt.specs.StackView.{stack_of};
 
 use crate::class::{Class, class_of};
-use crate::ending::switch_of;
-use crate::expression::begin_expression;
+use crate::ending::{boxed, switch_of};
+use crate::expression::{begin_expression, have};
 use crate::focus::{Focus, LabelAt, Moved, Opening};
 use crate::frame::Frame;
 use crate::label::awaits_colon;
@@ -21,16 +21,16 @@ use lp_tree::stmt::{Label, Stmt};
 use std::alloc::{AllocError, Global};
 
 // `}` where a statement may begin.
-fn close_brace(alloc: Global, stack: &mut Stack) -> Moved
-    ensures { Steps (closes (stack_of stack.old)) (stack_of stack.new) (Ok result) }
+fn close_brace(alloc: Global, stack: &mut Stack) -> Result<Moved, AllocError>
+    ensures { Steps (closes (stack_of stack.old)) (stack_of stack.new) result }
 {
     match stack.pop() {
-        None => Moved::Over(stack.take(alloc)),
-        Some(Frame::InBlock(line, stmts)) => Moved::Goes(Focus::Have(Stmt::Block { line, stmts })),
-        Some(Frame::InSwitch(switching)) => Moved::Goes(Focus::Have(switch_of(switching))),
+        None => Ok(Moved::Over(stack.take(alloc))),
+        Some(Frame::InBlock(line, stmts)) => have(alloc, stack, Stmt::Block { line, stmts }),
+        Some(Frame::InSwitch(switching)) => have(alloc, stack, switch_of(switching)),
         other => {
             drop(other);
-            Moved::Refuses
+            Ok(Moved::Refuses)
         }
     }
 }
@@ -71,23 +71,23 @@ fn begin_default(stack: &mut Stack, line: u32) -> Result<Moved, AllocError>
 }
 
 // `break`, where there is what it leaves.
-fn begin_break(stack: &Stack, line: u32) -> Moved
-    ensures { Steps (word_begins Break line (stack_of stack.now)) (stack_of stack.now) (Ok result) }
+fn begin_break(alloc: Global, stack: &Stack, line: u32) -> Result<Moved, AllocError>
+    ensures { Steps (word_begins Break line (stack_of stack.now)) (stack_of stack.now) result }
 {
     if stack.may_break() {
-        return Moved::Goes(Focus::EndStmt(Stmt::Break { line }));
+        return Ok(Moved::Goes(Focus::EndStmt(boxed(alloc, Stmt::Break { line })?)));
     }
-    Moved::Refuses
+    Ok(Moved::Refuses)
 }
 
 // `continue`, where there is a loop that it goes on with.
-fn begin_continue(stack: &Stack, line: u32) -> Moved
-    ensures { Steps (word_begins Continue line (stack_of stack.now)) (stack_of stack.now) (Ok result) }
+fn begin_continue(alloc: Global, stack: &Stack, line: u32) -> Result<Moved, AllocError>
+    ensures { Steps (word_begins Continue line (stack_of stack.now)) (stack_of stack.now) result }
 {
     if stack.may_continue() {
-        return Moved::Goes(Focus::EndStmt(Stmt::Continue { line }));
+        return Ok(Moved::Goes(Focus::EndStmt(boxed(alloc, Stmt::Continue { line })?)));
     }
-    Moved::Refuses
+    Ok(Moved::Refuses)
 }
 
 // `do`
@@ -99,7 +99,12 @@ fn begin_do(stack: &mut Stack, line: u32) -> Result<Moved, AllocError>
 }
 
 // A reserved word that begins no expression and no declaration.
-fn begin_word(stack: &mut Stack, word: Keyword, line: u32) -> Result<Moved, AllocError>
+fn begin_word(
+    alloc: Global,
+    stack: &mut Stack,
+    word: Keyword,
+    line: u32,
+) -> Result<Moved, AllocError>
     ensures { Steps (word_begins word line (stack_of stack.old)) (stack_of stack.new) result }
 {
     match word {
@@ -109,8 +114,8 @@ fn begin_word(stack: &mut Stack, word: Keyword, line: u32) -> Result<Moved, Allo
         Keyword::For => Ok(Moved::Goes(Focus::Opens(Opening::ForParts(line)))),
         Keyword::Foreach => Ok(Moved::Goes(Focus::Opens(Opening::Variables(line)))),
         Keyword::Do => begin_do(stack, line),
-        Keyword::Break => Ok(begin_break(stack, line)),
-        Keyword::Continue => Ok(begin_continue(stack, line)),
+        Keyword::Break => begin_break(alloc, stack, line),
+        Keyword::Continue => begin_continue(alloc, stack, line),
         Keyword::Return => Ok(Moved::Goes(Focus::Maybe(Optional::Value(line)))),
         Keyword::Case => Ok(begin_case(stack, line)),
         Keyword::Default => begin_default(stack, line),
@@ -138,8 +143,8 @@ fn begin_class(
     let line = seen.line;
     match class {
         Class::BraceOpens => open_brace(alloc, stack, line),
-        Class::BraceCloses => Ok(close_brace(alloc, stack)),
-        Class::SemicolonEnds => Ok(Moved::Goes(Focus::Have(Stmt::Empty { line }))),
+        Class::BraceCloses => close_brace(alloc, stack),
+        Class::SemicolonEnds => have(alloc, stack, Stmt::Empty { line }),
         Class::ParenCloses => Ok(Moved::Refuses),
         Class::ExpressionBegins => begin_expression(alloc, Role::ToRun, seen),
         Class::TypeBegins(base) => Ok(Moved::Goes(Focus::Declaring(
@@ -148,7 +153,7 @@ fn begin_class(
             Names::new(alloc),
             Whose::OfStmt,
         ))),
-        Class::WordBegins(word) => begin_word(stack, word, line),
+        Class::WordBegins(word) => begin_word(alloc, stack, word, line),
     }
 }
 

@@ -1,13 +1,14 @@
 //! Declarations in statements, and the variables of a `foreach`.
-ghost use Rattle.std.specs.Prelude.{◌≡◌, [], Ok, Some, bytes_eq, codes};
+ghost use Rattle.std.specs.Prelude.{◌≡◌, [], IfOk, Ok, Some, bytes_eq, codes};
 ghost use Rattle.lp_tree.specs.StatementView.{local_of};
 ghost use Rattle.lp_tree.specs.declared.seen.Sort.TheVariants as sorts;
 ghost use Rattle.lp_parser_expr.specs.Machine.{Need as expr_need};
-ghost use Rattle.lp_parser_stmt.specs.Machine.{Declaring, Reading, Stack as Opens, declared as declared_for, each_named, each_stars as each_starred, mark_after_names, need_each, one_more_each, over as over_variables, step};
+ghost use Rattle.lp_parser_stmt.specs.Machine.{Declaring, OfFor, OfStmt, Reading, Stack as Opens, declared as declared_for, each_named, each_stars as each_starred, mark_after_names, need_each, one_more_each, over as over_variables, step};
 ghost use Rattle.lp_parser_stmt.specs.Moves.{Steps, each_state, state_of};
 ghost use Rattle.lp_parser_stmt.specs.View.{declarators_of, names_of, role_of, whose_of};
 
 use crate::class::mark_of;
+use crate::ending::boxed;
 use crate::focus::{EachAt, Focus, Moved};
 use crate::names::{Names, NamesMoved, names_step};
 use crate::role::{Optional, Role, Whose};
@@ -22,34 +23,54 @@ use lp_tree::token::Mark;
 use lp_tree::types::TypeName;
 use std::alloc::{AllocError, Global};
 
+// A declaration that is a statement.
+fn declared_alone(alloc: Global, local: Local) -> Result<Focus, AllocError>
+    ensures { IfOk result (λ f. (s : Opens) → state_of f s ≡ declared_for OfStmt (local_of local) s) }
+{
+    let whole = Stmt::Declares {
+        line: local.line,
+        local,
+    };
+    Ok(Focus::Have(boxed(alloc, whole)?))
+}
+
+// A declaration that is the first part of a `for`.
+fn declared_first(alloc: Global, line: u32, local: Local) -> Result<Focus, AllocError>
+    ensures { IfOk result (λ f. (s : Opens) → state_of f s ≡ declared_for (OfFor line) (local_of local) s) }
+{
+    let init = Box::new(alloc, Init::Declares(local))?;
+    Ok(Focus::Maybe(Optional::Test(line, init)))
+}
+
 // A declaration and its semicolon were read.
-fn declared(local: Local, whose: Whose) -> Focus
-    ensures { (s : Opens) → state_of result s ≡ declared_for (whose_of whose) (local_of local) s }
+fn declared(alloc: Global, local: Local, whose: Whose) -> Result<Focus, AllocError>
+    ensures { IfOk result (λ f. (s : Opens) → state_of f s ≡ declared_for (whose_of whose) (local_of local) s) }
 {
     match whose {
-        Whose::OfStmt => Focus::Have(Stmt::Declares {
-            line: local.line,
-            local,
-        }),
-        Whose::OfFor(line) => Focus::Maybe(Optional::Test(line, Init::Declares(local))),
+        Whose::OfStmt => declared_alone(alloc, local),
+        Whose::OfFor(line) => declared_first(alloc, line, local),
     }
 }
 
 // Behind whole names.
 fn after_names(
+    alloc: Global,
     mark: Option<Mark>,
     line: u32,
     base: Base,
     ones: Vec<Declarator>,
     whose: Whose,
-) -> Moved
-    ensures { (s : Opens) → Steps (mark_after_names mark line base (Some (declarators_of ones)) (whose_of whose) s) s (Ok result) }
+) -> Result<Moved, AllocError>
+    ensures { (s : Opens) → Steps (mark_after_names mark line base (Some (declarators_of ones)) (whose_of whose) s) s result }
 {
     match mark {
-        Some(Mark::Semicolon) => Moved::Goes(declared(Local { line, base, ones }, whose)),
+        Some(Mark::Semicolon) => {
+            let next = declared(alloc, Local { line, base, ones }, whose)?;
+            Ok(Moved::Goes(next))
+        }
         _ => {
             drop(ones);
-            Moved::Refuses
+            Ok(Moved::Refuses)
         }
     }
 }
@@ -68,7 +89,7 @@ pub fn declaring(
     let mark = mark_of(&seen.sort);
     match names_step(alloc, names, seen)? {
         NamesMoved::Goes(next) => Ok(Moved::Goes(Focus::Declaring(line, base, next, whose))),
-        NamesMoved::Ends(Some(ones)) => Ok(after_names(mark, line, base, ones, whose)),
+        NamesMoved::Ends(Some(ones)) => after_names(alloc, mark, line, base, ones, whose),
         NamesMoved::Ends(None) => Ok(Moved::Refuses),
     }
 }

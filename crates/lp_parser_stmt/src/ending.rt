@@ -19,9 +19,9 @@ use std::alloc::{AllocError, Global};
 #[derive(Drop)]
 pub enum Ended {
     /// It is whole with it.
-    Whole(Stmt),
+    Whole(Box<Stmt>),
     /// It is not, and both are as they were.
-    Stays(Frame, Stmt),
+    Stays(Frame, Box<Stmt>),
 }
 
 /// `switch (on) { parts }`
@@ -30,7 +30,7 @@ pub fn switch_of(switching: Switching) -> Stmt
 {
     Stmt::Switch {
         line: switching.line,
-        on: switching.on,
+        on: Box::into_inner(switching.on),
         parts: switching.done,
     }
 }
@@ -42,89 +42,135 @@ pub(crate) fn boxed(alloc: Global, stmt: Stmt) -> Result<Box<Stmt>, AllocError>
     Ok(Box::new(alloc, stmt)?)
 }
 
-// `do body while (test)`
-fn do_of(line: u32, body: Box<Stmt>, test: Expr) -> Stmt
-    ensures { stmt_of result ≡ DoWhile line (stmt_of body.value) (tree_of test) }
+/// `do body while (test);`
+pub fn end_do(
+    alloc: Global,
+    line: u32,
+    body: Box<Stmt>,
+    test: Box<Expr>,
+) -> Result<Box<Stmt>, AllocError>
+    ensures { IfOk result (λ t. stmt_of t.value ≡ DoWhile line (stmt_of body.value) (tree_of test.value)) }
 {
-    Stmt::DoWhile { line, body, test }
+    let test = Box::into_inner(test);
+    boxed(alloc, Stmt::DoWhile { line, body, test })
 }
 
-/// `do body while (test);`
-pub fn end_do(alloc: Global, line: u32, body: Stmt, test: Expr) -> Result<Stmt, AllocError>
-    ensures { IfOk result (λ t. stmt_of t ≡ DoWhile line (stmt_of body) (tree_of test)) }
+// An expression that may be missing, off the heap.
+pub(crate) fn unboxed(part: Option<Box<Expr>>) -> Option<Expr>
+    ensures { option_map tree_of result ≡ option_map (λ b. tree_of b.value) part }
 {
-    let body = boxed(alloc, body)?;
-    Ok(do_of(line, body, test))
+    match part {
+        None => None,
+        Some(part) => Some(Box::into_inner(part)),
+    }
 }
 
 // `if (test) yes`, where no `else` follows.
-fn end_yes(line: u32, test: Expr, yes: Box<Stmt>) -> Ended
-    ensures { Ends false (stmt_of yes.value) (IfYes line (tree_of test)) (Ok result) }
+fn end_yes(alloc: Global, line: u32, test: Box<Expr>, yes: Box<Stmt>) -> Result<Ended, AllocError>
+    ensures { Ends false (stmt_of yes.value) (IfYes line (tree_of test.value)) result }
 {
-    Ended::Whole(Stmt::If {
+    let test = Box::into_inner(test);
+    let whole = Stmt::If {
         line,
         test,
         yes,
         no: None,
-    })
+    };
+    Ok(Ended::Whole(boxed(alloc, whole)?))
 }
 
 // `if (test) yes else no`
-fn end_no(line: u32, test: Expr, yes: Box<Stmt>, no: Box<Stmt>) -> Ended
-    ensures { Ends false (stmt_of no.value) (IfNo line (tree_of test) (stmt_of yes.value)) (Ok result) }
+fn end_no(
+    alloc: Global,
+    line: u32,
+    test: Box<Expr>,
+    yes: Box<Stmt>,
+    no: Box<Stmt>,
+) -> Result<Ended, AllocError>
+    ensures { Ends false (stmt_of no.value) (IfNo line (tree_of test.value) (stmt_of yes.value)) result }
 {
-    Ended::Whole(Stmt::If {
+    let test = Box::into_inner(test);
+    let whole = Stmt::If {
         line,
         test,
         yes,
         no: Some(no),
-    })
+    };
+    Ok(Ended::Whole(boxed(alloc, whole)?))
 }
 
 // `while (test) body`
-fn end_while(line: u32, test: Expr, body: Box<Stmt>) -> Ended
-    ensures { Ends false (stmt_of body.value) (WhileBody line (tree_of test)) (Ok result) }
+fn end_while(
+    alloc: Global,
+    line: u32,
+    test: Box<Expr>,
+    body: Box<Stmt>,
+) -> Result<Ended, AllocError>
+    ensures { Ends false (stmt_of body.value) (WhileBody line (tree_of test.value)) result }
 {
-    Ended::Whole(Stmt::While { line, test, body })
+    let test = Box::into_inner(test);
+    Ok(Ended::Whole(boxed(alloc, Stmt::While { line, test, body })?))
 }
 
 // `for (init; test; step) body`
-fn end_for(line: u32, init: Init, test: Option<Expr>, step: Option<Expr>, body: Box<Stmt>) -> Ended
-    ensures { Ends false (stmt_of body.value) (ForBody line (init_of init) (option_map tree_of test) (option_map tree_of step)) (Ok result) }
+fn end_for(
+    alloc: Global,
+    line: u32,
+    init: Box<Init>,
+    test: Option<Box<Expr>>,
+    step: Option<Box<Expr>>,
+    body: Box<Stmt>,
+) -> Result<Ended, AllocError>
+    ensures { Ends false (stmt_of body.value) (ForBody line (init_of init.value) (option_map (λ b. tree_of b.value) test) (option_map (λ b. tree_of b.value) step)) result }
 {
-    Ended::Whole(Stmt::For {
+    let test = unboxed(test);
+    let step = unboxed(step);
+    let init = Box::into_inner(init);
+    let whole = Stmt::For {
         line,
         init,
         test,
         step,
         body,
-    })
+    };
+    Ok(Ended::Whole(boxed(alloc, whole)?))
 }
 
 // `foreach (first, second : over) body`
-fn end_each(line: u32, first: Each, second: Option<Each>, over: Expr, body: Box<Stmt>) -> Ended
-    ensures { Ends false (stmt_of body.value) (EachBody line first second (tree_of over)) (Ok result) }
+fn end_each(
+    alloc: Global,
+    line: u32,
+    first: Each,
+    second: Option<Each>,
+    over: Box<Expr>,
+    body: Box<Stmt>,
+) -> Result<Ended, AllocError>
+    ensures { Ends false (stmt_of body.value) (EachBody line first second (tree_of over.value)) result }
 {
-    Ended::Whole(Stmt::Foreach {
+    let over = Box::into_inner(over);
+    let whole = Stmt::Foreach {
         line,
         first,
         second,
         over,
         body,
-    })
+    };
+    Ok(Ended::Whole(boxed(alloc, whole)?))
 }
 
 // A whole statement in an open one, where no `else` follows.
-fn end_with(frame: Frame, stmt: Box<Stmt>) -> Ended
-    ensures { Ends false (stmt_of stmt.value) (frame_of frame) (Ok result) }
+fn end_with(alloc: Global, frame: Frame, stmt: Box<Stmt>) -> Result<Ended, AllocError>
+    ensures { Ends false (stmt_of stmt.value) (frame_of frame) result }
 {
     match frame {
-        Frame::IfYes(line, test) => end_yes(line, test, stmt),
-        Frame::IfNo(line, test, yes) => end_no(line, test, yes, stmt),
-        Frame::WhileBody(line, test) => end_while(line, test, stmt),
-        Frame::ForBody(line, init, test, step) => end_for(line, init, test, step, stmt),
-        Frame::EachBody(line, first, second, over) => end_each(line, first, second, over, stmt),
-        other => Ended::Stays(other, Box::into_inner(stmt)),
+        Frame::IfYes(line, test) => end_yes(alloc, line, test, stmt),
+        Frame::IfNo(line, test, yes) => end_no(alloc, line, test, yes, stmt),
+        Frame::WhileBody(line, test) => end_while(alloc, line, test, stmt),
+        Frame::ForBody(line, init, test, step) => end_for(alloc, line, init, test, step, stmt),
+        Frame::EachBody(line, first, second, over) => end_each(
+            alloc, line, first, second, over, stmt,
+        ),
+        other => Ok(Ended::Stays(other, stmt)),
     }
 }
 
@@ -140,17 +186,16 @@ fn ends(frame: &Frame, is_else: bool) -> bool
 }
 
 // A whole statement in an open one: that ends, where nothing but this was missing.
-fn end_frame(alloc: Global, frame: Frame, stmt: Stmt, is_else: bool) -> Result<Ended, AllocError>
-    ensures { Ends is_else (stmt_of stmt) (frame_of frame) result }
+fn end_frame(
+    alloc: Global,
+    frame: Frame,
+    stmt: Box<Stmt>,
+    is_else: bool,
+) -> Result<Ended, AllocError>
+    ensures { Ends is_else (stmt_of stmt.value) (frame_of frame) result }
 {
     if ends(&frame, is_else) {
-        return match boxed(alloc, stmt) {
-            Ok(stmt) => Ok(end_with(frame, stmt)),
-            Err(error) => {
-                drop(frame);
-                Err(error)
-            }
-        };
+        return end_with(alloc, frame, stmt);
     }
     Ok(Ended::Stays(frame, stmt))
 }
@@ -158,12 +203,12 @@ fn end_frame(alloc: Global, frame: Frame, stmt: Stmt, is_else: bool) -> Result<E
 // A whole statement, and whether it ends no other.
 #[derive(Drop)]
 struct Settling {
-    stmt: Stmt,
+    stmt: Box<Stmt>,
     is_last: bool,
 }
 
 // A statement that stays open again, with the whole one in it.
-fn stays(stack: &mut Stack, frame: Frame, stmt: Stmt) -> Result<Settling, AllocError>
+fn stays(stack: &mut Stack, frame: Frame, stmt: Box<Stmt>) -> Result<Settling, AllocError>
     ensures last { IfOk result (λ n. n.is_last ≡ true) }
     ensures stmt { IfOk result (λ n. n.stmt ≡ stmt) }
     ensures stack { OnOk result (stack_of stack.new ≡ Inside (frame_of frame) (stack_of stack.old)) }
@@ -185,12 +230,12 @@ fn settle_frame(
     alloc: Global,
     stack: &mut Stack,
     frame: Frame,
-    stmt: Stmt,
+    stmt: Box<Stmt>,
     is_else: bool,
 ) -> Result<Settling, AllocError>
-    ensures goes { IfOk result (λ n. n.is_last ≡ false → settled is_else (stmt_of stmt) (Inside (frame_of frame) (stack_of stack.old)) ≡ settled is_else (stmt_of n.stmt) (stack_of stack.new)) }
+    ensures goes { IfOk result (λ n. n.is_last ≡ false → settled is_else (stmt_of stmt.value) (Inside (frame_of frame) (stack_of stack.old)) ≡ settled is_else (stmt_of n.stmt.value) (stack_of stack.new)) }
     ensures below { IfOk result (λ n. n.is_last ≡ false → stack_of stack.new ≡ stack_of stack.old) }
-    ensures stops { IfOk result (λ n. n.is_last ≡ true → settled is_else (stmt_of stmt) (Inside (frame_of frame) (stack_of stack.old)) ≡ record { stmt = stmt_of n.stmt; stack = stack_of stack.new }) }
+    ensures stops { IfOk result (λ n. n.is_last ≡ true → settled is_else (stmt_of stmt.value) (Inside (frame_of frame) (stack_of stack.old)) ≡ record { stmt = stmt_of n.stmt.value; stack = stack_of stack.new }) }
 {
     match end_frame(alloc, frame, stmt, is_else)? {
         Ended::Whole(whole) => Ok(Settling {
@@ -205,12 +250,12 @@ fn settle_frame(
 fn settle_once(
     alloc: Global,
     stack: &mut Stack,
-    stmt: Stmt,
+    stmt: Box<Stmt>,
     is_else: bool,
 ) -> Result<Settling, AllocError>
-    ensures goes { IfOk result (λ n. n.is_last ≡ false → settled is_else (stmt_of stmt) (stack_of stack.old) ≡ settled is_else (stmt_of n.stmt) (stack_of stack.new)) }
+    ensures goes { IfOk result (λ n. n.is_last ≡ false → settled is_else (stmt_of stmt.value) (stack_of stack.old) ≡ settled is_else (stmt_of n.stmt.value) (stack_of stack.new)) }
     ensures below { IfOk result (λ n. n.is_last ≡ false → suc (depth (stack_of stack.new)) ≡ depth (stack_of stack.old)) }
-    ensures stops { IfOk result (λ n. n.is_last ≡ true → settled is_else (stmt_of stmt) (stack_of stack.old) ≡ record { stmt = stmt_of n.stmt; stack = stack_of stack.new }) }
+    ensures stops { IfOk result (λ n. n.is_last ≡ true → settled is_else (stmt_of stmt.value) (stack_of stack.old) ≡ record { stmt = stmt_of n.stmt.value; stack = stack_of stack.new }) }
 {
     match stack.pop() {
         None => Ok(Settling {
@@ -225,10 +270,10 @@ fn settle_once(
 pub fn settle(
     alloc: Global,
     stack: &mut Stack,
-    stmt: Stmt,
+    stmt: Box<Stmt>,
     is_else: bool,
-) -> Result<Stmt, AllocError>
-    ensures { IfOk result (λ u. settled is_else (stmt_of stmt) (stack_of stack.old) ≡ record { stmt = stmt_of u; stack = stack_of stack.new }) }
+) -> Result<Box<Stmt>, AllocError>
+    ensures { IfOk result (λ u. settled is_else (stmt_of stmt.value) (stack_of stack.old) ≡ record { stmt = stmt_of u.value; stack = stack_of stack.new }) }
 {
     let mut stmt = stmt;
     loop {

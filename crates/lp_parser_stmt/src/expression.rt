@@ -1,18 +1,18 @@
 //! Expressions in statements.
-ghost use Rattle.std.specs.Prelude.{◌≡◌, [], Ok, None, Some, if◌then◌else◌, option_map};
-ghost use Rattle.lp_tree.specs.StatementView.{init_of};
+ghost use Rattle.std.specs.Prelude.{◌≡◌, [], IfOk, Ok, None, Some, if◌then◌else◌, option_map};
+ghost use Rattle.lp_tree.specs.StatementView.{init_of, stmt_of};
 ghost use Rattle.lp_tree.specs.TreeView.{tree_of};
 ghost use Rattle.lp_parser_expr.specs.Machine.{Need as expr_need, step as expr_next};
 ghost use Rattle.lp_parser_expr.specs.Moves.{state_of as expr_state};
 ghost use Rattle.lp_parser_expr.specs.StackView.{stack_of as expr_stack};
 ghost use Rattle.lp_parser_stmt.specs.Endings.{is_end};
-ghost use Rattle.lp_parser_stmt.specs.Machine.{Inside, Maybe, Need, OnSwitch, OneOf, Reading, Stack as Opens, after_some, by_paren as ends_by_paren, filled as filled_by, first_declares as first_declared, init_of as init_made, maybe as maybe_given, reads, step, used as used_for};
+ghost use Rattle.lp_parser_stmt.specs.Machine.{First, Have, Inside, Maybe, Need, OnSwitch, OneOf, Reading, Stack as Opens, TestDo, ToRun, after_some, by_paren as ends_by_paren, filled as filled_by, first_declares as first_declared, init_of as init_made, maybe as maybe_given, reads, step, used as used_for};
 ghost use Rattle.lp_parser_stmt.specs.Moves.{Steps};
 ghost use Rattle.lp_parser_stmt.specs.StackView.{stack_of};
 ghost use Rattle.lp_parser_stmt.specs.View.{frame_of, optional_of, role_of};
 
 use crate::class::{Class, class_of, mark_of};
-use crate::ending::end_do;
+use crate::ending::{boxed, end_do, unboxed};
 use crate::focus::{Focus, Moved};
 use crate::frame::{Frame, Switching};
 use crate::names::Names;
@@ -49,8 +49,13 @@ pub(crate) fn opens(stack: &mut Stack, frame: Frame) -> Result<Moved, AllocError
 }
 
 // A `switch` up to its brace.
-fn opens_switch(alloc: Global, stack: &mut Stack, line: u32, on: Expr) -> Result<Moved, AllocError>
-    ensures { Steps (Some (used_for (OnSwitch line) (tree_of on) (stack_of stack.old))) (stack_of stack.new) result }
+fn opens_switch(
+    alloc: Global,
+    stack: &mut Stack,
+    line: u32,
+    on: Box<Expr>,
+) -> Result<Moved, AllocError>
+    ensures { Steps (Some (used_for (OnSwitch line) (tree_of on.value) (stack_of stack.old))) (stack_of stack.new) result }
 {
     stack.push(Frame::InSwitch(Switching {
         line,
@@ -61,25 +66,64 @@ fn opens_switch(alloc: Global, stack: &mut Stack, line: u32, on: Expr) -> Result
 }
 
 // The first part of a `for`, which is no declaration.
-fn init_from(of: Option<Expr>) -> Init
-    ensures { init_of result ≡ init_made (option_map tree_of of) }
+fn init_from(alloc: Global, of: Option<Box<Expr>>) -> Result<Box<Init>, AllocError>
+    ensures { IfOk result (λ i. init_of i.value ≡ init_made (option_map (λ b. tree_of b.value) of)) }
 {
-    match of {
+    let init = match of {
         None => Init::Nothing,
-        Some(of) => Init::Runs(of),
-    }
+        Some(of) => Init::Runs(Box::into_inner(of)),
+    };
+    Ok(Box::new(alloc, init)?)
+}
+
+/// A statement is whole.
+pub(crate) fn have(alloc: Global, stack: &Stack, stmt: Stmt) -> Result<Moved, AllocError>
+    ensures { Steps (Some (Have (stmt_of stmt) (stack_of stack.now))) (stack_of stack.now) result }
+{
+    Ok(Moved::Goes(Focus::Have(boxed(alloc, stmt)?)))
+}
+
+// The first part of a `for` was read.
+fn first_filled(
+    alloc: Global,
+    stack: &Stack,
+    line: u32,
+    value: Option<Box<Expr>>,
+) -> Result<Moved, AllocError>
+    ensures { Steps (Some (filled_by (First line) (option_map (λ b. tree_of b.value) value) (stack_of stack.now))) (stack_of stack.now) result }
+{
+    let init = init_from(alloc, value)?;
+    Ok(Moved::Goes(Focus::Maybe(Optional::Test(line, init))))
+}
+
+// The test of a `do` was read.
+fn test_do(
+    alloc: Global,
+    stack: &Stack,
+    line: u32,
+    body: Box<Stmt>,
+    tree: Box<Expr>,
+) -> Result<Moved, AllocError>
+    ensures { Steps (Some (used_for (TestDo line (stmt_of body.value)) (tree_of tree.value) (stack_of stack.now))) (stack_of stack.now) result }
+{
+    Ok(Moved::Goes(Focus::EndStmt(end_do(alloc, line, body, tree)?)))
 }
 
 /// An optional part was read, or passed over, with the mark behind it.
-pub fn filled(stack: &mut Stack, part: Optional, value: Option<Expr>) -> Result<Moved, AllocError>
-    ensures { Steps (Some (filled_by (optional_of part) (option_map tree_of value) (stack_of stack.old))) (stack_of stack.new) result }
+pub fn filled(
+    alloc: Global,
+    stack: &mut Stack,
+    part: Optional,
+    value: Option<Box<Expr>>,
+) -> Result<Moved, AllocError>
+    ensures { Steps (Some (filled_by (optional_of part) (option_map (λ b. tree_of b.value) value) (stack_of stack.old))) (stack_of stack.new) result }
 {
     match part {
-        Optional::Value(line) => Ok(Moved::Goes(Focus::Have(Stmt::Return { line, value }))),
-        Optional::First(line) => Ok(Moved::Goes(Focus::Maybe(Optional::Test(
-            line,
-            init_from(value),
-        )))),
+        Optional::Value(line) => {
+            let value = unboxed(value);
+            have(alloc, stack, Stmt::Return { line, value })
+        }
+        Optional::First(line) => first_filled(alloc, stack, line, value),
         Optional::Test(line, init) => Ok(Moved::Goes(Focus::Maybe(Optional::Step(
             line, init, value,
         )))),
@@ -87,26 +131,30 @@ pub fn filled(stack: &mut Stack, part: Optional, value: Option<Expr>) -> Result<
     }
 }
 
+// A statement that is an expression was read.
+fn run(alloc: Global, stack: &Stack, tree: Box<Expr>) -> Result<Moved, AllocError>
+    ensures { Steps (Some (used_for ToRun (tree_of tree.value) (stack_of stack.now))) (stack_of stack.now) result }
+{
+    let line = tree.line();
+    let of = Box::into_inner(tree);
+    have(alloc, stack, Stmt::Run { line, of })
+}
+
 // An expression and the mark that ends it were read.
-fn used(alloc: Global, stack: &mut Stack, role: Role, tree: Expr) -> Result<Moved, AllocError>
-    ensures { Steps (Some (used_for (role_of role) (tree_of tree) (stack_of stack.old))) (stack_of stack.new) result }
+fn used(alloc: Global, stack: &mut Stack, role: Role, tree: Box<Expr>) -> Result<Moved, AllocError>
+    ensures { Steps (Some (used_for (role_of role) (tree_of tree.value) (stack_of stack.old))) (stack_of stack.new) result }
 {
     match role {
-        Role::ToRun => Ok(Moved::Goes(Focus::Have(Stmt::Run {
-            line: tree.line(),
-            of: tree,
-        }))),
+        Role::ToRun => run(alloc, stack, tree),
         Role::TestIf(line) => opens(stack, Frame::IfYes(line, tree)),
         Role::TestWhile(line) => opens(stack, Frame::WhileBody(line, tree)),
-        Role::TestDo(line, body) => Ok(Moved::Goes(Focus::EndStmt(end_do(
-            alloc, line, body, tree,
-        )?))),
+        Role::TestDo(line, body) => test_do(alloc, stack, line, body, tree),
         Role::OverEach(line, first, second) => opens(
             stack,
             Frame::EachBody(line, first, second, tree),
         ),
         Role::OnSwitch(line) => opens_switch(alloc, stack, line, tree),
-        Role::OneOf(part) => filled(stack, part, Some(tree)),
+        Role::OneOf(part) => filled(alloc, stack, part, Some(tree)),
     }
 }
 
@@ -138,10 +186,10 @@ fn after(
     alloc: Global,
     stack: &mut Stack,
     role: Role,
-    tree: Expr,
+    tree: Box<Expr>,
     mark: Option<Mark>,
 ) -> Result<Moved, AllocError>
-    ensures { Steps (after_some mark (role_of role) (Some (tree_of tree)) (stack_of stack.old)) (stack_of stack.new) result }
+    ensures { Steps (after_some mark (role_of role) (Some (tree_of tree.value)) (stack_of stack.old)) (stack_of stack.new) result }
 {
     if ends_by(mark, &role) {
         return used(alloc, stack, role, tree);
@@ -212,11 +260,16 @@ fn is_last(part: &Optional) -> bool
 }
 
 // A mark where an optional part may be missing, which ends it or not.
-fn skips(stack: &mut Stack, part: Optional, is_end: bool) -> Result<Moved, AllocError>
+fn skips(
+    alloc: Global,
+    stack: &mut Stack,
+    part: Optional,
+    is_end: bool,
+) -> Result<Moved, AllocError>
     ensures { Steps (if is_end then Some (filled_by (optional_of part) None (stack_of stack.old)) else None) (stack_of stack.new) result }
 {
     if is_end {
-        return filled(stack, part, None);
+        return filled(alloc, stack, part, None);
     }
     drop(part);
     Ok(Moved::Refuses)
@@ -236,11 +289,11 @@ fn maybe_class(
     match class {
         Class::SemicolonEnds => {
             drop(seen);
-            skips(stack, part, !is_last)
+            skips(alloc, stack, part, !is_last)
         }
         Class::ParenCloses => {
             drop(seen);
-            skips(stack, part, is_last)
+            skips(alloc, stack, part, is_last)
         }
         Class::TypeBegins(base) => Ok(first_declares(alloc, part, base, seen.line)),
         Class::ExpressionBegins => begin_expression(alloc, Role::OneOf(part), seen),

@@ -51,11 +51,11 @@ pub enum Focus {
     /// A statement, or what ends the statements here.
     Need,
     /// A token behind this statement.
-    Have(Stmt),
+    Have(Box<Stmt>),
     /// This mark, and then a statement or what ends the statements here.
     Awaits(Mark),
     /// The semicolon that ends this statement.
-    EndStmt(Stmt),
+    EndStmt(Box<Stmt>),
     /// A parenthesis.
     Opens(Opening),
     /// A token of an expression, or behind it.

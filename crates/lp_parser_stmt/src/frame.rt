@@ -14,7 +14,7 @@ pub struct Switching {
     /// Its line.
     pub line: u32,
     /// What the labels are compared with.
-    pub on: Expr,
+    pub on: Box<Expr>,
     /// The labels and statements that are whole.
     pub done: Vec<Part<Stmt>>,
 }
@@ -27,17 +27,17 @@ pub enum Frame {
     /// `switch (a) { b; ..`
     InSwitch(Switching),
     /// `if (a) ..`
-    IfYes(u32, Expr),
+    IfYes(u32, Box<Expr>),
     /// `if (a) b else ..`
-    IfNo(u32, Expr, Box<Stmt>),
+    IfNo(u32, Box<Expr>, Box<Stmt>),
     /// `while (a) ..`
-    WhileBody(u32, Expr),
+    WhileBody(u32, Box<Expr>),
     /// `do ..`
     DoBody(u32),
     /// `for (a; b; c) ..`
-    ForBody(u32, Init, Option<Expr>, Option<Expr>),
+    ForBody(u32, Box<Init>, Option<Box<Expr>>, Option<Box<Expr>>),
     /// `foreach (a, b : c) ..`
-    EachBody(u32, Each, Option<Each>, Expr),
+    EachBody(u32, Each, Option<Each>, Box<Expr>),
 }
 
 /// An open statement, with what stands round a statement in it.

@@ -12,7 +12,7 @@ ghost use Rattle.lp_parser_stmt.specs.View.{names_of, optional_of, stmts_of, swi
 
 use crate::begin::begin;
 use crate::declaration::{declaring, variable};
-use crate::ending::{boxed, settle};
+use crate::ending::settle;
 use crate::expression::{maybe, opens, reading};
 use crate::focus::{EachAt, Focus, Moved, Opening};
 use crate::frame::{Frame, Switching};
@@ -53,38 +53,18 @@ fn is_mark(mark: Mark, sort: &Sort) -> bool
     }
 }
 
-// An `else` behind the first statement of an `if`.
-fn begin_else(
-    alloc: Global,
-    stack: &mut Stack,
-    line: u32,
-    test: Expr,
-    yes: Stmt,
-) -> Result<Moved, AllocError>
-    ensures { Steps (Some (Need (Inside (IfNo line (tree_of test) (stmt_of yes)) (stack_of stack.old)))) (stack_of stack.new) result }
-{
-    match boxed(alloc, yes) {
-        Ok(yes) => opens(stack, Frame::IfNo(line, test, yes)),
-        Err(error) => {
-            drop(test);
-            Err(error)
-        }
-    }
-}
-
 // A token behind the first statement of an `if`.
 fn after_yes(
-    alloc: Global,
     stack: &mut Stack,
     line: u32,
-    test: Expr,
-    yes: Stmt,
+    test: Box<Expr>,
+    yes: Box<Stmt>,
     sort: Sort,
 ) -> Result<Moved, AllocError>
-    ensures { Steps (after_first sort line (tree_of test) (stmt_of yes) (stack_of stack.old)) (stack_of stack.new) result }
+    ensures { Steps (after_first sort line (tree_of test.value) (stmt_of yes.value) (stack_of stack.old)) (stack_of stack.new) result }
 {
     match sort {
-        Sort::Reserved(Keyword::Else) => begin_else(alloc, stack, line, test, yes),
+        Sort::Reserved(Keyword::Else) => opens(stack, Frame::IfNo(line, test, yes)),
         other => {
             drop(other);
             drop(test);
@@ -95,8 +75,8 @@ fn after_yes(
 }
 
 // The `while` behind the statement of a `do`.
-fn after_body(line: u32, body: Stmt, sort: Sort) -> Moved
-    ensures { (s : Opens) → Steps (after_done sort line (stmt_of body) s) s (Ok result) }
+fn after_body(line: u32, body: Box<Stmt>, sort: Sort) -> Moved
+    ensures { (s : Opens) → Steps (after_done sort line (stmt_of body.value) s) s (Ok result) }
 {
     match sort {
         Sort::Reserved(Keyword::While) => Moved::Goes(Focus::Opens(Opening::Test(Role::TestDo(
@@ -114,13 +94,13 @@ fn after_body(line: u32, body: Stmt, sort: Sort) -> Moved
 fn next_of_function(
     alloc: Global,
     stack: &mut Stack,
-    stmt: Stmt,
+    stmt: Box<Stmt>,
     seen: Seen,
 ) -> Result<Moved, AllocError>
     requires { stack_of stack.old ≡ InFunction (done_of stack.old) }
-    ensures { Steps (acted seen (stmt_of stmt) (stack_of stack.old)) (stack_of stack.new) result }
+    ensures { Steps (acted seen (stmt_of stmt.value) (stack_of stack.old)) (stack_of stack.new) result }
 {
-    stack.add(stmt)?;
+    stack.add(Box::into_inner(stmt))?;
     begin(alloc, stack, seen)
 }
 
@@ -129,12 +109,12 @@ fn more_of_block(
     stack: &mut Stack,
     line: u32,
     done: Vec<Stmt>,
-    stmt: Stmt,
+    stmt: Box<Stmt>,
 ) -> Result<(), AllocError>
-    ensures { OnOk result (stack_of stack.new ≡ Inside (InBlock line (stmts_of done ++ stmt_of stmt ∷ [])) (stack_of stack.old)) }
+    ensures { OnOk result (stack_of stack.new ≡ Inside (InBlock line (stmts_of done ++ stmt_of stmt.value ∷ [])) (stack_of stack.old)) }
 {
     let mut done = done;
-    done.push(stmt)?;
+    done.push(Box::into_inner(stmt))?;
     stack.push(Frame::InBlock(line, done))
 }
 
@@ -144,10 +124,10 @@ fn next_of_block(
     stack: &mut Stack,
     line: u32,
     done: Vec<Stmt>,
-    stmt: Stmt,
+    stmt: Box<Stmt>,
     seen: Seen,
 ) -> Result<Moved, AllocError>
-    ensures { Steps (acted seen (stmt_of stmt) (Inside (InBlock line (stmts_of done)) (stack_of stack.old))) (stack_of stack.new) result }
+    ensures { Steps (acted seen (stmt_of stmt.value) (Inside (InBlock line (stmts_of done)) (stack_of stack.old))) (stack_of stack.new) result }
 {
     more_of_block(stack, line, done, stmt)?;
     begin(alloc, stack, seen)
@@ -158,24 +138,24 @@ fn next_of_switch(
     alloc: Global,
     stack: &mut Stack,
     switching: Switching,
-    stmt: Stmt,
+    stmt: Box<Stmt>,
     seen: Seen,
 ) -> Result<Moved, AllocError>
-    ensures { Steps (acted seen (stmt_of stmt) (Inside (InSwitch (switching_of switching)) (stack_of stack.old))) (stack_of stack.new) result }
+    ensures { Steps (acted seen (stmt_of stmt.value) (Inside (InSwitch (switching_of switching)) (stack_of stack.old))) (stack_of stack.new) result }
 {
-    more_of_switch(stack, switching, Part::Stmt(stmt))?;
+    more_of_switch(stack, switching, Part::Stmt(Box::into_inner(stmt)))?;
     begin(alloc, stack, seen)
 }
 
 // A token behind a statement that it does not end.
-fn act(alloc: Global, stack: &mut Stack, stmt: Stmt, seen: Seen) -> Result<Moved, AllocError>
-    ensures { Steps (acted seen (stmt_of stmt) (stack_of stack.old)) (stack_of stack.new) result }
+fn act(alloc: Global, stack: &mut Stack, stmt: Box<Stmt>, seen: Seen) -> Result<Moved, AllocError>
+    ensures { Steps (acted seen (stmt_of stmt.value) (stack_of stack.old)) (stack_of stack.new) result }
 {
     match stack.pop() {
         None => next_of_function(alloc, stack, stmt, seen),
         Some(Frame::InBlock(line, done)) => next_of_block(alloc, stack, line, done, stmt, seen),
         Some(Frame::InSwitch(switching)) => next_of_switch(alloc, stack, switching, stmt, seen),
-        Some(Frame::IfYes(line, test)) => after_yes(alloc, stack, line, test, stmt, seen.sort),
+        Some(Frame::IfYes(line, test)) => after_yes(stack, line, test, stmt, seen.sort),
         Some(Frame::DoBody(line)) => Ok(after_body(line, stmt, seen.sort)),
         other => {
             drop(other);
@@ -186,8 +166,13 @@ fn act(alloc: Global, stack: &mut Stack, stmt: Stmt, seen: Seen) -> Result<Moved
 }
 
 // A token behind a statement.
-fn behind(alloc: Global, stack: &mut Stack, stmt: Stmt, seen: Seen) -> Result<Moved, AllocError>
-    ensures { Steps (next_state (Have (stmt_of stmt) (stack_of stack.old)) seen) (stack_of stack.new) result }
+fn behind(
+    alloc: Global,
+    stack: &mut Stack,
+    stmt: Box<Stmt>,
+    seen: Seen,
+) -> Result<Moved, AllocError>
+    ensures { Steps (next_state (Have (stmt_of stmt.value) (stack_of stack.old)) seen) (stack_of stack.new) result }
 {
     let whole = settle(alloc, stack, stmt, is_else(&seen.sort))?;
     act(alloc, stack, whole, seen)
@@ -204,8 +189,8 @@ fn awaited(mark: Mark, sort: Sort) -> Moved
 }
 
 // The semicolon that ends a statement.
-fn end_stmt(stmt: Stmt, sort: Sort) -> Moved
-    ensures { (s : Opens) → Steps (if token_is_mark Semicolon sort then Some (Have (stmt_of stmt) s) else None) s (Ok result) }
+fn end_stmt(stmt: Box<Stmt>, sort: Sort) -> Moved
+    ensures { (s : Opens) → Steps (if token_is_mark Semicolon sort then Some (Have (stmt_of stmt.value) s) else None) s (Ok result) }
 {
     if is_mark(Mark::Semicolon, &sort) {
         return Moved::Goes(Focus::Have(stmt));

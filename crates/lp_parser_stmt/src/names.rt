@@ -139,12 +139,12 @@ fn end_value(
     line: u32,
     stars: u32,
     name: Chars,
-    value: Expr,
+    value: Box<Expr>,
     mark: Option<Mark>,
 ) -> Result<NamesMoved, AllocError>
-    ensures { NamesMoveOn (value_ended mark (Some (tree_of value)) (declarators_of done) line stars name) (Some (more_names (declarators_of done) line stars name (Some (tree_of value)))) result }
+    ensures { NamesMoveOn (value_ended mark (Some (tree_of value.value)) (declarators_of done) line stars name) (Some (more_names (declarators_of done) line stars name (Some (tree_of value.value)))) result }
 {
-    let done = with_name(done, line, stars, name, Some(value))?;
+    let done = with_name(done, line, stars, name, Some(Box::into_inner(value)))?;
     match mark {
         Some(Mark::Comma) => Ok(NamesMoved::Goes(Names::AtOne(done))),
         _ => Ok(NamesMoved::Ends(Some(done))),

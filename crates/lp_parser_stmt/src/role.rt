@@ -10,9 +10,9 @@ pub enum Optional {
     /// The first part of a `for`.
     First(u32),
     /// Its second.
-    Test(u32, Init),
+    Test(u32, Box<Init>),
     /// Its third.
-    Step(u32, Init, Option<Expr>),
+    Step(u32, Box<Init>, Option<Box<Expr>>),
 }
 
 /// What an expression is read for, with the statement's line and its parts before it.
@@ -25,7 +25,7 @@ pub enum Role {
     /// `while (..`
     TestWhile(u32),
     /// `do body while (..`
-    TestDo(u32, Stmt),
+    TestDo(u32, Box<Stmt>),
     /// `foreach (first, second : ..`
     OverEach(u32, Each, Option<Each>),
     /// `switch (..`

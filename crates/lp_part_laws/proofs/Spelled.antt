@@ -3,13 +3,12 @@ use Rattle.std.proofs.Common.{◌≡◌, ℕ, zero, suc, arith, refl, sym, ◌�
 use Rattle.std.specs.Prelude.{◌+◌, ◌<◌, slice_get, if◌then◌else◌, map, IsAscii}
 use Rattle.lp_tree.specs.Units.{ItemTree, Inherit, Proto, Fun, Var}
 use Rattle.lp_values.specs.declared.id.ProgId.{ProgId}
-use Rattle.lp_code.specs.declared.program.RawProgram.{RawProgram}
 use Rattle.lp_instr.specs.EfunList.{is_name}
 use Rattle.lp_language.specs.World.{Version, World, new_world, no_version, version_at}
 use Rattle.lp_language.specs.Resolve.{Heritage, Heir, Heritages, NoParent, OneParent, Found, Function, each_heritage, found_in, heritage_within, moved, shown, or_else, resolve, resolve_last, own_function, part_count, parts_before}
 use Rattle.lp_layout.specs.Layout.{AreSpelled, declared_names}
 use Rattle.lp_layout.proofs.RowLaid.{same_name}
-use Rattle.lp_part_laws.specs.Versions.{AreCompiled, AreSpelledTrees, IsSpelledTree, NamesAreSpelled, heritage_in}
+use Rattle.lp_part_laws.specs.Versions.{AreSpelledTrees, IsSpelledTree, NamesAreSpelled, heritage_in}
 use Rattle.lp_part_laws.proofs.Lists.{is_below, there_below}
 
 own_spelled : (is : List ItemTree) (w : List ℕ) (f : Function) → AreSpelled (declared_names is) → own_function is w ≡ Some f → IsAscii w

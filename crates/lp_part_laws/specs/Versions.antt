@@ -10,7 +10,7 @@ use Rattle.lp_language.specs.Resolve.{Found, Heir, Heritage, Heritages, NoParent
 use Rattle.lp_layout.specs.Layout.{IsSpelled}
 use Rattle.lp_isa.specs.Programs.{FunRow, Program, StandsForVersion}
 use Rattle.lp_inherit.specs.Heirs.{IsNumbered, IsUnambiguous, table, tables}
-use Rattle.lp_codegen_layout.specs.Laid.{row_names}
+use Rattle.lp_plan_laws.specs.Laid.{row_names}
 use Rattle.lp_plan_laws.specs.Tables.{IsNamedOnce, table_row}
 
 -- the inheritance tree of a version tells of the versions alone

@@ -3,7 +3,7 @@ use Rattle.std.specs.Prelude.{◌≡◌, map}
 use Rattle.lp_instr.specs.Code.{Code}
 use Rattle.lp_language.specs.Resolve.{Heritage, parents_of, version_of}
 use Rattle.lp_inherit.specs.Heirs.{IsNumbered, IsUnambiguous, table, tables}
-use Rattle.lp_codegen_expr.specs.Names.{Lays}
+use Rattle.lp_codegen_layout.specs.Names.{Lays}
 use Rattle.lp_codegen_layout.specs.Laid.{plan_of, row_names}
 
 -- The layout of a version's tables, its parents' tables and the simul efuns with which it was compiled, is that of the version

@@ -16,7 +16,7 @@ use crate::law::law_one_outcome;
 use crate::macros::{Body, Kinds, Macro};
 use crate::out::Out;
 use crate::place::Place;
-use crate::reader::Reader;
+use crate::reader::{Reader, out_of as reader_out};
 use crate::row::Row;
 use crate::source::Open;
 use crate::stack::Stack;
@@ -134,25 +134,31 @@ fn opened(alloc: Global, path: Row<u8>, tokens: Vec<Token>) -> Result<Expander, 
         included: None,
         last_line: last,
     })?;
-    Ok(Expander {
-        reader: Reader {
-            purpose: Purpose::File,
-            reading: Reading::Plain,
-            waiting: Stack::new(alloc),
-            out: Out::new(alloc),
-            put_in: 0,
-        },
-        files,
-        table: predefined(alloc)?,
-        pragmas: Pragmas::new(),
-    })
+    match predefined(alloc) {
+        Ok(table) => Ok(Expander {
+            reader: Reader {
+                purpose: Purpose::File,
+                reading: Reading::Plain,
+                waiting: Stack::new(alloc),
+                out: Out::new(alloc),
+                put_in: 0,
+            },
+            files,
+            table,
+            pragmas: Pragmas::new(),
+        }),
+        Err(error) => {
+            drop(files);
+            Err(error)
+        }
+    }
 }
 
 // What came out.
 fn out_of(alloc: Global, reader: Reader) -> Result<Row<Word>, AllocError>
     ensures { IfOk result (λ r. r ≡ reverse reader.out) }
 {
-    reader.out.into_row(alloc)
+    reader_out(reader).into_row(alloc)
 }
 
 // What came out of the files, and their pragmas.

@@ -12,7 +12,7 @@ ghost use Rattle.lp_preproc.specs.declared.state.Use.{Use as AnyUse};
 use crate::law::law_falls;
 use crate::out::Out;
 use crate::place::Place;
-use crate::reader::Reader;
+use crate::reader::{Reader, out_of};
 use crate::reading::{Read, take_end, take_word};
 use crate::result::put_result;
 use crate::row::Row;
@@ -53,11 +53,15 @@ pub fn expand_list(
         law_falls();
         match turn(alloc, place, table, &mut reader, least) {
             Ok(true) => {
-                let out = reader.out.into_row(alloc)?;
-                return Ok((out, reader.put_in));
+                let put_in = reader.put_in;
+                let out = out_of(reader).into_row(alloc)?;
+                return Ok((out, put_in));
             }
             Ok(false) => {}
-            Err(stop) => return Err(stop),
+            Err(stop) => {
+                drop(reader);
+                return Err(stop);
+            }
         }
     }
 }

@@ -134,3 +134,19 @@ pub fn put_back(reader: &mut Reader, word: &Word, words: Row<Word>) -> Result<()
     reader.waiting.push_row(words)?;
     Ok(())
 }
+
+/// What came out.
+pub fn out_of(reader: Reader) -> Out
+    ensures { result ≡ reader.out }
+{
+    let Reader {
+        purpose: _,
+        reading,
+        waiting,
+        out,
+        put_in: _,
+    } = reader;
+    drop(reading);
+    drop(waiting);
+    out
+}

@@ -166,9 +166,16 @@ fn same_within(reader: &mut Reader, arguments: Arguments, word: Word) -> Result<
     ensures { (c : Setting) (ms : AnyTable) (k : Standing) → Reads c (argument_word (state_of reader.old ms k) arguments arguments.nested word) result (state_of reader.new ms k) }
 {
     let mut arguments = arguments;
-    arguments.push(word)?;
-    set_reading(reader, Reading::Within(arguments));
-    Ok(Read::Went)
+    match arguments.push(word) {
+        Ok(()) => {
+            set_reading(reader, Reading::Within(arguments));
+            Ok(Read::Went)
+        }
+        Err(error) => {
+            drop(arguments);
+            Err(Stop::from(error))
+        }
+    }
 }
 
 // One pair of parentheses more within an argument.
@@ -176,9 +183,16 @@ fn open_within(reader: &mut Reader, arguments: Arguments, word: Word) -> Result<
     ensures { (c : Setting) (ms : AnyTable) (k : Standing) → Reads c (argument_word (state_of reader.old ms k) arguments (arguments.nested + 1) word) result (state_of reader.new ms k) }
 {
     let mut arguments = arguments;
-    arguments.open(word)?;
-    set_reading(reader, Reading::Within(arguments));
-    Ok(Read::Went)
+    match arguments.open(word) {
+        Ok(()) => {
+            set_reading(reader, Reading::Within(arguments));
+            Ok(Read::Went)
+        }
+        Err(error) => {
+            drop(arguments);
+            Err(Stop::from(error))
+        }
+    }
 }
 
 // One pair of parentheses less within an argument.
@@ -187,9 +201,16 @@ fn inner_close(reader: &mut Reader, arguments: Arguments, word: Word) -> Result<
     ensures { (c : Setting) (ms : AnyTable) (k : Standing) → Reads c (argument_word (state_of reader.old ms k) arguments (arguments.nested - 1) word) result (state_of reader.new ms k) }
 {
     let mut arguments = arguments;
-    arguments.close(word)?;
-    set_reading(reader, Reading::Within(arguments));
-    Ok(Read::Went)
+    match arguments.close(word) {
+        Ok(()) => {
+            set_reading(reader, Reading::Within(arguments));
+            Ok(Read::Went)
+        }
+        Err(error) => {
+            drop(arguments);
+            Err(Stop::from(error))
+        }
+    }
 }
 
 // The arguments are whole.
@@ -221,9 +242,16 @@ fn next_argument(alloc: Global, reader: &mut Reader, arguments: Arguments) -> Re
     ensures { (c : Setting) (ms : AnyTable) (k : Standing) → Reads c (Goes (record (state_of reader.old ms k) { reading = Reading.Within (record arguments { whole = all_of arguments; current = [] }) })) result (state_of reader.new ms k) }
 {
     let mut arguments = arguments;
-    arguments.part(alloc)?;
-    set_reading(reader, Reading::Within(arguments));
-    Ok(Read::Went)
+    match arguments.part(alloc) {
+        Ok(()) => {
+            set_reading(reader, Reading::Within(arguments));
+            Ok(Read::Went)
+        }
+        Err(error) => {
+            drop(arguments);
+            Err(Stop::from(error))
+        }
+    }
 }
 
 // A comma parts arguments, or stands within one.

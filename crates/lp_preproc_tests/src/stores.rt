@@ -1,6 +1,16 @@
 //! Tests of the store.
-use crate::told::store_of;
+use lp_files::store::Store;
+use std::alloc::Global;
 use std::test::Fail;
+
+/// A store of these files.
+fn store_of(alloc: Global, files: &[(&str, &str)]) -> Result<Store, Fail> {
+    let mut store = Store::new(alloc);
+    for (path, text) in files {
+        store.write(path, text.as_bytes())?;
+    }
+    Ok(store)
+}
 
 #[test]
 fn store(rt: HostRuntime) -> Result<(), Fail> {

@@ -1,5 +1,5 @@
 -- What is planned, carried out.
-use Rattle.std.proofs.Common.{◌≡◌, ◌∙◌, ◌++◌, ◌∷◌, [], ◌+◌, ◌<◌, ◌≤◌, ℕ, pos, Bool, true, false, List, Option, All, refl, ap, sym, subst, map, drop, length, if◌then◌else◌, inl, inr, ◌⊎◌, Result, Ok, Err}
+use Rattle.std.proofs.Common.{◌≡◌, ◌∙◌, ◌++◌, ◌∷◌, [], ◌+◌, ◌<◌, ◌≤◌, ℕ, pos, Bool, true, false, List, Option, All, refl, ap, sym, subst, map, drop, length, if◌then◌else◌, inl, inr, ◌⊎◌, Ok, Err}
 use Rattle.std.proofs.lemmas.Bool.{cases_Bool, le-ltb, lt-ltb, ltb-false, ltb-true}
 use Rattle.std.specs.Prelude.{nat_lt}
 use Rattle.std.proofs.lemmas.List.Elements.{All-drop}
@@ -22,7 +22,7 @@ use Rattle.lp_language.specs.Course.{State}
 use Rattle.lp_language.specs.Operations.{cells_of, living, with_world}
 use Rattle.lp_meaning.specs.Askers.{told}
 use Rattle.lp_meaning.specs.EfunArguments.{int_arg, opened_args, text_arg}
-use Rattle.lp_meaning.specs.WorldEfuns.{Deed, Yields, changes, has_function, is_flag, with_call_out, with_sentence, with_waiting, zero}
+use Rattle.lp_meaning.specs.WorldEfuns.{Deed, Yields, changes, is_flag, with_call_out, with_sentence, with_waiting, zero}
 use Rattle.lp_world.specs.Closed.{IsClosed}
 use Rattle.lp_world.specs.Connecting.{Connecting}
 use Rattle.lp_world.specs.Laws as laws
@@ -38,7 +38,7 @@ use Rattle.lp_efuns.specs.declared.caller.Turn.{Turn}
 use Rattle.lp_efuns.specs.Deeds.{IsDone, deed_done}
 use Rattle.lp_efuns.specs.Turns.{At, Setting}
 use Rattle.lp_putting.specs.Plans.{StandsStill}
-use Rattle.lp_putting.specs.Plans.{AnswersPlan, CarriesPlan, IsWaiting, plan_deed, plan_done}
+use Rattle.lp_putting.specs.Plans.{AnswersPlan, CarriesPlan, IsWaiting, plan_done}
 use Rattle.lp_putting.specs.declared.plans.Plan.{Plan}
 use Rattle.lp_putting.specs.declared.plans.Plan.TheVariants as plans
 use Rattle.lp_putting.proofs.Standing.{at_call_out, at_sentence, at_waiting, awaiting, waiting_more, closed_outputs, closed_waiting, sentence, still_outputs}

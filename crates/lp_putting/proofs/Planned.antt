@@ -19,7 +19,6 @@ use Rattle.lp_language.specs.Operations.{cells_of, living, with_world}
 use Rattle.lp_meaning.specs.Askers.{told}
 use Rattle.lp_meaning.specs.EfunArguments.{bad, int_arg, opened_args, text_arg}
 use Rattle.lp_meaning.specs.WorldEfuns.{Deed, Yields, call_out_after, changes, deed, free_connection, has_function, holder_for, is_awaited, is_flag, one, unless_awaited, with_call_out, with_sentence, with_waiting, zero}
-use Rattle.lp_meaning.specs.WorldSteps.{connection_of}
 use Rattle.lp_timers.specs.Timers.{max_call_outs}
 use Rattle.lp_places.specs.Places.{Lying, Shadowing, in_reach}
 use Rattle.lp_places.specs.Stands as places
@@ -28,7 +27,6 @@ use Rattle.lp_world.specs.Stands as stands
 use Rattle.lp_world.specs.declared.connections.Waiting.{Waiting}
 use Rattle.lp_world.specs.declared.live.Live.{Live}
 use Rattle.lp_world.proofs.Keeping.{live_same}
-use Rattle.lp_efuns.specs.declared.answer.Did.{Did}
 use Rattle.lp_efuns.specs.declared.answer.Did.TheVariants as did
 use Rattle.lp_efuns.specs.declared.caller.Caller.{Caller}
 use Rattle.lp_efuns.specs.declared.caller.Turn.{Turn}

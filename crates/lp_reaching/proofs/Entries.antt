@@ -8,7 +8,7 @@ use Rattle.lp_code.specs.declared.program.RawProgram.{RawProgram}
 use Rattle.lp_places.specs.Places.{Shadowing}
 use Rattle.lp_swapfile.specs.Device.{Bytes}
 use Rattle.lp_language.specs.World as world
-use Rattle.lp_language.specs.World.{IsSameObject, IsSameVersion, Keeps, World, is_live, no_object}
+use Rattle.lp_language.specs.World.{IsSameObject, Keeps, World, is_live, no_object}
 use Rattle.lp_language.proofs.Kept.{keeps_trans, same_object}
 use Rattle.lp_meaning.specs.WorldSteps.{entered}
 use Rattle.lp_world.specs.declared.live.Live.{Live}

@@ -9,3 +9,7 @@ pub mod initialising;
 pub mod marking;
 pub mod outside;
 pub mod reached;
+
+pub use lp_initialisers::bringing::bring_program;
+pub use lp_initialisers::looking::{part_version, program_of};
+pub use lp_initialisers::rows::initialiser_row;

@@ -14,7 +14,6 @@ use Rattle.lp_world.specs.Stands.{Stands}
 use Rattle.lp_asking.specs.Endings.{IsPlace, IsPlaceIf, IsStop}
 use Rattle.lp_asking.specs.declared.ending.Place.{Place}
 use Rattle.lp_asking.specs.declared.ending.Stop.{Stop}
-use Rattle.lp_targets.specs.Brought.{program_at}
 
 -- the name of a function of a program that is in memory
 abbrev pub function_in : Option RawProgram → ℕ → Option (List ℕ)

@@ -1,7 +1,7 @@
 -- The versions that are kept, by the rows of the state and by the world.
-use Rattle.std.proofs.Common.{◌≡◌, ◌∙◌, ◌⊎◌, inl, inr, ◌<◌, ◌≤◌, ℕ, zero, suc, Bool, true, false, List, [], ◌∷◌, ◌++◌, Option, Some, None, IsSome, refl, sym, ap, subst, arith, length, map, nat_eq, replicate, if◌then◌else◌, unwrap_or, ◌+◌, cond}
+use Rattle.std.proofs.Common.{◌≡◌, ◌∙◌, ◌⊎◌, inl, inr, ◌≤◌, ℕ, zero, suc, Bool, true, false, List, [], ◌∷◌, ◌++◌, Option, Some, None, IsSome, refl, sym, ap, subst, arith, length, map, nat_eq, replicate, if◌then◌else◌, unwrap_or, ◌+◌, cond}
 use Rattle.std.proofs.lemmas.List.{length-replicate}
-use Rattle.std.specs.Prelude.{⊤, Contains, filter, slice_get, slice_index_or, ◌||◌}
+use Rattle.std.specs.Prelude.{⊤, Contains, filter, slice_get, ◌||◌}
 use Rattle.std.specs.List.{list_any}
 use Rattle.std.proofs.lemmas.Bool.{eqb-true}
 use Rattle.lp_values.specs.declared.id.ProgId.{ProgId}
@@ -10,14 +10,14 @@ use Rattle.lp_code.specs.declared.program.RawProgram.{RawProgram}
 use Rattle.lp_swapfile.specs.Device.{Bytes}
 use Rattle.lp_language.specs.World as world
 use Rattle.lp_language.specs.World.{World, new_world, version_at}
-use Rattle.lp_meaning.specs.IdleAndKept.{IsKept, by_child, by_object, kept_below, kept_number, kept_versions, live_number}
+use Rattle.lp_meaning.specs.IdleAndKept.{IsKept, by_child, by_object, kept_below, kept_versions}
 use Rattle.lp_world.specs.Rows.{is_live_row, row_at}
-use Rattle.lp_world.specs.Stands.{AreObjects, ObjectIs, Stands}
+use Rattle.lp_world.specs.Stands.{ObjectIs, Stands}
 use Rattle.lp_world.specs.declared.live.Live.{Live}
 use Rattle.lp_world.specs.declared.objects.Object.{Object}
 use Rattle.lp_world.specs.declared.versions.Version.{Version}
 use Rattle.lp_report.specs.Needed.{is_marked, kept_rows, live_versions, parents_in, version_if_live, with_marks}
-use Rattle.lp_report.specs.Report.{IsReportOf, Reports, is_out_at, is_out_object}
+use Rattle.lp_report.specs.Report.{Reports, is_out_at, is_out_object}
 use Rattle.lp_report.specs.Report.{IsKept as IsKeptOf}
 use Rattle.lp_report.specs.declared.keeping.Kept.{Kept}
 use Rattle.lp_report.proofs.Marks.{AreMarked, marked_more, marks_len, none_marked}

@@ -1,6 +1,6 @@
 -- Marks, and the versions that are needed by them.
-use Rattle.std.proofs.Common.{◌≡◌, ◌∙◌, ◌<◌, ◌≤◌, ◌+◌, ℕ, zero, suc, Bool, true, false, cond, take, List, [], ◌∷◌, ◌++◌, Option, Some, None, refl, sym, ap, subst, arith, length, get_or, set, replicate, drop, nat_eq, if◌then◌else◌, append-nil, append_assoc}
-use Rattle.std.specs.Prelude.{◌||◌, ◌≢◌, nat_lt}
+use Rattle.std.proofs.Common.{◌≡◌, ◌∙◌, ◌<◌, ◌≤◌, ◌+◌, ℕ, zero, suc, Bool, true, false, cond, take, List, [], ◌∷◌, ◌++◌, Option, None, refl, sym, ap, subst, arith, length, get_or, set, replicate, drop, nat_eq, if◌then◌else◌, append-nil, append_assoc}
+use Rattle.std.specs.Prelude.{◌||◌, nat_lt}
 use Rattle.std.specs.List.{list_any}
 use Rattle.std.proofs.Math.Bool.{or-true}
 use Rattle.std.proofs.lemmas.Bool.{eq-eqb, eqb-true, ltb-false}

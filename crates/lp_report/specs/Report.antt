@@ -1,5 +1,5 @@
 -- The numbers of a report: how much is live and kept, and how much of that is out.
-use Rattle.std.specs.Prelude.{◌≡◌, ℕ, List, length, filter, Bool, true, false, ◌&&◌, Option, Some, None}
+use Rattle.std.specs.Prelude.{◌≡◌, List, length, filter, Bool, true, false, ◌&&◌, Option, Some, None}
 use Rattle.lp_values.specs.declared.id.ProgId.{ProgId}
 use Rattle.lp_code.specs.declared.program.RawProgram.{RawProgram}
 use Rattle.lp_swapfile.specs.Device.{Bytes}

@@ -1,5 +1,5 @@
 -- A closed state stays closed where a version or an object came, or was taken back.
-use Rattle.std.proofs.Common.{◌≡◌, ◌∙◌, ◌++◌, ℕ, All, Bool, true, false, List, [], ◌∷◌, Option, Some, None, Result, Ok, Err, OnOk, OnErr, ap, sym, subst, inl, inr, unwrap_or, length}
+use Rattle.std.proofs.Common.{◌≡◌, ◌∙◌, ◌++◌, ℕ, All, Bool, true, false, List, [], ◌∷◌, Option, Some, None, Result, Ok, Err, OnOk, OnErr, ap, sym, subst, unwrap_or, length}
 use Rattle.std.specs.Bool.{OnTrue}
 use Rattle.lp_cells.specs.Cells.{IsThere}
 use Rattle.lp_values.specs.declared.id.ObjId.{ObjId}

@@ -96,7 +96,7 @@ pub range_still : (w : World) (a b : EndKind) (x y z : Value) (s : State) → Is
 unfolding range
 range_still w a b x y z s h =
     let e = part_between (seen s x) (bound_of a (seen s y)) (bound_of b (seen s z)) in
-    effect_still w (range_before (seen s x)) (range_after (living s) (cells_of s) e) e s h
+    effect_still w (range_before (seen s x) (seen s y) (seen s z)) (range_after (living s) (cells_of s) e) e s h
 
 pub stepped_still : (w : World) (st : Step) (x : Value) (s : State) → IsStill w s.world → EndsStill w (stepped st x s)
 unfolding stepped

@@ -1,4 +1,5 @@
-//! What no clause says of the lines of telnet streams, of records and of saved text.
+//! What no clause says of the lines of telnet streams and of records. Saved and restored text is shown by the cases
+//! `saved_text` and `restored_text`.
 //!
 //! The tests stand here and not beside the code, so that no library is proved twice.
 #![tactic(auto)]
@@ -7,7 +8,3 @@
 mod lines;
 #[cfg(test)]
 mod records;
-#[cfg(test)]
-mod restored;
-#[cfg(test)]
-mod saved;

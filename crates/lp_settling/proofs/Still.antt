@@ -27,7 +27,7 @@ use Rattle.lp_meaning.specs.Askers.{Asker, told}
 use Rattle.lp_meaning.specs.ComputingEfuns.{computes}
 use Rattle.lp_meaning.specs.EfunArguments.{arg, first_bad, int_arg, object_arg, opened_args, price_after, price_before, text_arg, value_arg}
 use Rattle.lp_meaning.specs.Questions.{Group, Calls, Computes, OfFiles, OfWorld, acting, deed_end, efun_in, group, kinds_looked_at}
-use Rattle.lp_meaning.specs.WorldEfuns.{Deed, Throws, Yields, changes, deed, enabled, exec, failing, living_object, m_delete, object_or_this, of_live, of_object, pairs_left, random, remove_interactive, seconds_left, set_heart_beat, with_beats, with_generator, with_shadows_less, without_one}
+use Rattle.lp_meaning.specs.WorldEfuns.{Deed, Throws, Yields, changes, deed, enabled, exec, living_object, m_delete, object_or_this, of_live, of_object, pairs_left, random, remove_interactive, seconds_left, set_heart_beat, with_beats, with_generator, with_shadows_less, without_one}
 use Rattle.lp_meaning.specs.WorldEfuns as world
 use Rattle.lp_meaning.specs.WorldSteps.{connection_of, is_connected, with_holder, without_connection}
 use Rattle.lp_efuns.specs.Plain.{is_deed, is_plain, is_plain_in}

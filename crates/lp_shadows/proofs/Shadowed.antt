@@ -1,5 +1,5 @@
 -- An object begins to shadow another one, in the state and in the world.
-use Rattle.std.proofs.Common.{◌≡◌, ◌∙◌, Bool, true, false, not, ◌&&◌, is_some, List, Option, Some, None, Result, Ok, Err, refl, ap, sym, subst}
+use Rattle.std.proofs.Common.{◌≡◌, ◌∙◌, Bool, true, false, not, ◌&&◌, is_some, List, Option, Some, None, Result, Ok, Err, refl, ap, sym}
 use Rattle.std.specs.Prelude.{is_ok}
 use Rattle.lp_values.specs.declared.id.ObjId.{ObjId}
 use Rattle.lp_places.specs.declared.fault.ShadowNo.{ShadowNo as ShadowFault}

@@ -82,7 +82,7 @@ ranged a live whole stack0 stack1 stack2 frame at2 old new m from to d n h (x, f
     on_end_leads To (λ b st. on_end from st (λ a st. on_one st (λ x rest. push_end (range from to x a b m.state) (m.place + 1) m.catches rest))) to base m.stack stack0 mid end h.sits.lies eb fine
     (λ ops l f. on_end_leads To (λ a st. on_one st (λ x rest. push_end (range from to x a end m.state) (m.place + 1) m.catches rest)) from base ops mid (stack1 ++ x ∷ []) first l ea f
     (λ ops l f. on_one_leads To (λ x rest. push_end (range from to x first end m.state) (m.place + 1) m.catches rest) base ops (stack1 ++ x ∷ []) stack1 x l refl f
-    (λ ops l f. led a live whole stack0 stack1 stack2 frame at2 old new m ops (range_before (seen m.state x)) (range_after (living m.state) live.cells effect) (range_after (living m.state) m.state.world.cells effect) effect d n h l works
+    (λ ops l f. led a live whole stack0 stack1 stack2 frame at2 old new m ops (range_before (seen m.state x) (seen m.state first) (seen m.state end)) (range_after (living m.state) live.cells effect) (range_after (living m.state) m.state.world.cells effect) effect d n h l works
     (λ q. ap (λ k. price_after operations.Range k) (sizes_range (living m.state) live.cells (seen m.state x) (bound_of from (seen m.state first)) (bound_of to (seen m.state end)) m.state.world.cells h.stands.cells)) t)))
   where
     base : List Value
@@ -98,7 +98,7 @@ ranged a live whole stack0 stack1 stack2 frame at2 old new m from to d n h (x, f
     same v i = operand_same (living m.state) live.cells m.state.world.cells v h.stands.cells i
 
     WorksFor : (ObjId → Bool) → Opened → Opened → Opened → Type 0
-    WorksFor l p q r = Works (range_before p) (part_between p (bound_of from q) (bound_of to r)) (range_after l live.cells (part_between p (bound_of from q) (bound_of to r))) live.cells old d whole new
+    WorksFor l p q r = Works (range_before p q r) (part_between p (bound_of from q) (bound_of to r)) (range_after l live.cells (part_between p (bound_of from q) (bound_of to r))) live.cells old d whole new
 
     works : WorksFor (living m.state) (seen m.state x) (seen m.state first) (seen m.state end)
     works =
@@ -111,7 +111,7 @@ ranged a live whole stack0 stack1 stack2 frame at2 old new m from to d n h (x, f
 
 pub ranges_ok : (from to : EndKind) (old mid low new : List Value) (objects : List (Option Row)) (part whole : Store) (before after : ℕ) (x a b : Value) (r : Result Worked StepFault)
     → EndOn to old mid b → EndOn from mid low a → low ≡ new ++ x ∷ [] → All (IsThere part) old
-    → IfOk r (λ d. Works (range_before (operand (live_in objects) part x)) (part_between (operand (live_in objects) part x) (bound_of from (operand (live_in objects) part a)) (bound_of to (operand (live_in objects) part b)))
+    → IfOk r (λ d. Works (range_before (operand (live_in objects) part x) (operand (live_in objects) part a) (operand (live_in objects) part b)) (part_between (operand (live_in objects) part x) (bound_of from (operand (live_in objects) part a)) (bound_of to (operand (live_in objects) part b)))
     (range_after (live_in objects) part (part_between (operand (live_in objects) part x) (bound_of from (operand (live_in objects) part a)) (bound_of to (operand (live_in objects) part b)))) part before d whole after)
     → IfOk r (λ d. RangesOn from to old new objects part before d whole after)
 ranges_ok from to old mid low new objects part whole before after x a b (Ok d) eb ea e t w =
@@ -127,6 +127,13 @@ cut_there from to part old mid low new x a b eb ea e t =
     let high = end_there part to old mid b eb t in
     let more = end_there part from mid low a ea high.0 in
     All-head (IsThere part) x [] (split_all (IsThere part) new (x ∷ []) (subst (All (IsThere part)) e more.0)).1
+
+-- and so are its ends
+pub first_there : (from to : EndKind) (part : Store) (old mid low : List Value) (a b : Value) → EndOn to old mid b → EndOn from mid low a → All (IsThere part) old → IsThere part a
+first_there from to part old mid low a b eb ea t = (end_there part from mid low a ea (end_there part to old mid b eb t).0).1
+
+pub last_there : (to : EndKind) (part : Store) (old mid : List Value) (b : Value) → EndOn to old mid b → All (IsThere part) old → IsThere part b
+last_there to part old mid b eb t = (end_there part to old mid b eb t).1
 
 -- a state whose cells changed so is fit, with what is left of the stack
 pub ranged_fit : (live : Live) (whole : Store) (from to : EndKind) (old mid new : List Value) (x a b : Value) → EndOn to old mid b → EndOn from mid (new ++ x ∷ []) a → KeepsThere live.cells whole → cells.IsClosed whole → IsFit live old → IsFit (record live { cells = whole }) new

@@ -5,7 +5,7 @@ use Rattle.std.proofs.lemmas.List.Elements.{All-head}
 use Rattle.lp_tree.specs.declared.expr.Edge.{Edge}
 use Rattle.lp_tree.specs.declared.expr.Edge.TheVariants.{Front, Back}
 use Rattle.lp_cells.specs.Cells as cells_of_all
-use Rattle.lp_cells.specs.Cells.{IsThere, KeepsThere, Store, as_items, as_pairs, content_at, content_set, item_set, items_of, pairs_at}
+use Rattle.lp_cells.specs.Cells.{IsThere, KeepsThere, Store, as_pairs, content_at, content_set, item_set, items_of, pairs_at}
 use Rattle.lp_cells.specs.Mapping.{pairs_put}
 use Rattle.lp_cells.specs.declared.content.Content.{Content}
 use Rattle.lp_cells.specs.declared.content.Content.TheVariants as contents

@@ -27,5 +27,5 @@ number_of _ = None
 -- a range of a value, with its start and its end, where they are given, above it
 abbrev pub RangesOn : EndKind → EndKind → List Value → List Value → List (Option Object) → Store → ℕ → Worked → Store → ℕ → Type 0
 RangesOn from to old new objects cells budget0 d cells1 budget1 = (x : Value) × (a : Value) × (b : Value) × (mid : List Value) × EndOn to old mid b × EndOn from mid (new ++ x ∷ []) a × IsThere cells x × IsThere cells a × IsThere cells b
-    × Works (range_before (operand (live_in objects) cells x)) (part_between (operand (live_in objects) cells x) (bound_of from (operand (live_in objects) cells a)) (bound_of to (operand (live_in objects) cells b)))
+    × Works (range_before (operand (live_in objects) cells x) (operand (live_in objects) cells a) (operand (live_in objects) cells b)) (part_between (operand (live_in objects) cells x) (bound_of from (operand (live_in objects) cells a)) (bound_of to (operand (live_in objects) cells b)))
     (range_after (live_in objects) cells (part_between (operand (live_in objects) cells x) (bound_of from (operand (live_in objects) cells a)) (bound_of to (operand (live_in objects) cells b)))) cells budget0 d cells1 budget1

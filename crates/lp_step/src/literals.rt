@@ -13,7 +13,7 @@ ghost use Rattle.lp_values.specs.Limits.{max_items};
 
 use crate::fault::StepFault;
 use crate::next::Next;
-use crate::stack::{pay, push};
+use crate::stack::{pay, pay_wide, push};
 use crate::worked::Worked;
 use lp_cells::cells::Cells;
 use lp_cells::fault::CellFault;
@@ -29,18 +29,6 @@ use lp_world::frame::Frame;
 use lp_world::live::Live;
 use lp_world::objects::ObjectTable;
 use std::alloc::{AllocError, Global};
-
-/// Pays a price that may be above 64 bits, or tells that the budget is spent: then nothing is left of it.
-fn pay_wide(budget: &mut u64, n: u128) -> bool
-    ensures { Pays n budget.old result budget.new }
-{
-    if (*budget as u128) < n {
-        *budget = 0;
-        return false;
-    }
-    *budget -= n as u64;
-    true
-}
 
 /// Takes the n topmost values.
 fn take_top(stack: &mut Vec<Value>, n: usize) -> Result<Vec<Value>, AllocError>

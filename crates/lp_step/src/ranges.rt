@@ -13,7 +13,7 @@ ghost use Rattle.lp_step.specs.Works.{Acts, IsWorkedThere, Works};
 
 use crate::fault::StepFault;
 use crate::next::Next;
-use crate::stack::{pay, pop, push};
+use crate::stack::{pay, pay_wide, pop, push};
 use crate::worked::Worked;
 use lp_cells::cells::Cells;
 use lp_instr::instr::{EndKind, Instr};
@@ -120,9 +120,10 @@ fn act<L: Living>(
     }
 }
 
-/// A range with its prices.
+/// A range with its prices, of which the first is given.
 fn operate<L: Living>(
     alloc: Global,
+    before: u128,
     x: &Value,
     from: Option<End>,
     to: Option<End>,
@@ -132,12 +133,11 @@ fn operate<L: Living>(
 ) -> Result<Worked, StepFault>
     requires there { IsThere cells.old x.now }
     requires closed { IsClosed cells.old }
-    ensures works { IfOk result (λ d. Works (prices.range_before (operand (L.live live.now) cells.old x.now)) (part_between (operand (L.live live.now) cells.old x.now) from to) (prices.range_after (L.live live.now) cells.old (part_between (operand (L.live live.now) cells.old x.now) from to)) cells.old budget.old d cells.new budget.new) }
+    ensures works { IfOk result (λ d. Works before (part_between (operand (L.live live.now) cells.old x.now) from to) (prices.range_after (L.live live.now) cells.old (part_between (operand (L.live live.now) cells.old x.now) from to)) cells.old budget.old d cells.new budget.new) }
     ensures stay { KeepsThere cells.old cells.new }
     ensures keeps { IfOk result (λ d. IsClosed cells.new × IsWorkedThere cells.new d) }
 {
-    let before = range_before(x, cells, live);
-    let is_paid = pay(budget, before);
+    let is_paid = pay_wide(budget, before);
     if is_paid {
         return act(alloc, x, from, to, cells, live, budget);
     }
@@ -157,14 +157,17 @@ fn operate_ends<L: Living>(
     budget: &mut u64,
 ) -> Result<Worked, StepFault>
     requires there { IsThere cells.old x.now }
+    requires first { IsThere cells.old a.now }
+    requires last { IsThere cells.old b.now }
     requires closed { IsClosed cells.old }
-    ensures works { IfOk result (λ d. Works (prices.range_before (operand (L.live live.now) cells.old x.now)) (part_between (operand (L.live live.now) cells.old x.now) (bound_of from (operand (L.live live.now) cells.old a.now)) (bound_of to (operand (L.live live.now) cells.old b.now))) (prices.range_after (L.live live.now) cells.old (part_between (operand (L.live live.now) cells.old x.now) (bound_of from (operand (L.live live.now) cells.old a.now)) (bound_of to (operand (L.live live.now) cells.old b.now)))) cells.old budget.old d cells.new budget.new) }
+    ensures works { IfOk result (λ d. Works (prices.range_before (operand (L.live live.now) cells.old x.now) (operand (L.live live.now) cells.old a.now) (operand (L.live live.now) cells.old b.now)) (part_between (operand (L.live live.now) cells.old x.now) (bound_of from (operand (L.live live.now) cells.old a.now)) (bound_of to (operand (L.live live.now) cells.old b.now))) (prices.range_after (L.live live.now) cells.old (part_between (operand (L.live live.now) cells.old x.now) (bound_of from (operand (L.live live.now) cells.old a.now)) (bound_of to (operand (L.live live.now) cells.old b.now)))) cells.old budget.old d cells.new budget.new) }
     ensures stay { KeepsThere cells.old cells.new }
     ensures keeps { IfOk result (λ d. IsClosed cells.new × IsWorkedThere cells.new d) }
 {
+    let before = range_before(x, a, b, cells, live);
     let first = end_of(from, a, live);
     let last = end_of(to, b, live);
-    operate(alloc, x, first, last, cells, live, budget)
+    operate(alloc, before, x, first, last, cells, live, budget)
 }
 
 /// Takes the ends that are given and a value from the stack, and makes the range.

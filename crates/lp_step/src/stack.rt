@@ -77,3 +77,15 @@ pub fn pay(budget: &mut u64, n: u64) -> bool
     *budget -= n;
     true
 }
+
+/// Pays a price that may be above 64 bits, or tells that the budget is spent: then nothing is left of it.
+pub fn pay_wide(budget: &mut u64, n: u128) -> bool
+    ensures { Pays n budget.old result budget.new }
+{
+    if (*budget as u128) < n {
+        *budget = 0;
+        return false;
+    }
+    *budget -= n as u64;
+    true
+}

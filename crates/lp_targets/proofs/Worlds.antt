@@ -19,7 +19,7 @@ use Rattle.lp_world.specs.declared.versions.ProgramState.{ProgramState}
 use Rattle.lp_world.specs.declared.versions.ProgramState.TheVariants as programs_of
 use Rattle.lp_world.specs.declared.versions.Version.{Version}
 use Rattle.lp_world.specs.Rows.{row_at, variables_at, variables_in, variables_of, version_state}
-use Rattle.lp_step_laws.specs.Running.{HasVariables}
+use Rattle.lp_frames.specs.Running.{HasVariables}
 use Rattle.lp_world.specs.Stands.{IsOutline, IsTarget, ProgramIs, Stands, reached_of, slot_in, slot_of_part}
 use Rattle.lp_world.specs.Targets.{answer_at}
 use Rattle.lp_code.specs.declared.tables.Slot.{Slot}

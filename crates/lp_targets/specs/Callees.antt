@@ -24,7 +24,7 @@ use Rattle.lp_world.specs.Targets.{answer_at}
 use Rattle.lp_world.specs.declared.versions.Version.{Version}
 use Rattle.lp_world.specs.Rows.{row_at, variables_at}
 use Rattle.lp_world.specs.Stands.{Stands}
-use Rattle.lp_step_laws.specs.Running.{HasVariables}
+use Rattle.lp_frames.specs.Running.{HasVariables}
 use Rattle.lp_frames.specs.declared.entry.Callee.{Callee}
 use Rattle.lp_part_laws.specs.Versions.{AreCompiled, FitsVersion}
 use Rattle.lp_part_laws.specs.Parts.{IsFunctionAt, IsInText}

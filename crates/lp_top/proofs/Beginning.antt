@@ -14,8 +14,8 @@ use Rattle.lp_world.specs.declared.live.Live.{Live}
 use Rattle.lp_world.specs.Closed.{IsClosed}
 use Rattle.lp_driver.specs.Driving.{HasStarted, HasNoMaster as has_none, IsAtRest, StartsAs}
 use Rattle.lp_script.specs.Reader.{Reading, GoesOn, Reads}
-use Rattle.lp_vm.specs.declared.fault.VmFault.{VmFault}
-use Rattle.lp_vm.specs.declared.fault.VmFault.TheVariants as faults
+use Rattle.lp_driver.specs.VmFault.{VmFault}
+use Rattle.lp_driver.specs.VmFault.TheVariants as faults
 use Rattle.lp_top.specs.declared.opening.Opening.{Opening}
 use Rattle.lp_top.specs.declared.status.Status.{Status}
 use Rattle.lp_top.specs.declared.status.Status.TheVariants as ends

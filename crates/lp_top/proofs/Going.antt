@@ -20,7 +20,6 @@ use Rattle.lp_world.specs.declared.live.Live.{Live}
 use Rattle.lp_driver.specs.Driving.{TurnsAs}
 use Rattle.lp_driver.specs.Turning.{MayCome}
 use Rattle.lp_script.specs.Reader.{Reading, GoesOn, HasGiven, IsAfter, IsInput, Reads}
-use Rattle.lp_script.specs.declared.phase.Phase.TheVariants.{Giving}
 use Rattle.lp_script.specs.declared.phase.Phase.TheVariants as phases
 use Rattle.lp_script.specs.declared.phase.Ending.TheVariants.{Whole}
 use Rattle.lp_top.specs.declared.status.Status.{Status}

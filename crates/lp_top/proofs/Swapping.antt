@@ -8,9 +8,9 @@ use Rattle.lp_residence.specs.declared.answers.SwapCause.{SwapCause}
 use Rattle.lp_residence.specs.declared.answers.SwapCause.TheVariants.{Read, Changed}
 use Rattle.lp_world.specs.declared.live.Live.{Live}
 use Rattle.lp_driver.specs.Tidying.{TurnTells}
-use Rattle.lp_vm.specs.Causes.{Tells, read_fault}
-use Rattle.lp_vm.specs.declared.fault.VmFault.{VmFault}
-use Rattle.lp_vm.specs.declared.fault.VmFault.TheVariants as faults
+use Rattle.lp_driver.specs.Causes.{Tells, read_fault}
+use Rattle.lp_driver.specs.VmFault.{VmFault}
+use Rattle.lp_driver.specs.VmFault.TheVariants as faults
 use Rattle.lp_top.specs.declared.status.Status.{Status}
 use Rattle.lp_top.specs.declared.status.Status.TheVariants as ends
 use Rattle.lp_top.specs.Check.{IsCheckEnd}

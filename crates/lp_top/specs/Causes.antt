@@ -8,8 +8,8 @@ use Rattle.lp_residence.specs.declared.answers.EnterFault.TheVariants as enter
 use Rattle.lp_residence.specs.declared.answers.SwapCause.TheVariants.{Read, Changed}
 use Rattle.lp_targets.specs.Brought.{IsFaultOf}
 use Rattle.lp_world.specs.declared.live.Live.{Live}
-use Rattle.lp_vm.specs.declared.fault.VmFault.{VmFault}
-use Rattle.lp_vm.specs.declared.fault.VmFault.TheVariants as faults
+use Rattle.lp_driver.specs.VmFault.{VmFault}
+use Rattle.lp_driver.specs.VmFault.TheVariants as faults
 use Rattle.lp_top.specs.declared.status.Status.{Status}
 use Rattle.lp_top.specs.declared.status.Status.TheVariants.{Done, BadScript, InputFault, OutputFault, SwapFault, NoMemory}
 

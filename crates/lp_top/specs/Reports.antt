@@ -1,5 +1,5 @@
 -- The line of a report, behind a transcript.
-use Rattle.std.specs.Prelude.{◌≡◌, ◌⊎◌, List, [], ◌++◌, ℕ, Bool, true, false, Option, codes}
+use Rattle.std.specs.Prelude.{◌≡◌, List, [], ◌++◌, ℕ, Bool, true, false, Option, codes}
 use Rattle.std.specs.Fmt.{decimal}
 use Rattle.lp_events.specs.declared.item.Item.{Item}
 use Rattle.lp_events.specs.declared.out.Out.{Out}

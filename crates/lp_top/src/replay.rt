@@ -15,13 +15,13 @@ use crate::conclude::conclude;
 use crate::opening::{Opening, next_item, open};
 use crate::status::{Faults, Status};
 use lp_asking::truth::Truthful;
+use lp_driver::VmFault;
 use lp_driver::driver::{StartFault, start, turn};
 use lp_events::event::Event;
 use lp_events::item::Item;
 use lp_events::out::Outs;
 use lp_io::{Sink, Source};
 use lp_script::{Reader, write_outs};
-use lp_vm::fault::VmFault;
 use lp_world::live::Live;
 use std::alloc::Global;
 

@@ -46,18 +46,3 @@ impl Chars {
         })
     }
 }
-
-#[cfg(test)]
-mod tests {
-    use super::*;
-    use std::test::Fail;
-
-    #[test]
-    fn copies(rt: HostRuntime) -> Result<(), Fail> {
-        let text = Chars::from_vec(rt.alloc(), ['a', '\u{e9}'].to_vec(rt.alloc())?)?;
-        let twin = text.copy()?;
-        drop(text);
-        assert_eq!(rt; twin.as_slice(), ['a', '\u{e9}'].as_slice());
-        Ok(())
-    }
-}

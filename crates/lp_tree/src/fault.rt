@@ -85,15 +85,3 @@ impl FaultKind {
         }
     }
 }
-
-#[cfg(test)]
-mod tests {
-    use super::*;
-
-    #[test]
-    fn texts(rt: HostRuntime) {
-        assert_eq!(rt; FaultKind::NoFile.text(), "no such file");
-        assert_eq!(rt; FaultKind::Lex.text(), "bad token");
-        assert_eq!(rt; FaultKind::Aborted.text(), "load aborted");
-    }
-}

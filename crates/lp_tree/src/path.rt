@@ -42,18 +42,3 @@ impl FilePath {
         })
     }
 }
-
-#[cfg(test)]
-mod tests {
-    use super::*;
-    use std::test::Fail;
-
-    #[test]
-    fn spells(rt: HostRuntime) -> Result<(), Fail> {
-        let path = FilePath::from_str(rt.alloc(), "/obj/box.c")?;
-        assert_eq!(rt; path.as_str(), "/obj/box.c");
-        let text = String::from_str(rt.alloc(), "/a")?;
-        assert_eq!(rt; FilePath::from_string(text).as_str(), "/a");
-        Ok(())
-    }
-}

@@ -41,15 +41,3 @@ impl Pragmas {
         }
     }
 }
-
-#[cfg(test)]
-mod tests {
-    use super::*;
-
-    #[test]
-    fn none_at_first(rt: HostRuntime) {
-        let pragmas = Pragmas::new();
-        assert_eq!(rt; pragmas.types, TypeMode::Weak);
-        assert!(rt; !pragmas.no_clone && !pragmas.no_inherit && !pragmas.no_shadow);
-    }
-}

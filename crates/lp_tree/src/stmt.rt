@@ -183,39 +183,3 @@ impl Stmt {
         }
     }
 }
-
-#[cfg(test)]
-mod tests {
-    use super::*;
-    use std::test::Fail;
-
-    #[test]
-    fn lines(rt: HostRuntime) -> Result<(), Fail> {
-        let body = Box::new(rt.alloc(), Stmt::Empty { line: 9 })?;
-        let test = Expr::Int { line: 8, value: 1 };
-        let stmts = [
-            Stmt::Block {
-                line: 1,
-                stmts: Vec::new(rt.alloc()),
-            },
-            Stmt::Empty { line: 2 },
-            Stmt::Break { line: 3 },
-            Stmt::Continue { line: 4 },
-            Stmt::Return {
-                line: 5,
-                value: None,
-            },
-            Stmt::While {
-                line: 6,
-                test,
-                body,
-            },
-        ];
-        let mut line = 0;
-        for stmt in &stmts {
-            line = if line < 9 { line + 1 } else { 0 };
-            assert_eq!(rt; stmt.line(), line);
-        }
-        Ok(())
-    }
-}

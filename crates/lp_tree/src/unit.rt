@@ -82,24 +82,3 @@ impl Item {
         }
     }
 }
-
-#[cfg(test)]
-mod tests {
-    use super::*;
-    use std::test::Fail;
-
-    #[test]
-    fn lines(rt: HostRuntime) -> Result<(), Fail> {
-        let path = Chars::from_vec(rt.alloc(), Vec::new(rt.alloc()))?;
-        let inherit = Item::Inherit { line: 7, path };
-        assert_eq!(rt; inherit.line(), 7);
-        let var = Item::Var {
-            line: 8,
-            mods: Vec::new(rt.alloc()),
-            base: Base::Int,
-            ones: Vec::new(rt.alloc()),
-        };
-        assert_eq!(rt; var.line(), 8);
-        Ok(())
-    }
-}

@@ -8,12 +8,12 @@ use Rattle.lp_timers.specs.Timers.{beats_at, beats_by}
 use Rattle.lp_timers.specs.Timing.{Timing}
 use Rattle.lp_language.specs.Course.{Course, State, and_then}
 use Rattle.lp_language.specs.World as world
-use Rattle.lp_language.specs.World.{World, is_live, no_object, object_at}
+use Rattle.lp_language.specs.World.{is_live, no_object}
 use Rattle.lp_meaning.specs.EventTurns.{done, driver_apply}
 use Rattle.lp_meaning.specs.Ticks.{after_beat, heart_beats, with_next_beat, without_beat}
 use Rattle.lp_efuns.specs.Subjects.{is_living_row}
 use Rattle.lp_world.specs.Rows.{live_in, row_at}
-use Rattle.lp_world.specs.Stands.{ObjectIs, Stands}
+use Rattle.lp_world.specs.Stands.{ObjectIs}
 use Rattle.lp_world.specs.declared.live.Live.{Live}
 use Rattle.lp_world.specs.declared.objects.Object.{Object}
 use Rattle.lp_world.proofs.Keeping.{live_same}

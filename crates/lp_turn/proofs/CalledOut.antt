@@ -1,6 +1,5 @@
 -- The call-outs of a tick, one after another.
 use Rattle.std.proofs.Common.{◌≡◌, ◌∙◌, ◌∷◌, [], ℕ, List, Option, Some, None, IsSome, All, refl, ap, sym, subst, map, option_map, unwrap_or}
-use Rattle.lp_values.specs.declared.id.ObjId.{ObjId}
 use Rattle.lp_code.specs.declared.program.RawProgram.{RawProgram}
 use Rattle.lp_cells.specs.Cells.{IsThere}
 use Rattle.lp_events.specs.declared.out.Out.{Out}

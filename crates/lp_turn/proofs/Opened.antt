@@ -5,7 +5,7 @@ use Rattle.lp_values.specs.declared.value.Value.{Value}
 use Rattle.lp_swapfile.specs.Device.{Bytes}
 use Rattle.lp_language.specs.World.{object_named}
 use Rattle.lp_language.specs.Course as course
-use Rattle.lp_language.specs.Course.{IsFaulty, IsSound, Plain, Returned, State, WasRead, and_then, gives}
+use Rattle.lp_language.specs.Course.{Returned, State, and_then, gives}
 use Rattle.lp_meaning.specs.EventTurns.{Done, NoMaster, aborted, after_master, applied_if, begun, call_end, driver_call, faults_in, with_epilog}
 use Rattle.lp_meaning.specs.FileLoads.{loaded_value}
 use Rattle.lp_meaning.specs.WorldSteps.{master_name}

@@ -1,5 +1,5 @@
 -- Objects one after another: one for which nothing is to be done is passed over.
-use Rattle.std.proofs.Common.{◌≡◌, ◌∙◌, ◌<◌, ◌∷◌, ◌&&◌, [], ℕ, Bool, true, false, List, Option, Some, None, refl, ap, sym, length, arith, if◌then◌else◌}
+use Rattle.std.proofs.Common.{◌≡◌, ◌∙◌, ◌<◌, ◌∷◌, ◌&&◌, [], Bool, true, false, List, Some, None, refl, ap, sym, length, arith, if◌then◌else◌}
 use Rattle.lp_values.specs.declared.id.ObjId.{ObjId}
 use Rattle.lp_turn.specs.TickSteps.{first_such, with_others}
 

@@ -1,8 +1,7 @@
 -- What stands where the clock is set, and where what is to come changes.
-use Rattle.std.proofs.Common.{◌≡◌, ◌≢◌, ◌∙◌, ◌<◌, ◌≤◌, ◌^◌, ◌⊎◌, ◌∷◌, [], inl, inr, ℕ, Bool, true, false, not, List, Option, Some, None, All, refl, ap, sym, subst, filter, nat_eq, unwrap_or, if◌then◌else◌}
+use Rattle.std.proofs.Common.{◌≡◌, ◌≢◌, ◌∙◌, ◌<◌, ◌≤◌, ◌^◌, ◌∷◌, [], inl, inr, ℕ, Bool, true, false, not, List, Option, Some, None, All, refl, ap, sym, subst, filter, nat_eq, unwrap_or, if◌then◌else◌}
 use Rattle.std.proofs.lemmas.Bool.{eqb-true}
 use Rattle.std.proofs.lemmas.List.Elements.{All-filter, All-head, All-tail}
-use Rattle.lp_values.specs.declared.id.ObjId.{ObjId}
 use Rattle.lp_code.specs.declared.program.RawProgram.{RawProgram}
 use Rattle.lp_cells.specs.Cells.{IsThere}
 use Rattle.lp_events.specs.declared.out.Out.{Out}
@@ -16,7 +15,6 @@ use Rattle.lp_meaning.specs.Ticks.{at_moment}
 use Rattle.lp_lasting_laws.specs.Lasting.{IsAmong}
 use Rattle.lp_world.specs.Closed.{AreNumbered, AreNumberedOnce, IsClosed}
 use Rattle.lp_world.specs.Stands as stands
-use Rattle.lp_world.specs.Stands.{Stands}
 use Rattle.lp_world.specs.declared.live.Live.{Live}
 use Rattle.lp_world.proofs.Closing.{closed_with_timers}
 use Rattle.lp_world.proofs.Numbering.{numbered_filter, numbered_same}

@@ -14,10 +14,10 @@ use Rattle.lp_objects.specs.Stands as named
 use Rattle.lp_timers.specs.Timers.{CleanUp, Reset, WatchKind, is_watched, watch_next, watch_put, watched_at}
 use Rattle.lp_timers.specs.Timing.{Timing}
 use Rattle.lp_language.specs.Course.{Course, State, and_then}
-use Rattle.lp_language.specs.World.{World, is_live, object_at}
+use Rattle.lp_language.specs.World.{World, is_live}
 use Rattle.lp_language.specs.Operations.{is_false}
 use Rattle.lp_meaning.specs.EventTurns.{done, driver_apply}
-use Rattle.lp_meaning.specs.Ticks.{after_clean_up, clean_up_argument, clean_ups, resets, with_next_watch, without_clean_up}
+use Rattle.lp_meaning.specs.Ticks.{after_clean_up, clean_ups, resets, with_next_watch, without_clean_up}
 use Rattle.lp_meaning.specs.WorldSteps.{is_clone_name}
 use Rattle.lp_efuns.proofs.KnownNames.{name_given, name_known}
 use Rattle.lp_world.specs.Rows.{live_in}

@@ -13,7 +13,6 @@ use Rattle.lp_turn.specs.Turns.{going_course, waiting_course}
 use Rattle.lp_turn.specs.declared.job.Call.{Call}
 use Rattle.lp_turn.specs.declared.job.CallEnd.{CallEnd}
 use Rattle.lp_turn.specs.declared.job.Going.{Going}
-use Rattle.lp_turn.specs.declared.job.Going.TheVariants as goings
 use Rattle.lp_turn.specs.declared.job.Step.{Step}
 use Rattle.lp_turn.specs.declared.job.Step.TheVariants as steps
 use Rattle.lp_turn.specs.declared.job.Waiting.{Waiting}

@@ -1,6 +1,5 @@
 -- The steps of a tick, each as a turn: what is left of one, by where it stands.
-use Rattle.std.specs.Prelude.{ℕ, List, Bool, None, false, length}
-use Rattle.lp_values.specs.declared.id.ObjId.{ObjId}
+use Rattle.std.specs.Prelude.{ℕ, Bool, None, false, length}
 use Rattle.lp_values.specs.declared.value.Value.{Value}
 use Rattle.lp_timers.specs.Timers.{CleanUp, Reset, beats_at, watched_at}
 use Rattle.lp_language.specs.Course.{Answer, Course, State, and_then, zero_value}

@@ -13,7 +13,7 @@ use Rattle.lp_tree.specs.declared.unit.Param.{Param}
 use Rattle.lp_tree.specs.Statements.{DeclaratorTree}
 use Rattle.lp_tree.specs.Units.{BlockTree, ItemTree, Inherit, Proto, Fun, Var}
 use Rattle.lp_code.specs.declared.tables.VarRow.{VarRow}
-use Rattle.lp_language.specs.Resolve.{Function, Heritages, NoParent, OneParent, Sighted, Variable, own_variables, part_count, place_moved, sighted_from, variable_count, variable_last, variable_outside}
+use Rattle.lp_language.specs.Resolve.{Function, Heritages, NoParent, OneParent, Variable, own_variables, place_moved, sighted_from, variable_count, variable_last, variable_outside}
 use Rattle.lp_language.specs.Resolve as meant
 use Rattle.lp_isa.specs.Programs.{own_functions}
 use Rattle.lp_inherit.specs.Heirs.{AreDistinct, AreUnambiguous, seen_from, table, tables}

@@ -15,7 +15,7 @@ use Rattle.lp_code.specs.Programs.{FindsRows, IsFunction}
 use Rattle.lp_swapfile.specs.Device.{Bytes}
 use Rattle.lp_language.specs.World.{World}
 use Rattle.lp_language.specs.Course as course
-use Rattle.lp_language.specs.Course.{Ask, Course, Over, End, Reply, Scene, State, Stops, here, outcome_of, stops, zero_value}
+use Rattle.lp_language.specs.Course.{Ask, Over, State, Stops, here, zero_value}
 use Rattle.lp_language.specs.Eval.{Site}
 use Rattle.lp_language.specs.Resolve.{Part, heritage_of, number_of, part_at}
 use Rattle.lp_instr.specs.Code.{Code}

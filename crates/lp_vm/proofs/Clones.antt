@@ -13,7 +13,7 @@ use Rattle.lp_events.specs.declared.out.Out.{Out}
 use Rattle.lp_instr.specs.declared.efun.Efun.TheVariants as efuns
 use Rattle.lp_swapfile.specs.Device.{Bytes}
 use Rattle.lp_language.specs.Course as course
-use Rattle.lp_language.specs.Course.{Ask, Asks, CanAnswer, Course, End, Failed, Gives, IsFaulty, IsSound, Load, Over, Plain, Reply, Scene, State, Stops, WasRead, after, and_then, end_of_reply, here, outcome_of, zero_value}
+use Rattle.lp_language.specs.Course.{Ask, End, Failed, Gives, IsFaulty, IsSound, Load, Over, Plain, Reply, Scene, State, Stops, WasRead, after, and_then, end_of_reply, here, outcome_of, zero_value}
 use Rattle.lp_meaning.specs.Askers as meaning
 use Rattle.lp_meaning.specs.Askers.{asker_of, question, state_of}
 use Rattle.lp_meaning.specs.Closing.{Ends, Has}

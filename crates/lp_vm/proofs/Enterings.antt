@@ -11,7 +11,7 @@ use Rattle.lp_events.specs.declared.out.Out.{Out}
 use Rattle.lp_swapfile.specs.Device.{Bytes}
 use Rattle.lp_language.specs.World.{Keeps, World, version_at}
 use Rattle.lp_language.specs.Course as course
-use Rattle.lp_language.specs.Course.{Ask, CanAnswer, Course, Over, End, Gives, Plain, Reply, Stops, outcome_of, zero_value}
+use Rattle.lp_language.specs.Course.{Ask, Course, End, Gives, Plain, Reply, Stops, outcome_of, zero_value}
 use Rattle.lp_language.specs.Resolve.{Part, heritage_of, number_of, or_else, without_c}
 use Rattle.lp_meaning.specs.Askers.{state_of}
 use Rattle.lp_meaning.specs.Closing.{Ends}

@@ -11,7 +11,7 @@ use Rattle.lp_events.specs.declared.out.Out.{Out}
 use Rattle.lp_swapfile.specs.Device.{Bytes}
 use Rattle.lp_language.specs.World.{World, is_live}
 use Rattle.lp_language.specs.Course as course
-use Rattle.lp_language.specs.Course.{Answer, Ask, CanAnswer, Course, Over, Asks, End, Gives, OfEfun, Outcome, Plain, Reply, Returned, Scene, State, Stopped, Stops, after, asking, caught, end_of_answer, end_of_outcome, outcome_of, value_in}
+use Rattle.lp_language.specs.Course.{Answer, Ask, CanAnswer, Course, Over, End, Gives, OfEfun, Outcome, Plain, Reply, Returned, State, Stopped, after, caught, end_of_answer, end_of_outcome, outcome_of, value_in}
 use Rattle.lp_isa.specs.Machine.{Moment, Next, Goes, Ended, Awaits, Wrong, awaits, push_end}
 use Rattle.lp_isa.specs.SoundCode.{NextMatches}
 use Rattle.lp_isa.specs.Work.{NextLess, work_of}

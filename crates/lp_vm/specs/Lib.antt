@@ -22,3 +22,6 @@ pub mod Cloning
 pub mod Commanding
 pub mod CommandEfun
 pub mod ObjectLoading
+pub use Rattle.lp_loading.specs.Going as LoadGoing
+pub use Rattle.lp_loading.specs.declared.job.Answer as LoadAnswer
+pub use Rattle.lp_reaching.specs.Reaching

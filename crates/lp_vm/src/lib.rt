@@ -27,3 +27,5 @@ pub mod object_loading;
 pub mod request;
 mod shadowing;
 mod working;
+
+pub use lp_loading::job::Answer;

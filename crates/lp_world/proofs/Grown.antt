@@ -1,9 +1,7 @@
 -- What is closed stays closed where a version or an object comes behind the others.
-use Rattle.std.proofs.Common.{◌≡◌, ◌∙◌, ◌+◌, ◌++◌, ◌≤◌, ◌⊎◌, ℕ, List, [], ◌∷◌, Option, Some, None, IsSome, All, refl, ap, sym, subst, inl, inr, slice_get, unwrap_or, length, option_map, option_to_list, suc, zero}
+use Rattle.std.proofs.Common.{◌≡◌, ◌∙◌, ◌+◌, ◌++◌, ◌≤◌, ℕ, List, [], ◌∷◌, Option, Some, None, IsSome, All, refl, ap, sym, subst, inl, inr, slice_get, unwrap_or, length, option_map, option_to_list, suc, zero}
 use Rattle.std.specs.List.{flat_map}
-use Rattle.std.proofs.lemmas.Grind.{flat_map-append}
 use Rattle.std.proofs.lemmas.List.Elements.{All-nil, All-weaker, All-head, All-tail}
-use Rattle.lp_values.specs.declared.id.CellId.{CellId}
 use Rattle.lp_values.specs.declared.id.ProgId.{ProgId}
 use Rattle.lp_values.specs.declared.value.Value.{Value}
 use Rattle.lp_cells.specs.Cells.{IsThere, Store, content_at}
@@ -12,14 +10,13 @@ use Rattle.lp_code.specs.declared.tables.Slot.{Slot}
 use Rattle.lp_swapfile.specs.Room.{AreTaken}
 use Rattle.lp_swapfile.specs.declared.extent.Extent.{Extent}
 use Rattle.lp_swapper.specs.Swap.{extent_of}
-use Rattle.lp_world.specs.declared.live.Live.{Live}
 use Rattle.lp_world.specs.declared.objects.Object.{Object}
 use Rattle.lp_world.specs.declared.objects.ObjectState.TheVariants as objects_of
 use Rattle.lp_world.specs.declared.versions.Version.{Version}
 use Rattle.lp_world.specs.Additions.{NewObjectStaysClosed, NewVersionStaysClosed, new_object}
-use Rattle.lp_world.specs.Closed.{IsClosed, IsFunctionThere, IsObjectClosed, IsProgramClosed, IsRowThere, IsSlotClosed, IsVersionClosed, object_extents, parts_in, parts_together, variables_in, variables_together, version_extents}
+use Rattle.lp_world.specs.Closed.{IsFunctionThere, IsObjectClosed, IsProgramClosed, IsRowThere, IsSlotClosed, IsVersionClosed, object_extents, parts_in, parts_together, variables_in, variables_together, version_extents}
 use Rattle.lp_world.specs.Rows.{own_in, program_ticket, row_at, variables_of}
-use Rattle.lp_world.proofs.Keeping.{get_end, get_kept, get_new}
+use Rattle.lp_world.proofs.Keeping.{get_new}
 
 row_kept : {A : Type 0} (xs ys : List (Option A)) (i : ℕ) (x : A) → row_at xs i ≡ Some x → row_at (xs ++ ys) i ≡ Some x
 row_kept [] ys i x h = cc

@@ -12,7 +12,7 @@ use Rattle.lp_values.specs.declared.value.Value.TheVariants.{Int, Str, Arr, Map,
 use Rattle.lp_cells.specs.Cells.{IsThere, Store, as_items, as_pairs, content_at, content_set, with_cell}
 use Rattle.lp_cells.specs.Mapping.{pairs_there}
 use Rattle.lp_cells.specs.declared.content.Content.{Content}
-use Rattle.lp_ops.specs.Operands.{Array, Mapping, opened}
+use Rattle.lp_language.specs.Operands.{Array, Mapping, opened}
 use Rattle.lp_code.specs.declared.program.RawProgram.{RawProgram}
 use Rattle.lp_image.specs.Image.{IsRecord, image}
 use Rattle.lp_swapfile.specs.Device.{Bytes}

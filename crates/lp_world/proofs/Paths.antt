@@ -1,10 +1,10 @@
 -- The paths of versions.
-use Rattle.std.proofs.Common.{◌≡◌, ◌∙◌, ℕ, List, Option, Some, None, ap, sym, subst, slice_get, unwrap_or}
+use Rattle.std.proofs.Common.{◌≡◌, ◌∙◌, Option, Some, None, ap, sym, subst, slice_get, unwrap_or}
 use Rattle.lp_values.specs.declared.id.ProgId.{ProgId}
 use Rattle.lp_language.specs.World as world
 use Rattle.lp_language.specs.World.{no_object, no_version, object_at, version_at}
 use Rattle.lp_world.specs.Laws.{ObjectsHavePaths, VersionsHavePaths}
-use Rattle.lp_world.specs.Rows.{row_at, version_path}
+use Rattle.lp_world.specs.Rows.{version_path}
 use Rattle.lp_world.specs.Stands.{ObjectIs}
 use Rattle.lp_world.proofs.Keeping.{object_behind}
 

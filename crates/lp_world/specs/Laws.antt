@@ -7,7 +7,7 @@ use Rattle.lp_values.specs.declared.value.Value.{Value}
 use Rattle.lp_cells.specs.Cells as cells
 use Rattle.lp_cells.specs.Cells.{IsThere, KeepsThere, Store, content_set, with_cell}
 use Rattle.lp_cells.specs.declared.content.Content.{Content}
-use Rattle.lp_ops.specs.Operands.{operand}
+use Rattle.lp_language.specs.Operands.{operand}
 use Rattle.lp_places.specs.declared.places.Places.{Places}
 use Rattle.lp_timers.specs.Timing.{Timing}
 use Rattle.lp_code.specs.declared.program.RawProgram.{RawProgram}

@@ -1,4 +1,4 @@
-use Rattle.std.proofs.Common.{◌∙◌, sym}
+use Rattle.std.proofs.Common.{sym}
 use Rattle.lp_efuns.proofs.Handed.{hands_nothing, hands_over}
 use Rattle.lp_efuns.proofs.connections.hand_over.Goals as goal
 

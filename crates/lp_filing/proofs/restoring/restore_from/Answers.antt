@@ -1,4 +1,4 @@
-use Rattle.std.proofs.Common.{◌≡◌, All, IfSome, List, Option, Some, Ok, Err, ap, map, subst, sym}
+use Rattle.std.proofs.Common.{◌≡◌, All, IfSome, Some, Ok, Err, ap, map, subst}
 use Rattle.lp_cells.specs.Cells.{IsThere, Store}
 use Rattle.lp_files.specs.Store.{file_at}
 use Rattle.lp_language.specs.Course.{Scene}

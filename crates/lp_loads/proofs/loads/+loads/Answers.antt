@@ -1,8 +1,8 @@
-use Rattle.std.proofs.Common.{length, rules, ◌≡◌, ◌∙◌, ◌∷◌, ◌++◌, ◌≤◌, ◌<◌, [], List, ℕ, refl, sym, ap, subst, arith, map}
+use Rattle.std.proofs.Common.{length, ◌∙◌, ◌∷◌, ◌++◌, [], List, refl, sym, ap, subst, arith, map}
 use Rattle.std.proofs.lemmas.Result.{on_ok_weaker}
 use Rattle.lp_tree.specs.UnitView.{item_of}
 use Rattle.lp_front.specs.Names.{parents_in}
-use Rattle.lp_front.specs.Reading.{IsWhy, items_of}
+use Rattle.lp_front.specs.Reading.{IsWhy}
 use Rattle.lp_layout.specs.Layout.{AreInside}
 use Rattle.lp_loads.specs.Known.{HasFoundInside}
 use Rattle.lp_loads.specs.Family.{family_of}

@@ -1,4 +1,4 @@
-use Rattle.std.proofs.Common.{◌≡◌, arith}
+use Rattle.std.proofs.Common.{arith}
 use Rattle.lp_parser.specs.Depth.{here, least}
 use Rattle.lp_parser.specs.Moves.{state_of}
 use Rattle.lp_parser.specs.View.{before_of}

@@ -12,7 +12,7 @@ pub returns-in-Ends-Some : goal.returns-in-Ends-Some
 returns-in-Ends-Some c =
     let st = state_of c.loop-i.focus (stack_of c.loop-i.stack) in
     let r = stop_ended c.args.limit c.args.tokens.now c.loop-i.i c.index-tokens-i.result st c.in_ok-seen.seen _ c.in_ok-next.field-0 c.in-Ends-Some.field-0 c.loop-i-test.true c.loop-i.invariant.walked c.loop-i.invariant.shallow c.in_ok-seen.ensures c.index-tokens-i.is c.in_ok-next.ensures c.in-Ends-Some.is in
-    let tree : finished st ≡ Some (tree_of c.in-Ends-Some.whole.expr) = r.2 ∙ ap tree_in c.in-Ends-Some.field-0-is in
+    let tree : finished st ≡ Some (tree_of c.in-Ends-Some.whole.expr.value) = r.2 ∙ ap tree_in c.in-Ends-Some.field-0-is in
     let same = same_tree _ _ c.in-Ends-Some.whole-is in
     (st, r.0, r.1, cc)
 

@@ -1,5 +1,5 @@
 use Rattle.std.proofs.Common.{ap}
-use Rattle.std.specs.Prelude.{Ok, option_map}
+use Rattle.std.specs.Prelude.{option_map}
 use Rattle.lp_parser_stmt.specs.View.{names_of, declarators_of, whose_of}
 use Rattle.lp_parser_stmt.proofs.Readers.{names_ends, same_names, declaring_ends}
 use Rattle.lp_parser_stmt.proofs.declaration.declaring.Goals as goal
@@ -11,4 +11,4 @@ returns-in-Ends-Some c = λ s.
     let whole = r.1 in
     let some = ap (option_map declarators_of) c.in-Ends-Some.field-0-is in
     let same = same_names _ _ c.in-Ends-Some.ones-is in
-    declaring_ends c.args.seen d _ c.mark_of-mark.result c.args.line c.args.base (whose_of c.args.whose) s s (Ok c.after_names.result) c.mark_of-mark.ensures r.0 (cc) (c.after_names.ensures s)
+    declaring_ends c.args.seen d _ c.mark_of-mark.result c.args.line c.args.base (whose_of c.args.whose) s s c.after_names.result c.mark_of-mark.ensures r.0 (cc) (c.after_names.ensures s)

@@ -1,4 +1,5 @@
-use Rattle.std.proofs.Common.{[], refl, sym, subst, arith, Err, None, rules}
+use Rattle.std.proofs.Common.{[], refl, sym, subst, arith, Err, None, rules, ap, ◌∙◌}
+use Rattle.std.specs.Prelude.{reverse}
 use Rattle.lp_preproc.specs.Tables.{macros_in}
 use Rattle.lp_preproc.specs.Expansion.{next}
 use Rattle.lp_preproc.specs.Steps.{Does, Leads, Reaches, Turns, Finishes, in_list, state_of}
@@ -39,7 +40,7 @@ pub expand_list-returns-in-Ok-true : goal.expand_list-returns-in-Ok-true
 expand_list-returns-in-Ok-true t c = λ c' i p.
     let s = state_of c.turns.reader (macros_in c.args.table.now) (in_list c.args.least p) in
     list_ended c' _ s (state_of c.turn.new.reader (macros_in c.args.table.now) (in_list c.args.least p)) (c.in_ok-out-in-Ok-true.out, c.turn.new.reader.put_in) (c.turns.invariant c' i p)
-    ((rw c.in-Ok-true.field-0-test at c.in-Ok-true.ensures) c' i p) c.in_ok-out-in-Ok-true.ensures refl
+    ((rw c.in-Ok-true.field-0-test at c.in-Ok-true.ensures) c' i p) (c.in_ok-out-in-Ok-true.ensures ∙ ap reverse c.out_of.ensures) refl
 
 pub expand_list-returns-in-Err : goal.expand_list-returns-in-Err
 expand_list-returns-in-Err t c = λ c' i p.

@@ -1,4 +1,4 @@
-use Rattle.std.proofs.Common.{◌≡◌, ◌∙◌, ◌++◌, Some, ap, sym}
+use Rattle.std.proofs.Common.{◌∙◌, ◌++◌, Some, ap, sym}
 use Rattle.std.specs.Str.{chars}
 use Rattle.std.proofs.lemmas.Result.{on_ok_weaker}
 use Rattle.lp_language.specs.Resolve.{without_c}

@@ -1,4 +1,4 @@
-use Rattle.std.proofs.Common.{None, OnOk, Some, subst, sym}
+use Rattle.std.proofs.Common.{OnOk, subst, sym}
 use Rattle.std.proofs.lemmas.Result.{on_ok_weaker}
 use Rattle.lp_records.specs.Records.{PutsPlaceIf}
 use Rattle.lp_records.proofs.Placing.{not_placed, placed_if}

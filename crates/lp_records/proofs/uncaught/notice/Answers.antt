@@ -1,4 +1,4 @@
-use Rattle.std.proofs.Common.{◌∙◌, None, Some, ap, subst, sym}
+use Rattle.std.proofs.Common.{◌∙◌, None, Some, subst, sym}
 use Rattle.lp_events.specs.declared.out.Out.TheVariants as outs
 use Rattle.lp_records.specs.Records.{IsNoticeIn}
 use Rattle.lp_records.proofs.Spelling.{chars-notice}

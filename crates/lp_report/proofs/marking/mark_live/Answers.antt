@@ -1,5 +1,4 @@
-use Rattle.std.proofs.Common.{◌≡◌, ◌∙◌, ◌+◌, ◌<◌, ap, arith, drop, length, subst, sym}
-use Rattle.lp_world.specs.Rows.{row_at}
+use Rattle.std.proofs.Common.{◌∙◌, ◌+◌, ◌<◌, ap, arith, drop, length}
 use Rattle.lp_report.specs.Needed.{live_versions, version_if_live, with_marks}
 use Rattle.lp_report.proofs.Marks.{marked_row}
 use Rattle.lp_report.proofs.marking.mark_live.Goals as goal

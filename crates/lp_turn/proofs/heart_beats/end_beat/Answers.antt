@@ -1,6 +1,5 @@
 use Rattle.std.proofs.Common.{ap}
 use Rattle.lp_timers.specs.Timing.{Timing}
-use Rattle.lp_world.specs.declared.live.Live.{Live}
 use Rattle.lp_turn.proofs.Timed.{closed_same}
 use Rattle.lp_turn.proofs.heart_beats.end_beat.Goals as goal
 

@@ -1,4 +1,4 @@
-use Rattle.std.proofs.Common.{◌∙◌, ap, refl}
+use Rattle.std.proofs.Common.{ap, refl}
 use Rattle.lp_timers.specs.Timing.{Timing, watch_kind}
 use Rattle.lp_turn.proofs.Timed.{closed_same}
 use Rattle.lp_turn.proofs.Watched.{set_watch_is}

@@ -1,4 +1,4 @@
-use Rattle.std.proofs.Common.{◌≡◌, ◌∙◌, ap, get_or, sym, true, subst, arith}
+use Rattle.std.proofs.Common.{◌∙◌, ap, sym, true, arith}
 use Rattle.std.specs.Char.{is_ascii_digit}
 use Rattle.lp_value_efuns.proofs.LeadingLemmas.{above_leading}
 use Rattle.lp_value_efuns.proofs.number.leading_magnitude.Goals as goal

@@ -1,5 +1,0 @@
-use Rattle.lp_world.specs.Closed.{IsClosed}
-use Rattle.lp_plain_tests.proofs.state.add_objects.Given as goal
-
-abbrev pub invariant-loop-name : goal.invariant-loop-name
-invariant-loop-name l = IsClosed l.live

@@ -1,2 +1,0 @@
-pub mod Present
-pub mod Playing

@@ -1,0 +1,106 @@
+# Two swaps of an object that is wanted after each, over a swap file with troubles: a read that fails or lies ends the replay with what
+# the turns before it wrote. The record of the object is read, and then its program.
+words: replay
+--- /a.c
+int *v; void take(int *x) { v = x; } void show() { write(v[0] + "\n"); }
+--- /b.c
+int *v; void make() { v = ({1}); "/a"->take(v); } void put(int n) { v[0] = n; }
+--- /secure/master.c
+object connect() { return this_object(); }
+int logon() { "/b"->make(); call_out("go", 1, 7); call_out("go", 2, 8); return 1; }
+void go(int n) { "/b"->put(n); "/a"->show(); }
+--- play
+connect 1
+swap /a
+tick 1
+swap /a
+tick 2
+end
+--- written
+log: "7\n"
+log: "8\n"
+end
+
+=== read_1_fails
+# The first tick wants the object.
+status: 7
+swap reads fail: 1
+--- written
+
+=== read_1_lies
+# The first tick wants the object.
+status: 7
+swap reads lie: 1
+--- written
+
+=== read_2_fails
+# The first tick wants the object.
+status: 7
+swap reads fail: 2
+--- written
+
+=== read_2_lies
+# The first tick wants the object.
+status: 7
+swap reads lie: 2
+--- written
+
+=== read_3_fails
+# The second tick wants it.
+status: 7
+swap reads fail: 3
+--- written
+log: "7\n"
+
+=== read_3_lies
+# The second tick wants it.
+status: 7
+swap reads lie: 3
+--- written
+log: "7\n"
+
+=== read_4_fails
+# The second tick wants it.
+status: 7
+swap reads fail: 4
+--- written
+log: "7\n"
+
+=== read_4_lies
+# The second tick wants it.
+status: 7
+swap reads lie: 4
+--- written
+log: "7\n"
+
+=== no_more_reads
+# There is no read behind these.
+swap reads fail: 5
+
+=== write_1_fails
+# What cannot be written stays in memory.
+swap writes fail: 1
+
+=== write_2_fails
+# What cannot be written stays in memory.
+swap writes fail: 2
+
+=== write_3_fails
+# What cannot be written stays in memory.
+swap writes fail: 3
+
+=== write_4_fails
+# What cannot be written stays in memory.
+swap writes fail: 4
+
+=== no_write_is_made
+# A swap file that takes nothing.
+swap writes fail: 1,2,3,4,5,6,7,8,9,10,11,12,13,14,15,16,17,18,19,20,21,22,23,24,25,26,27,28,29,30,31,32,33,34,35,36,37,38,39,40
+
+=== a_byte_at_a_time
+# The output takes few bytes at a time.
+write takes: 1
+
+=== 7_bytes_at_a_time
+# The output takes few bytes at a time.
+write takes: 7

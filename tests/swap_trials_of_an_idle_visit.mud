@@ -1,0 +1,187 @@
+# A visit in which the room, a monster and the player go out, each before it is wanted, over a swap file with troubles: a read that
+# fails or lies ends the visit with what the turns before it wrote.
+words: replay --swap-time=1
+--- /mob.c
+void create() { set_heart_beat(1); }
+void heart_beat() {
+  if (environment()) tell_room(environment(), object_name() + " growls.\n");
+}
+--- /player.c
+string name;
+int logon() { write("Name: "); input_to("named"); return 1; }
+void named(string s) {
+  name = s; enable_commands();
+  move_object(this_object(), "/room");
+  write("Welcome, " + name + ".\n");
+}
+--- /room.c
+void create() {
+  move_object(clone_object("/mob"), this_object());
+  move_object(clone_object("/mob"), this_object());
+}
+void init() { add_action("look", "look"); }
+int look(string s) { write("A room.\n"); return 1; }
+--- /secure/master.c
+object connect() { return clone_object("/player"); }
+--- play
+connect 1
+line 1: Bo
+tick 2
+swap /room
+line 1: look
+swap /mob#2
+swap /player#1
+tick 4
+swap /player
+line 1: dance
+end
+--- written
+to 1: "Name: "
+to 1: "Welcome, Bo.\n"
+to 1: "/mob#2 growls.\n"
+      "/mob#3 growls.\n"
+to 1: "A room.\n"
+to 1: "/mob#2 growls.\n"
+      "/mob#3 growls.\n"
+to 1: "What?\n"
+end
+
+=== read_1_fails
+# The line wants the room, for its action.
+status: 7
+swap reads fail: 1
+--- written
+to 1: "Name: "
+to 1: "Welcome, Bo.\n"
+to 1: "/mob#2 growls.\n"
+      "/mob#3 growls.\n"
+
+=== read_1_lies
+# The line wants the room, for its action.
+status: 7
+swap reads lie: 1
+--- written
+to 1: "Name: "
+to 1: "Welcome, Bo.\n"
+to 1: "/mob#2 growls.\n"
+      "/mob#3 growls.\n"
+
+=== read_2_fails
+# The line wants the room, for its action.
+status: 7
+swap reads fail: 2
+--- written
+to 1: "Name: "
+to 1: "Welcome, Bo.\n"
+to 1: "/mob#2 growls.\n"
+      "/mob#3 growls.\n"
+
+=== read_2_lies
+# The line wants the room, for its action.
+status: 7
+swap reads lie: 2
+--- written
+to 1: "Name: "
+to 1: "Welcome, Bo.\n"
+to 1: "/mob#2 growls.\n"
+      "/mob#3 growls.\n"
+
+=== read_3_fails
+# The beat wants the monster and its program.
+status: 7
+swap reads fail: 3
+--- written
+to 1: "Name: "
+to 1: "Welcome, Bo.\n"
+to 1: "/mob#2 growls.\n"
+      "/mob#3 growls.\n"
+to 1: "A room.\n"
+
+=== read_3_lies
+# The beat wants the monster and its program.
+status: 7
+swap reads lie: 3
+--- written
+to 1: "Name: "
+to 1: "Welcome, Bo.\n"
+to 1: "/mob#2 growls.\n"
+      "/mob#3 growls.\n"
+to 1: "A room.\n"
+
+=== read_4_fails
+# The beat wants the monster and its program.
+status: 7
+swap reads fail: 4
+--- written
+to 1: "Name: "
+to 1: "Welcome, Bo.\n"
+to 1: "/mob#2 growls.\n"
+      "/mob#3 growls.\n"
+to 1: "A room.\n"
+
+=== read_4_lies
+# The beat wants the monster and its program.
+status: 7
+swap reads lie: 4
+--- written
+to 1: "Name: "
+to 1: "Welcome, Bo.\n"
+to 1: "/mob#2 growls.\n"
+      "/mob#3 growls.\n"
+to 1: "A room.\n"
+
+=== no_more_reads
+# There is no read behind these.
+swap reads fail: 5
+
+=== write_1_fails
+# What cannot be written stays in memory.
+swap writes fail: 1
+
+=== write_2_fails
+# What cannot be written stays in memory.
+swap writes fail: 2
+
+=== write_3_fails
+# What cannot be written stays in memory.
+swap writes fail: 3
+
+=== write_4_fails
+# What cannot be written stays in memory.
+swap writes fail: 4
+
+=== write_5_fails
+# What cannot be written stays in memory.
+swap writes fail: 5
+
+=== write_6_fails
+# What cannot be written stays in memory.
+swap writes fail: 6
+
+=== write_7_fails
+# What cannot be written stays in memory.
+swap writes fail: 7
+
+=== write_8_fails
+# What cannot be written stays in memory.
+swap writes fail: 8
+
+=== write_9_fails
+# What cannot be written stays in memory.
+swap writes fail: 9
+
+=== write_10_fails
+# What cannot be written stays in memory.
+swap writes fail: 10
+
+=== write_11_fails
+# What cannot be written stays in memory.
+swap writes fail: 11
+
+=== no_write_is_made
+# A swap file that takes nothing.
+swap writes fail: 1,2,3,4,5,6,7,8,9,10,11,12,13,14,15,16,17,18,19,20,21,22,23,24,25,26,27,28,29,30,31,32,33,34,35,36,37,38,39,40
+
+=== a_byte_at_a_time
+# The output takes few bytes at a time.
+write takes: 1
