@@ -1,8 +1,9 @@
 //! The store of files.
-ghost use Rattle.std.specs.Prelude.{◌≡◌, IfOk, List, None, OnErr, OnOk, Some, [], is_some, map, string_bytes, ℕ, if◌then◌else◌};
-ghost use Rattle.std.specs.Option.{option_map};
+ghost use Rattle.std.specs.Prelude.{◌≡◌, ◌++◌, IfOk, List, None, OnErr, OnOk, Some, [], is_some, map, string_bytes, ℕ, if◌then◌else◌};
+ghost use Rattle.std.specs.Str.{bytes_eq};
+ghost use Rattle.std.specs.Option.{option_map, unwrap_or};
 ghost use Rattle.lp_files.specs.Paths.{IsRising, with_path, without_path};
-ghost use Rattle.lp_files.specs.Store.{IsSame, IsWith, changed_in, file_at};
+ghost use Rattle.lp_files.specs.Store.{IsSame, IsWith, bytes_at, changed_in, file_at};
 
 use crate::paths::Paths;
 use std::alloc::{AllocError, Global};
@@ -23,6 +24,25 @@ fn take_back(changed: &mut Paths, path: &str, fresh: bool)
 {
     if fresh {
         changed.remove(path);
+    }
+}
+
+// Bytes go behind those of a file, and whether it is there is told. Where memory is wanting it stays as it was.
+fn extend_file(
+    files: &mut BTreeMap<String, Vec<u8>>,
+    path: &str,
+    bytes: &[u8],
+) -> Result<bool, AllocError>
+    ensures there { IfOk result (λ b. b ≡ is_some (bytes_at files.old path.now)) }
+    ensures extended { OnOk result ((q : List ℕ) → bytes_at files.new q ≡ (if bytes_eq path.now q then option_map (λ bs. bs ++ bytes.now) (bytes_at files.old q) else bytes_at files.old q)) }
+    ensures same { OnErr result ((q : List ℕ) → bytes_at files.new q ≡ bytes_at files.old q) }
+{
+    match files.get_mut(path) {
+        Some(content) => match content.extend_from_slice(bytes) {
+            Ok(()) => Ok(true),
+            Err(e) => Err(e),
+        },
+        None => Ok(false),
     }
 }
 
@@ -75,6 +95,26 @@ impl Store {
             Err(_) => {
                 take_back(&mut self.changed, path, fresh);
                 Err(AllocError)
+            }
+        }
+    }
+
+    /// Puts bytes behind those of a file, which is made where it is not there, and puts its path on the changed list. Takes time for
+    /// what is added: the bytes that are there are moved only when their room is used up, which then doubles.
+    pub fn append(&mut self, path: &str, bytes: &[u8]) -> Result<(), AllocError>
+        ensures files { OnOk result (IsWith self.old self.new path.now (Some (unwrap_or (file_at self.old path.now) [] ++ bytes.now))) }
+        ensures changed { OnOk result (changed_in self.new ≡ with_path path.now (changed_in self.old)) }
+        ensures err { OnErr result (IsSame self.old self.new) }
+    {
+        if self.read(path).is_none() {
+            return self.write(path, bytes);
+        }
+        let fresh = self.changed.add(self.alloc, path)?;
+        match extend_file(&mut self.files, path, bytes) {
+            Ok(_) => Ok(()),
+            Err(e) => {
+                take_back(&mut self.changed, path, fresh);
+                Err(e)
             }
         }
     }

@@ -1,14 +1,12 @@
-use Rattle.std.proofs.Common.{◌≡◌, ℕ, Bool, true, false, not, if◌then◌else◌, List, ◌∙◌, ap, refl, string_bytes}
+use Rattle.std.proofs.Common.{◌≡◌, ◌∙◌, ap, string_bytes}
 use Rattle.std.specs.Map.{lookup}
 use Rattle.std.specs.Ordering.{nat_cmp}
 use Rattle.std.specs.BTreeMap.{is_at}
 use Rattle.std.specs.Cmp.Lexicographic.{slice_cmp}
-use Rattle.lp_files.specs.Paths.{lists, with_path, without_path}
-use Rattle.lp_files.proofs.PathLemmas.{without_path-with_path}
 use Rattle.std.proofs.lemmas.Map.Text.{btree_map_updates_text}
 use Rattle.std.proofs.lemmas.Result.{IfOk-at_ok}
 use Rattle.std.specs.Option.{option_map}
-use Rattle.lp_files.proofs.FileLemmas.{option_map-cond}
+use Rattle.lp_files.proofs.FileLemmas.{option_map-cond, undone}
 use Rattle.lp_files.proofs.store.Store.write.Goals as goal
 
 pub returns-in-Ok-clause-files : goal.returns-in-Ok-clause-files
@@ -16,15 +14,6 @@ returns-in-Ok-clause-files c = λ q.
     let own_is = IfOk-at_ok (λ s. string_bytes s ≡ c.args.path.now) c.in_ok-own.was c.from_str.ensures.ok in
     let same = IfOk-at_ok (λ v. v.items ≡ c.args.bytes.now) c.in_ok-content.was c.from_slice.ensures.items in
     rw (← own_is, ← same) (ap (option_map (λ v. v.items)) (btree_map_updates_text (string_bytes c.in_ok-own.own) c.args.self.now.files c.insert.new.self _ c.in-Ok.ensures.updates q) ∙ option_map-cond (λ v. v.items) _ _ _)
-
--- the changed list as it was: a path that was put in is taken out again
-undone : (fresh : Bool) (p : List ℕ) (old new : List (List ℕ)) → fresh ≡ not (lists p old) → (fresh ≡ false → new ≡ old) → new ≡ with_path p old → (if fresh then without_path p new else new) ≡ old
-undone true p old new e there is = ap (without_path p) is ∙ without_path-with_path p old (turn (lists p old) e)
-  where
-    turn : (b : Bool) → true ≡ not b → b ≡ false
-    turn true e = e
-    turn false e = refl
-undone false p old new e there is = there refl
 
 pub returns-clause-err : goal.returns-clause-err
 returns-clause-err c = record {
