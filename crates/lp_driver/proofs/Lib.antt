@@ -7,3 +7,4 @@ pub mod Rested
 pub mod Tidied
 pub mod Known
 pub mod Commands
+pub mod Swaps

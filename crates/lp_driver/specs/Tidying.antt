@@ -14,7 +14,7 @@ use Rattle.lp_targets.specs.Brought.{IsFaultOf}
 use Rattle.lp_targets.specs.Callees.{IsWorldOf}
 use Rattle.lp_world.specs.declared.live.Live.{Live}
 use Rattle.lp_residence.specs.Entering.{IsHonest, is_read_fault}
-use Rattle.lp_residence.specs.Idling.{Device, going}
+use Rattle.lp_residence.specs.Idling.{Device, going, none_yet}
 use Rattle.lp_residence.specs.declared.answers.EnterFault.{EnterFault}
 use Rattle.lp_residence.specs.declared.answers.Idled.{Idled}
 use Rattle.lp_keeping.specs.Needs.{AreNeeded}
@@ -52,29 +52,29 @@ abbrev pub HasNeededAlone : Live → Type 0
 HasNeededAlone l = AreNeeded l.objects l.versions
 
 -- nothing is put out
-abbrev pub IsUntouched : Live → Device → Live → Device → Type 0
-IsUntouched l d l' d' = (l' ≡ l) × (d' ≡ d)
+abbrev pub IsUntouched : Live → Device → Live → Device → Idled → Type 0
+IsUntouched l d l' d' n = (l' ≡ l) × (d' ≡ d) × (n ≡ none_yet)
 
--- What goes out behind an event: behind a tick what is idle then, in its order; for a swap item the live object of the name and then its
--- version; behind each other event nothing.
-abbrev pub IsTidied : ℕ → Event → Live → Device → Live → Device → Type 0
-IsTidied swap_time (events.Connect k) l d l' d' = IsUntouched l d l' d'
-IsTidied swap_time (events.Line k bytes) l d l' d' = IsUntouched l d l' d'
-IsTidied swap_time (events.Gone k) l d l' d' = IsUntouched l d l' d'
-IsTidied swap_time (events.Tick t) l d l' d' = (n : Idled) × AreIdlePut (going swap_time l) l d l' d' n
-IsTidied swap_time (events.Reload path bytes) l d l' d' = IsUntouched l d l' d'
-IsTidied swap_time (events.Swap name) l d l' d' = (objects : List Named) → names.Stands l.names objects → ArePutWhereTold (named_owners l (object_named objects (chars name))) l d l' d'
+-- What goes out behind an event, and how many went and were kept for each cause: behind a tick what is idle then, in its order; for a swap
+-- item the live object of the name and then its version; behind each other event nothing.
+abbrev pub IsTidied : ℕ → Event → Live → Device → Live → Device → Idled → Type 0
+IsTidied swap_time (events.Connect k) l d l' d' n = IsUntouched l d l' d' n
+IsTidied swap_time (events.Line k bytes) l d l' d' n = IsUntouched l d l' d' n
+IsTidied swap_time (events.Gone k) l d l' d' n = IsUntouched l d l' d' n
+IsTidied swap_time (events.Tick t) l d l' d' n = AreIdlePut (going swap_time l) l d l' d' n
+IsTidied swap_time (events.Reload path bytes) l d l' d' n = IsUntouched l d l' d' n
+IsTidied swap_time (events.Swap name) l d l' d' n = (objects : List Named) → names.Stands l.names objects → ArePutWhereTold (named_owners l (object_named objects (chars name))) l d l' d' n
 
 -- An event had its turn, which was over then; behind a reload, and where a version was made, no version was there but the needed ones; and
--- what goes out behind it was put out. The device told this and had so many write faults before and after.
-pub record HasTidied (swap_time : ℕ) (event : Event) (told0 : Option Bytes) (writes0 : ℕ) (live0 : Live) (told1 : Option Bytes) (writes1 : ℕ) (live1 : Live) : Type 0 where
+-- what goes out behind it was put out, so many. The device told this and had so many write faults before and after.
+pub record HasTidied (swap_time : ℕ) (event : Event) (told0 : Option Bytes) (writes0 : ℕ) (live0 : Live) (told1 : Option Bytes) (writes1 : ℕ) (live1 : Live) (idled : Idled) : Type 0 where
   pub told : Option Bytes
   pub live : Live
   pub outs : List Out
   pub turns : TurnsAs event told0 live0 told live outs
   pub forgotten : names.died_in live.names ≡ []
   pub needed : drops_behind event (length live0.versions) (length live.versions) ≡ true → HasNeededAlone live
-  pub tidied : IsTidied swap_time event live (record { told = told; faults = writes0 }) live1 (record { told = told1; faults = writes1 })
+  pub tidied : IsTidied swap_time event live (record { told = told; faults = writes0 }) live1 (record { told = told1; faults = writes1 }) idled
 
 -- What the device did where something was to be put out: nothing was read.
 pub record ReadsNothing (reads0 reads1 : ℕ) (true0 true1 honest0 honest1 : Type 0) : Type 0 where

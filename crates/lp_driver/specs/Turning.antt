@@ -1,5 +1,6 @@
 -- Turns go on, call by call, to their ends.
-use Rattle.std.specs.Prelude.{⊤, ℕ, ◌≤◌, ◌^◌, List, Option}
+use Rattle.std.specs.Prelude.{◌≡◌, ⊤, ℕ, ◌≤◌, ◌^◌, List, None, Option}
+use Rattle.std.specs.Str.{chars}
 use Rattle.lp_code.specs.declared.program.RawProgram.{RawProgram}
 use Rattle.lp_events.specs.declared.event.Event.{Event}
 use Rattle.lp_events.specs.declared.event.Event.TheVariants as events
@@ -9,6 +10,9 @@ use Rattle.lp_language.specs.Course.{Asks, Course, End, Gives, State}
 use Rattle.lp_meaning.specs.Closing.{Ends}
 use Rattle.lp_meaning.specs.FrontEnd.{FrontEnd}
 use Rattle.lp_meaning.specs.Ticks.{at_moment, calls_out}
+use Rattle.lp_objects.specs.Objects.{Named, object_named}
+use Rattle.lp_objects.specs.Stands as names
+use Rattle.lp_objects.specs.declared.objects.Objects.{Objects}
 use Rattle.lp_timers.specs.Timers.{due_at}
 use Rattle.lp_front_end.specs.FrontEnds.{IsFrontEnd}
 use Rattle.lp_world.specs.declared.live.Live.{Live}
@@ -82,6 +86,24 @@ MayCome (events.Gone k) = ⊤
 MayCome (events.Tick t) = t ≤ 10 ^ 12
 MayCome (events.Reload path bytes) = ⊤
 MayCome (events.Swap name) = ⊤
+
+-- it is a swap item
+abbrev pub IsSwap : Event → Type 0
+IsSwap (events.Connect k) = ⊥
+IsSwap (events.Line k bytes) = ⊥
+IsSwap (events.Gone k) = ⊥
+IsSwap (events.Tick t) = ⊥
+IsSwap (events.Reload path bytes) = ⊥
+IsSwap (events.Swap name) = ⊤
+
+-- it is a swap item of a name that no live object has
+abbrev pub NamesNobody : Event → Objects → Type 0
+NamesNobody (events.Connect k) table = ⊥
+NamesNobody (events.Line k bytes) table = ⊥
+NamesNobody (events.Gone k) table = ⊥
+NamesNobody (events.Tick t) table = ⊥
+NamesNobody (events.Reload path bytes) table = ⊥
+NamesNobody (events.Swap name) table = (objects : List Named) × names.Stands table objects × (object_named objects (chars name) ≡ None)
 
 -- what a step asks for is there
 abbrev pub IsStepAskedThere : List (Option Object) → Step → Type 0

@@ -1,11 +1,11 @@
 //! A turn for each event.
-ghost use Rattle.std.specs.Prelude.{◌≡◌, [], OnOk};
+ghost use Rattle.std.specs.Prelude.{◌≡◌, [], IsOk, OnOk};
 ghost use Rattle.lp_meaning.specs.EventTurns.{connect_turn, gone_turn, line_turn, reload_turn};
 ghost use Rattle.lp_meaning.specs.Ticks.{turn};
 ghost use Rattle.lp_world.specs.Closed.{IsClosed};
 ghost use Rattle.lp_vm.specs.Causes.{Tells, read_of};
 ghost use Rattle.lp_driver.specs.Carrying.{RestsForOne};
-ghost use Rattle.lp_driver.specs.Turning.{MayCome, TurnEnds};
+ghost use Rattle.lp_driver.specs.Turning.{IsSwap, MayCome, TurnEnds};
 
 use crate::ticking::tick;
 use crate::turning::{run_step, run_turn};
@@ -114,6 +114,7 @@ pub(crate) fn carry_out<W: Truthful>(
     requires empty { stack.old.items ≡ [] }
     requires rests { RestsForOne (W.content swap.old) live.old }
     ensures ends { OnOk result (TurnEnds (turn event.now) (W.content swap.old) live.old (W.content swap.new) live.new) }
+    ensures swaps { IsSwap event.now → IsOk result × (live.new ≡ live.old) }
     ensures closed { OnOk result (IsClosed live.new) }
     ensures empty { OnOk result (stack.new.items ≡ []) }
     ensures tells { Tells (W.content swap.new) (W.last swap.new) (W.read_faults swap.old) (W.read_faults swap.new) (W.write_faults swap.old) (W.write_faults swap.new)

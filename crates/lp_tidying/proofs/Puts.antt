@@ -45,29 +45,29 @@ pub same_world : (told0 told1 : Option Bytes) (live0 live1 : Live) → ((program
 same_world told0 told1 live0 live1 f programs w h = record { stands = f programs w h.stands; compiled = h.compiled; shadows = h.shadows }
 
 -- one goes, and nothing else
-pub one_put : (who : Owner) (l : Live) (d : Device) (l' : Live) (d' : Device) → IsPutOut who l d l' d' → ArePutOut (who ∷ []) l d l' d'
-one_put who l d l' d' h = (l', d', h, (refl, refl))
+pub one_put : (who : Owner) (l : Live) (d : Device) (n : Idled) (l' : Live) (d' : Device) (n' : Idled) → IsPutOut who l d n l' d' n' → ArePutOut (who ∷ []) l d n l' d' n'
+one_put who l d n l' d' n' h = (l', d', n', h, (refl, refl, refl))
 
 -- Step by step, where all went well.
-pub one_ok : {A E : Type 0} (r : Result A E) (who : Owner) (l : Live) (d : Device) (l' : Live) (d' : Device) → OnOk r (IsPutOut who l d l' d') → OnOk r (ArePutOut (who ∷ []) l d l' d')
-one_ok (Ok x) who l d l' d' h = one_put who l d l' d' h
-one_ok (Err e) who l d l' d' h = tt
+pub one_ok : {E : Type 0} (r : Result Idled E) (who : Owner) (l : Live) (d : Device) (n : Idled) (l' : Live) (d' : Device) → IfOk r (IsPutOut who l d n l' d') → IfOk r (ArePutOut (who ∷ []) l d n l' d')
+one_ok (Ok k) who l d n l' d' h = one_put who l d n l' d' k h
+one_ok (Err e) who l d n l' d' h = tt
 
-pub both_ok : {A E : Type 0} (r : Result A E) (o : ObjId) (v w : Option ProgId) (l : Live) (d : Device) (m : Live) (e : Device) (l' : Live) (d' : Device) → v ≡ w → IsPutOut (owners.Object o) l d m e → OnOk r (ArePutOut (version_owners v) m e l' d')
-    → OnOk r (ArePutOut (owners.Object o ∷ version_owners w) l d l' d')
-both_ok (Ok x) o v w l d m e l' d' q p h = (m, e, p, subst (λ y. ArePutOut (version_owners y) m e l' d') q h)
-both_ok (Err f) o v w l d m e l' d' q p h = tt
+pub both_ok : {E : Type 0} (r : Result Idled E) (o : ObjId) (v w : Option ProgId) (l : Live) (d : Device) (n : Idled) (m : Live) (e : Device) (k : Idled) (l' : Live) (d' : Device) → v ≡ w → IsPutOut (owners.Object o) l d n m e k
+    → IfOk r (ArePutOut (version_owners v) m e k l' d') → IfOk r (ArePutOut (owners.Object o ∷ version_owners w) l d n l' d')
+both_ok (Ok x) o v w l d n m e k l' d' q p h = (m, e, k, p, subst (λ y. ArePutOut (version_owners y) m e k l' d' x) q h)
+both_ok (Err f) o v w l d n m e k l' d' q p h = tt
 
 -- What a name names.
-pub named_put : (name : List ℕ) (found : Option ObjId) (os : List Owner) (l : Live) (d : Device) (l' : Live) (d' : Device) → IsTold d.told → named_owners l found ≡ os → ((objects : List Named) → names.Stands l.names objects → found ≡ object_named objects name)
-    → ArePutOut os l d l' d' → (objects : List Named) → names.Stands l.names objects → ArePutWhereTold (named_owners l (object_named objects name)) l d l' d'
-named_put name found os l d l' d' told q f h objects s =
+pub named_put : (name : List ℕ) (found : Option ObjId) (os : List Owner) (l : Live) (d : Device) (l' : Live) (d' : Device) (n : Idled) → IsTold d.told → named_owners l found ≡ os → ((objects : List Named) → names.Stands l.names objects → found ≡ object_named objects name)
+    → ArePutOut os l d none_yet l' d' n → (objects : List Named) → names.Stands l.names objects → ArePutWhereTold (named_owners l (object_named objects name)) l d l' d' n
+named_put name found os l d l' d' n told q f h objects s =
     let e : os ≡ named_owners l (object_named objects name) = sym q ∙ ap (named_owners l) (f objects s) in
-    inl (told, subst (λ xs. ArePutOut xs l d l' d') e h)
+    inl (told, subst (λ xs. ArePutOut xs l d none_yet l' d' n) e h)
 
-pub named_ok : {A E : Type 0} (r : Result A E) (name : List ℕ) (found : Option ObjId) (os : List Owner) (l : Live) (d : Device) (l' : Live) (d' : Device) → IsTold d.told → named_owners l found ≡ os → ((objects : List Named) → names.Stands l.names objects → found ≡ object_named objects name)
-    → OnOk r (ArePutOut os l d l' d') → OnOk r ((objects : List Named) → names.Stands l.names objects → ArePutWhereTold (named_owners l (object_named objects name)) l d l' d')
-named_ok (Ok x) name found os l d l' d' told q f h = named_put name found os l d l' d' told q f h
+pub named_ok : {E : Type 0} (r : Result Idled E) (name : List ℕ) (found : Option ObjId) (os : List Owner) (l : Live) (d : Device) (l' : Live) (d' : Device) → IsTold d.told → named_owners l found ≡ os → ((objects : List Named) → names.Stands l.names objects → found ≡ object_named objects name)
+    → IfOk r (ArePutOut os l d none_yet l' d') → IfOk r (λ n. (objects : List Named) → names.Stands l.names objects → ArePutWhereTold (named_owners l (object_named objects name)) l d l' d' n)
+named_ok (Ok n) name found os l d l' d' told q f h = named_put name found os l d l' d' n told q f h
 named_ok (Err e) name found os l d l' d' told q f h = tt
 
 -- What was idle.

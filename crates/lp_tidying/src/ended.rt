@@ -2,7 +2,8 @@
 ghost use Rattle.std.specs.Prelude.{◌≡◌, [], List, Option, Some};
 ghost use Rattle.lp_code.specs.declared.program.RawProgram.{RawProgram as Raw};
 ghost use Rattle.lp_language.specs.World.{World};
-ghost use Rattle.lp_objects.specs.Stands.{died_in};
+ghost use Rattle.lp_objects.specs.Objects.{Named};
+ghost use Rattle.lp_objects.specs.Stands.{Stands as AreNamed, died_in};
 ghost use Rattle.lp_swapfile.specs.Device.{Bytes};
 ghost use Rattle.lp_world.specs.Closed.{IsClosed};
 ghost use Rattle.lp_world.specs.Rows.{row_at};
@@ -19,6 +20,7 @@ pub fn forget_ended(live: &mut Live)
     requires closed { IsClosed live.old }
     ensures rows { live.new.objects ≡ without_rows live.old.objects (died_in live.old.names) }
     ensures names { died_in live.new.names ≡ [] }
+    ensures named { (objects : List Named) → AreNamed live.old.names objects → AreNamed live.new.names objects }
     ensures only { live.new ≡ record live.old { names = live.new.names; objects = live.new.objects } }
     ensures world { (told : Option Bytes) (programs : List Raw) (w : World) → IsWorldOf told programs live.old w → IsWorldOf told programs live.new w }
     ensures closed { IsClosed live.new }

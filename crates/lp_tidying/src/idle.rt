@@ -7,6 +7,7 @@ ghost use Rattle.lp_targets.specs.Callees.{IsWorldOf};
 ghost use Rattle.lp_residence.specs.Idling.{going};
 ghost use Rattle.lp_tidying.specs.Putting.{AreIdlePut};
 
+use crate::counting::none_out;
 use lp_asking::truth::Truthful;
 use lp_residence::answers::Idled;
 use lp_residence::idling::idle;
@@ -33,11 +34,7 @@ pub fn put_idle<W: Truthful>(
     ensures truthful { W.is_truthful swap.new → W.is_truthful swap.old }
 {
     if !swap.tells() {
-        return Ok(Idled {
-            out: 0,
-            fault: 0,
-            full: 0,
-        });
+        return Ok(none_out());
     }
     idle(live, swap, swap_time)
 }

@@ -20,11 +20,12 @@ use Rattle.lp_top.specs.declared.opening.Opening.{Opening}
 use Rattle.lp_top.specs.declared.status.Status.{Status}
 use Rattle.lp_top.specs.declared.status.Status.TheVariants as ends
 use Rattle.lp_top.specs.Causes.{stop_status}
+use Rattle.lp_top.specs.Coming.{begun}
 use Rattle.lp_top.specs.Items.{Holds, HasNoMaster, before, has_started, moment_of, world_files}
 use Rattle.lp_top.specs.Replay.{IsAtStart, IsGoing, HasRun, Ends, Replays, IsReadingEnd}
 use Rattle.lp_top.proofs.Reading.{begins_with}
 use Rattle.lp_top.proofs.Filing.{last-fits, is_early, early-not-running, moment-small}
-use Rattle.lp_top.proofs.Going.{run-behind, wrote-reading, holds-front}
+use Rattle.lp_top.proofs.Going.{come-behind, run-behind, wrote-reading, holds-front}
 
 -- no event stands before `start`
 no-events : (c : Context) (xs : List Item) → is_early c.stage ≡ true → has_started xs ≡ false → AllFit c xs → events_of xs ≡ []
@@ -63,14 +64,16 @@ has_run-start front xs outs told live e h = record {
 }
 
 -- the driver has started
-pub going-start : (r : Reading) (opening : Opening) (told : Option Bytes) (live : Live) (outs : List Out) (a : IsAtStart r opening) → StartsAs opening.store opening.seed opening.moment told live outs → IsClosed live
-    → (w : World) × IsAtRest told live w → IsGoing r told live (a.files ++ items.Start ∷ []) (outs ∷ [])
-going-start r opening told live outs a s closed rest = record {
+pub going-start : (swap_time : ℕ) (r : Reading) (opening : Opening) (told : Option Bytes) (live : Live) (outs : List Out) (a : IsAtStart r opening) → StartsAs opening.store opening.seed opening.moment told live outs → IsClosed live
+    → (w : World) × IsAtRest told live w → IsGoing swap_time r told live (a.files ++ items.Start ∷ []) (outs ∷ [])
+going-start swap_time r opening told live outs a s closed rest = record {
   given = a.given;
   phase = a.phase;
   started = started-last a.files;
   runs = λ front real. has_run-start front a.files outs told live (events-none r opening a)
       (of-items r opening a (λ seed moment. HasStarted front (world_files a.files) seed moment told live outs) (s front (world_files a.files) real a.noted.files));
+  came = come-behind swap_time a.files items.Start [] told live refl refl (append-nil (events_of a.files) ∙ events-none r opening a)
+      (begun opening.store told live outs a.noted.files (of-items r opening a (λ seed moment. StartsAs opening.store seed moment told live outs) s));
   closed = closed;
   rest = rest;
 }
@@ -86,36 +89,36 @@ none-of : (r : Reading) (opening : Opening) (fs : List Fault) (a : IsAtStart r o
 none-of r opening fs a m front real = of-items r opening a (λ seed moment. MakesNoMaster front (world_files a.files) seed moment fs) (m front (world_files a.files) real a.noted.files)
 
 -- there is no master
-pub replays-none : (report : Bool) (b : List ℕ) (r : Reading) (told from : Option (List ℕ)) (opening : Opening) (fs : List Fault) (a : IsAtStart r opening) → Reads b r told → has_none opening.store opening.seed opening.moment fs → Replays report b (ends.NoMaster fs) from from
-replays-none report b r told from opening fs a h m = record {
+pub replays-none : (swap_time : ℕ) (report : Bool) (b : List ℕ) (r : Reading) (told from : Option (List ℕ)) (opening : Opening) (fs : List Fault) (a : IsAtStart r opening) → Reads b r told → has_none opening.store opening.seed opening.moment fs → Replays swap_time report b (ends.NoMaster fs) from from
+replays-none swap_time report b r told from opening fs a h m = record {
   read = a.files;
   ends = (held b r told opening a h, a.not_started, none-of r opening fs a m);
   wrote = λ old e. ([], nothing-more from old e, refl);
 }
 
 -- the start was not carried out
-pub replays-unstarted : (report : Bool) (b : List ℕ) (r : Reading) (told from : Option (List ℕ)) (opening : Opening) (e : VmFault) (at : ℕ) (a : IsAtStart r opening) → Reads b r told → at ≡ r.at → Replays report b (stop_status at e) from from
-replays-unstarted report b r told from opening faults.NoMemory at a h p = record {
+pub replays-unstarted : (swap_time : ℕ) (report : Bool) (b : List ℕ) (r : Reading) (told from : Option (List ℕ)) (opening : Opening) (e : VmFault) (at : ℕ) (a : IsAtStart r opening) → Reads b r told → at ≡ r.at → Replays swap_time report b (stop_status at e) from from
+replays-unstarted swap_time report b r told from opening faults.NoMemory at a h p = record {
   read = a.files;
   ends = holds-front b a.files (items.Start ∷ []) (held b r told opening a h);
   wrote = λ old e. ([], nothing-more from old e, before a.not_started);
 }
-replays-unstarted report b r told from opening (faults.Swap cause) at a h p =
+replays-unstarted swap_time report b r told from opening (faults.Swap cause) at a h p =
     let k = held b r told opening a h in
     record {
       read = a.files;
       ends = (holds-front b a.files (items.Start ∷ []) k, record { item = items.Start; begins = k; turns = refl });
       wrote = λ old e. ([], nothing-more from old e, before a.not_started);
     }
-replays-unstarted report b r told from opening faults.NotYet at a h p = record {
+replays-unstarted swap_time report b r told from opening faults.NotYet at a h p = record {
   read = a.files;
   ends = inr (record { stops = record { item = items.Start; begins = held b r told opening a h; turns = refl }; place = p ∙ a.place });
   wrote = λ old e. ([], nothing-more from old e, before a.not_started);
 }
 
 -- reading ended before `start`
-pub replays-early : (report : Bool) (b : List ℕ) (from : Option (List ℕ)) (s : Status) (xs : List Item) → has_started xs ≡ false → Ends b xs s → IsReadingEnd s → Replays report b s from from
-replays-early report b from s xs n e k = record { read = xs; ends = e; wrote = λ old f. ([], nothing-more from old f, wrote-reading report b xs [] s k (before n)) }
+pub replays-early : (swap_time : ℕ) (report : Bool) (b : List ℕ) (from : Option (List ℕ)) (s : Status) (xs : List Item) → has_started xs ≡ false → Ends b xs s → IsReadingEnd s → Replays swap_time report b s from from
+replays-early swap_time report b from s xs n e k = record { read = xs; ends = e; wrote = λ old f. ([], nothing-more from old f, wrote-reading swap_time report b xs [] s k (before n)) }
 
 abbrev is_done : Status → Bool
 is_done ends.Done = true

@@ -76,8 +76,8 @@ checks_no_memory simul b before sources h = wrote_none simul b before ends.NoMem
 pub checks_unread : (simul : Option (List ℕ)) (b : List ℕ) (told : Option (List ℕ)) → Checks simul b ends.NoMemory told told
 checks_unread simul b told = wrote_none simul b told ends.NoMemory [] (record { others = take longest_input b; spelled = refl; fit = tt }) (λ piece e. e)
 
-pub replays_unread : (report : Bool) (b : List ℕ) (told : Option (List ℕ)) → Replays report b ends.NoMemory told told
-replays_unread report b told = record {
+pub replays_unread : (swap_time : ℕ) (report : Bool) (b : List ℕ) (told : Option (List ℕ)) → Replays swap_time report b ends.NoMemory told told
+replays_unread swap_time report b told = record {
   read = [];
   ends = record { others = take longest_input b; spelled = refl; fit = tt };
   wrote = λ old f. ([], added_none told old f, none_begun refl);

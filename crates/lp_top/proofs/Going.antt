@@ -24,6 +24,7 @@ use Rattle.lp_script.specs.declared.phase.Phase.TheVariants as phases
 use Rattle.lp_script.specs.declared.phase.Ending.TheVariants.{Whole}
 use Rattle.lp_top.specs.declared.status.Status.{Status}
 use Rattle.lp_top.specs.declared.status.Status.TheVariants as ends
+use Rattle.lp_top.specs.Coming.{HasCome, gone_on}
 use Rattle.lp_top.specs.Items.{Holds, StopsAt, IsRunOf, Blocks, started, has_started, has_turn, moment_of, world_files}
 use Rattle.lp_top.specs.Reports.{IsBehind, IsBehindState, IsLastReport}
 use Rattle.lp_top.specs.Replay.{AreOf, Concludes, IsDone, IsGoing, HasRun, IsRunning, EndsReading, IsReadingEnd, Wrote, Replays, Interrupts, Finishes, IsReplayEnd}
@@ -70,6 +71,21 @@ pub run-behind : (front : FrontEnd) (xs : List Item) (x : Item) (es : List Event
 run-behind front xs x es outputs last h f e r =
     run-same front xs (xs ++ x ∷ []) es outputs last (seed-same xs x h) (moment-same xs x h) (world_files-same xs x f) (events-append xs (x ∷ []) ∙ e) r
 
+-- how the state came about, told of other items with the same head, files and events
+come-same : (swap_time : ℕ) (xs ys : List Item) (es : List Event) (told : Option Bytes) (live : Live) → seed_of ys ≡ seed_of xs → moment_of ys ≡ moment_of xs → world_files ys ≡ world_files xs → events_of ys ≡ es
+    → HasCome swap_time (seed_of xs) (moment_of xs) (world_files xs) es told live → HasCome swap_time (seed_of ys) (moment_of ys) (world_files ys) (events_of ys) told live
+come-same swap_time xs ys es told live s m f e h =
+    subst (λ n. HasCome swap_time n (moment_of ys) (world_files ys) (events_of ys) told live) (sym s)
+    (subst (λ n. HasCome swap_time (seed_of xs) n (world_files ys) (events_of ys) told live) (sym m)
+    (subst (λ fs. HasCome swap_time (seed_of xs) (moment_of xs) fs (events_of ys) told live) (sym f)
+    (subst (λ ds. HasCome swap_time (seed_of xs) (moment_of xs) (world_files xs) ds told live) (sym e) h)))
+
+-- and of an item more that is no head and no file
+pub come-behind : (swap_time : ℕ) (xs : List Item) (x : Item) (es : List Event) (told : Option Bytes) (live : Live) → is_head x ≡ false → files_of (x ∷ []) ≡ [] → events_of xs ++ events_of (x ∷ []) ≡ es
+    → HasCome swap_time (seed_of xs) (moment_of xs) (world_files xs) es told live → HasCome swap_time (seed_of (xs ++ x ∷ [])) (moment_of (xs ++ x ∷ [])) (world_files (xs ++ x ∷ [])) (events_of (xs ++ x ∷ [])) told live
+come-behind swap_time xs x es told live h f e c =
+    come-same swap_time xs (xs ++ x ∷ []) es told live (seed-same xs x h) (moment-same xs x h) (world_files-same xs x f) (events-append xs (x ∷ []) ∙ e) c
+
 -- one event more
 has_run-more : (front : FrontEnd) (real : IsFrontEnd front) (xs : List Item) (outputs : List (List Out)) (told0 told1 : Option Bytes) (live0 live1 : Live) (e : Event) (outs : List Out)
     → HasRun front xs outputs told0 live0 → TurnsAs e told0 live0 told1 live1 outs → HasRun front (xs ++ items.Event e ∷ []) (outputs ++ outs ∷ []) told1 live1
@@ -99,9 +115,9 @@ added-more None now xs ys next e f = f ∙ ap (λ o. after_adding o ys) e
 added-more (Some old) now xs ys next e f = f ∙ ap (λ o. after_adding o ys) e ∙ ap (λ zs. Some zs) (append_assoc old xs ys)
 
 -- one event more
-pub running-more : (old new : Reading) (told0 told1 : Option Bytes) (live after : Live) (from now next : Option (List ℕ)) (e : Event) (h : IsRunning old told0 live from now) → HasGiven new (h.read ++ items.Event e ∷ [])
-    → IsAfter (Ok (items.Event e)) new.phase → IsDone e told0 live told1 after now next → IsRunning new told1 after from next
-running-more old new told0 told1 live after from now next e h v p d =
+pub running-more : (swap_time : ℕ) (old new : Reading) (told0 told1 : Option Bytes) (live after : Live) (from now next : Option (List ℕ)) (e : Event) (h : IsRunning swap_time old told0 live from now) → HasGiven new (h.read ++ items.Event e ∷ [])
+    → IsAfter (Ok (items.Event e)) new.phase → IsDone swap_time e told0 live told1 after now next → IsRunning swap_time new told1 after from next
+running-more swap_time old new told0 told1 live after from now next e h v p d =
     let g = h.going in
     record {
       read = h.read ++ items.Event e ∷ [];
@@ -111,6 +127,8 @@ running-more old new told0 told1 live after from now next e h v p d =
         phase = p;
         started = started-push h.read (items.Event e) g.started;
         runs = λ front real. has_run-more front real h.read h.outputs told0 told1 live after e d.outs (g.runs front real) d.turns;
+        came = come-behind swap_time h.read (items.Event e) (events_of h.read ++ e ∷ []) told1 after refl refl refl
+            (gone_on (events_of h.read) e told0 told1 live after d.writes0 d.writes1 d.idled g.came d.tidied);
         closed = d.closed;
         rest = d.rest;
       };
@@ -185,42 +203,42 @@ told-now : (from now : Option (List ℕ)) (piece old : List ℕ) → now ≡ aft
 told-now from now piece old e f = e ∙ ap (λ o. after_adding o piece) f
 
 -- the run of the items that were carried out
-run-of : (r : Reading) (told : Option Bytes) (live : Live) (xs : List Item) (outputs : List (List Out)) → IsGoing r told live xs outputs → IsRunOf xs outputs
-run-of r told live xs outputs g front real = let h = g.runs front real in (h.last, h.run)
+run-of : (swap_time : ℕ) (r : Reading) (told : Option Bytes) (live : Live) (xs : List Item) (outputs : List (List Out)) → IsGoing swap_time r told live xs outputs → IsRunOf xs outputs
+run-of swap_time r told live xs outputs g front real = let h = g.runs front real in (h.last, h.run)
 
 -- an `end` behind them has no turn
 run-ended : (xs : List Item) (outputs : List (List Out)) → IsRunOf xs outputs → IsRunOf (xs ++ items.End ∷ []) outputs
 run-ended xs outputs h front real = let u = h front real in (u.0, run-behind front xs items.End (events_of xs) outputs u.0 refl refl (append-nil (events_of xs)) u.1)
 
 -- the blocks of the items that were carried out
-pub blocks-running : (r : Reading) (told : Option Bytes) (live : Live) (xs : List Item) (outputs : List (List Out)) → IsGoing r told live xs outputs → Blocks xs (blocks outputs)
-blocks-running r told live xs outputs g = started outputs g.started (run-of r told live xs outputs g)
+pub blocks-running : (swap_time : ℕ) (r : Reading) (told : Option Bytes) (live : Live) (xs : List Item) (outputs : List (List Out)) → IsGoing swap_time r told live xs outputs → Blocks xs (blocks outputs)
+blocks-running swap_time r told live xs outputs g = started outputs g.started (run-of swap_time r told live xs outputs g)
 
 -- an `end` behind them has no block
-pub blocks-ended : (r : Reading) (told : Option Bytes) (live : Live) (xs : List Item) (outputs : List (List Out)) → IsGoing r told live xs outputs → Blocks (xs ++ items.End ∷ []) (blocks outputs)
-blocks-ended r told live xs outputs g = started outputs (started-push xs items.End g.started) (run-ended xs outputs (run-of r told live xs outputs g))
+pub blocks-ended : (swap_time : ℕ) (r : Reading) (told : Option Bytes) (live : Live) (xs : List Item) (outputs : List (List Out)) → IsGoing swap_time r told live xs outputs → Blocks (xs ++ items.End ∷ []) (blocks outputs)
+blocks-ended swap_time r told live xs outputs g = started outputs (started-push xs items.End g.started) (run-ended xs outputs (run-of swap_time r told live xs outputs g))
 
-by_read : (r : Reading) (told : Option Bytes) (live : Live) (xs ys : List Item) (outputs : List (List Out)) → IsGoing r told live xs outputs → (ys ≡ xs) ⊎ (ys ≡ xs ++ items.End ∷ []) → Blocks ys (blocks outputs)
-by_read r told live xs ys outputs g (inl e) = subst (λ zs. Blocks zs (blocks outputs)) (sym e) (blocks-running r told live xs outputs g)
-by_read r told live xs ys outputs g (inr e) = subst (λ zs. Blocks zs (blocks outputs)) (sym e) (blocks-ended r told live xs outputs g)
+by_read : (swap_time : ℕ) (r : Reading) (told : Option Bytes) (live : Live) (xs ys : List Item) (outputs : List (List Out)) → IsGoing swap_time r told live xs outputs → (ys ≡ xs) ⊎ (ys ≡ xs ++ items.End ∷ []) → Blocks ys (blocks outputs)
+by_read swap_time r told live xs ys outputs g (inl e) = subst (λ zs. Blocks zs (blocks outputs)) (sym e) (blocks-running swap_time r told live xs outputs g)
+by_read swap_time r told live xs ys outputs g (inr e) = subst (λ zs. Blocks zs (blocks outputs)) (sym e) (blocks-ended swap_time r told live xs outputs g)
 
-pub wrote-reading : (report : Bool) (b : List ℕ) (ys : List Item) (piece : List ℕ) (s : Status) → IsReadingEnd s → Blocks ys piece → Wrote report b ys piece s
-wrote-reading report b ys piece (ends.BadScript at) k p = p
-wrote-reading report b ys piece ends.TooLarge k p = p
-wrote-reading report b ys piece ends.InputFault k p = p
-wrote-reading report b ys piece ends.NoMemory k p = p
-wrote-reading report b ys piece ends.Done k p = absurd k
-wrote-reading report b ys piece ends.BadWords k p = absurd k
-wrote-reading report b ys piece (ends.NoMaster fs) k p = absurd k
-wrote-reading report b ys piece ends.OutputFault k p = absurd k
-wrote-reading report b ys piece (ends.SwapFault cause) k p = absurd k
+pub wrote-reading : (swap_time : ℕ) (report : Bool) (b : List ℕ) (ys : List Item) (piece : List ℕ) (s : Status) → IsReadingEnd s → Blocks ys piece → Wrote swap_time report b ys piece s
+wrote-reading swap_time report b ys piece (ends.BadScript at) k p = p
+wrote-reading swap_time report b ys piece ends.TooLarge k p = p
+wrote-reading swap_time report b ys piece ends.InputFault k p = p
+wrote-reading swap_time report b ys piece ends.NoMemory k p = p
+wrote-reading swap_time report b ys piece ends.Done k p = absurd k
+wrote-reading swap_time report b ys piece ends.BadWords k p = absurd k
+wrote-reading swap_time report b ys piece (ends.NoMaster fs) k p = absurd k
+wrote-reading swap_time report b ys piece ends.OutputFault k p = absurd k
+wrote-reading swap_time report b ys piece (ends.SwapFault cause) k p = absurd k
 
 -- reading ended the replay
-pub replays-reading : (report : Bool) (b : List ℕ) (r : Reading) (told : Option Bytes) (live : Live) (from now : Option (List ℕ)) (s : Status) (h : IsRunning r told live from now) → EndsReading b h.read s → IsReadingEnd s → Replays report b s from now
-replays-reading report b r told live from now s h e k = record {
+pub replays-reading : (swap_time : ℕ) (report : Bool) (b : List ℕ) (r : Reading) (told : Option Bytes) (live : Live) (from now : Option (List ℕ)) (s : Status) (h : IsRunning swap_time r told live from now) → EndsReading b h.read s → IsReadingEnd s → Replays swap_time report b s from now
+replays-reading swap_time report b r told live from now s h e k = record {
   read = e.read;
   ends = e.ends;
-  wrote = λ old f. (blocks h.outputs, told-now from now (blocks h.outputs) old h.written f, wrote-reading report b e.read (blocks h.outputs) s k (by_read r told live h.read e.read h.outputs h.going e.same));
+  wrote = λ old f. (blocks h.outputs, told-now from now (blocks h.outputs) old h.written f, wrote-reading swap_time report b e.read (blocks h.outputs) s k (by_read swap_time r told live h.read e.read h.outputs h.going e.same));
 }
 
 front-fits : (c : Context) (xs ys : List Item) → AllFit c (xs ++ ys) → AllFit c xs
@@ -239,25 +257,25 @@ stops : (b : List ℕ) (xs : List Item) (x : Item) → Holds b (xs ++ x ∷ []) 
 stops b xs x h t = record { item = x; begins = h; turns = t }
 
 -- the turn of an item was not carried out whole
-pub replays-interrupted : (report : Bool) (b : List ℕ) (xs : List Item) (x : Item) (done : List ℕ) (turned : List Out → Type 0) (at : ℕ) (from now next : Option (List ℕ)) (s : Status)
+pub replays-interrupted : (swap_time : ℕ) (report : Bool) (b : List ℕ) (xs : List Item) (x : Item) (done : List ℕ) (turned : List Out → Type 0) (at : ℕ) (from now next : Option (List ℕ)) (s : Status)
     → Holds b (xs ++ x ∷ []) → has_turn x ≡ true → Blocks xs done → ((outs : List Out) → turned outs → Blocks (xs ++ x ∷ []) (done ++ block outs)) → at ≡ length (spellings xs) → now ≡ after_adding from done
-    → Interrupts turned at now next s → Replays report b s from next
-replays-interrupted report b xs x done turned at from now next ends.NoMemory h t bs more place w i = record {
+    → Interrupts turned at now next s → Replays swap_time report b s from next
+replays-interrupted swap_time report b xs x done turned at from now next ends.NoMemory h t bs more place w i = record {
   read = xs;
   ends = holds-front b xs (x ∷ []) h;
   wrote = λ old f. (done, i ∙ told-now from now done old w f, bs);
 }
-replays-interrupted report b xs x done turned at from now next (ends.SwapFault cause) h t bs more place w i = record {
+replays-interrupted swap_time report b xs x done turned at from now next (ends.SwapFault cause) h t bs more place w i = record {
   read = xs;
   ends = (holds-front b xs (x ∷ []) h, stops b xs x h t);
   wrote = λ old f. (done, i ∙ told-now from now done old w f, bs);
 }
-replays-interrupted report b xs x done turned at from now next (ends.BadScript n) h t bs more place w i = record {
+replays-interrupted swap_time report b xs x done turned at from now next (ends.BadScript n) h t bs more place w i = record {
   read = xs;
   ends = inr (record { stops = stops b xs x h t; place = i.1 ∙ place });
   wrote = λ old f. (done, i.0 ∙ told-now from now done old w f, bs);
 }
-replays-interrupted report b xs x done turned at from now next ends.OutputFault h t bs more place w (outs, u, cut) =
+replays-interrupted swap_time report b xs x done turned at from now next ends.OutputFault h t bs more place w (outs, u, cut) =
     let k : List ℕ = block outs in
     record {
       read = xs ++ x ∷ [];
@@ -268,26 +286,26 @@ replays-interrupted report b xs x done turned at from now next ends.OutputFault 
         (done ++ k, more outs u, inl (drop cut.0 k, ap (λ z. done ++ z) (sym (take-append-drop cut.0 k)) ∙ sym (append_assoc done (take cut.0 k) (drop cut.0 k)))),
       );
     }
-replays-interrupted report b xs x done turned at from now next ends.Done h t bs more place w i = absurd i
-replays-interrupted report b xs x done turned at from now next ends.BadWords h t bs more place w i = absurd i
-replays-interrupted report b xs x done turned at from now next (ends.NoMaster fs) h t bs more place w i = absurd i
-replays-interrupted report b xs x done turned at from now next ends.TooLarge h t bs more place w i = absurd i
-replays-interrupted report b xs x done turned at from now next ends.InputFault h t bs more place w i = absurd i
+replays-interrupted swap_time report b xs x done turned at from now next ends.Done h t bs more place w i = absurd i
+replays-interrupted swap_time report b xs x done turned at from now next ends.BadWords h t bs more place w i = absurd i
+replays-interrupted swap_time report b xs x done turned at from now next (ends.NoMaster fs) h t bs more place w i = absurd i
+replays-interrupted swap_time report b xs x done turned at from now next ends.TooLarge h t bs more place w i = absurd i
+replays-interrupted swap_time report b xs x done turned at from now next ends.InputFault h t bs more place w i = absurd i
 
 -- the blocks with that of one event more
-blocks-event : (r : Reading) (told told1 : Option Bytes) (live live1 : Live) (xs : List Item) (outputs : List (List Out)) (e : Event) (outs : List Out) → IsGoing r told live xs outputs → TurnsAs e told live told1 live1 outs
+blocks-event : (swap_time : ℕ) (r : Reading) (told told1 : Option Bytes) (live live1 : Live) (xs : List Item) (outputs : List (List Out)) (e : Event) (outs : List Out) → IsGoing swap_time r told live xs outputs → TurnsAs e told live told1 live1 outs
     → Blocks (xs ++ items.Event e ∷ []) (blocks outputs ++ block outs)
-blocks-event r told told1 live live1 xs outputs e outs g t =
+blocks-event swap_time r told told1 live live1 xs outputs e outs g t =
     subst (Blocks (xs ++ items.Event e ∷ [])) (blocks-push outputs outs)
     (started (outputs ++ outs ∷ []) (started-push xs (items.Event e) g.started) (λ front real. let h = has_run-more front real xs outputs told told1 live live1 e outs (g.runs front real) t in (h.last, h.run)))
 
 -- an event was not carried out whole
-pub replays-stopped : (report : Bool) (b : List ℕ) (r new : Reading) (told : Option Bytes) (live : Live) (next_told from now next : Option (List ℕ)) (s : Status) (e : Event) (at : ℕ) (h : IsRunning r told live from now)
-    → Reads b new next_told → HasGiven new (h.read ++ items.Event e ∷ []) → IsAfter (Ok (items.Event e)) new.phase → at ≡ r.cut → Interrupts (AreOf e told live) at now next s → Replays report b s from next
-replays-stopped report b r new told live next_told from now next s e at h n v p place i =
-    replays-interrupted report b h.read (items.Event e) (blocks h.outputs) (AreOf e told live) at from now next s
+pub replays-stopped : (swap_time : ℕ) (report : Bool) (b : List ℕ) (r new : Reading) (told : Option Bytes) (live : Live) (next_told from now next : Option (List ℕ)) (s : Status) (e : Event) (at : ℕ) (h : IsRunning swap_time r told live from now)
+    → Reads b new next_told → HasGiven new (h.read ++ items.Event e ∷ []) → IsAfter (Ok (items.Event e)) new.phase → at ≡ r.cut → Interrupts (AreOf e told live) at now next s → Replays swap_time report b s from next
+replays-stopped swap_time report b r new told live next_told from now next s e at h n v p place i =
+    replays-interrupted swap_time report b h.read (items.Event e) (blocks h.outputs) (AreOf e told live) at from now next s
     (begins_with b new next_told (h.read ++ items.Event e ∷ []) n (subst GoesOn (sym p) tt) v) refl
-    (blocks-running r told live h.read h.outputs h.going) (λ outs u. blocks-event r told u.0 live u.1 h.read h.outputs e outs h.going u.2)
+    (blocks-running swap_time r told live h.read h.outputs h.going) (λ outs u. blocks-event swap_time r told u.0 live u.1 h.read h.outputs e outs h.going u.2)
     (place ∙ cut_is r h.read h.going.given) h.written i
 
 -- the items of a script that was read whole, as the input begins with them
@@ -295,9 +313,9 @@ script-holds : (b : List ℕ) (xs : List Item) → IsScript b xs → length b �
 script-holds b xs s l = record { others = []; spelled = take_all longest_input b l ∙ s.spelled ∙ sym (append-nil _); fit = s.fit }
 
 -- the numbers of the state are those of the run
-behind-run : (report : Bool) (r : Reading) (told : Option Bytes) (live : Live) (xs : List Item) (outputs : List (List Out)) (more : List ℕ) → IsGoing r told live xs outputs → IsBehindState report live more → IsBehind report (xs ++ items.End ∷ []) more
-behind-run false r told live xs outputs more g h = h
-behind-run true r told live xs outputs more g h = (h.0, record { outputs = outputs; told = told; state = live; runs = by }, h.2)
+behind-run : (swap_time : ℕ) (report : Bool) (r : Reading) (told : Option Bytes) (live : Live) (xs : List Item) (outputs : List (List Out)) (more : List ℕ) → IsGoing swap_time r told live xs outputs → IsBehindState report live more → IsBehind swap_time report (xs ++ items.End ∷ []) more
+behind-run swap_time false r told live xs outputs more g h = h
+behind-run swap_time true r told live xs outputs more g h = (h.0, record { outputs = outputs; told = told; state = live; came = come-behind swap_time xs items.End (events_of xs) told live refl refl (append-nil (events_of xs)) g.came; runs = by }, h.2)
   where
     by : (front : FrontEnd) → IsFrontEnd front → IsLastReport front (xs ++ items.End ∷ []) outputs told live h.0
     by front real =
@@ -310,20 +328,20 @@ behind-run true r told live xs outputs more g h = (h.0, record { outputs = outpu
         }
 
 -- the end was read, and the lines at the end written, or a front of them
-finished-done : (report : Bool) (b : List ℕ) (r : Reading) (told : Option Bytes) (live : Live) (from now next : Option (List ℕ)) (s : Status) (more : List ℕ) (h : IsRunning r told live from now) → IsScript b (h.read ++ items.End ∷ []) × (length b ≤ longest_input)
-    → IsBehindState report live more → Finishes (codes "end\n" ++ more) now next s → Replays report b s from next
-finished-done report b r told live from now next ends.Done more h t k i =
-    let whole = run-ended h.read h.outputs (run-of r told live h.read h.outputs h.going) in
+finished-done : (swap_time : ℕ) (report : Bool) (b : List ℕ) (r : Reading) (told : Option Bytes) (live : Live) (from now next : Option (List ℕ)) (s : Status) (more : List ℕ) (h : IsRunning swap_time r told live from now) → IsScript b (h.read ++ items.End ∷ []) × (length b ≤ longest_input)
+    → IsBehindState report live more → Finishes (codes "end\n" ++ more) now next s → Replays swap_time report b s from next
+finished-done swap_time report b r told live from now next ends.Done more h t k i =
+    let whole = run-ended h.read h.outputs (run-of swap_time r told live h.read h.outputs h.going) in
     record {
       read = h.read ++ items.End ∷ [];
       ends = (t.0, t.1, (h.outputs, whole));
       wrote = λ old f. (
         blocks h.outputs ++ (codes "end\n" ++ more),
         told-now from next (blocks h.outputs ++ (codes "end\n" ++ more)) old (added-more from now (blocks h.outputs) (codes "end\n" ++ more) next h.written i) f,
-        (h.outputs, whole, (more, behind-run report r told live h.read h.outputs more h.going k, sym (append_assoc (blocks h.outputs) (codes "end\n") more))),
+        (h.outputs, whole, (more, behind-run swap_time report r told live h.read h.outputs more h.going k, sym (append_assoc (blocks h.outputs) (codes "end\n") more))),
       );
     }
-finished-done report b r told live from now next ends.OutputFault more h t k i =
+finished-done swap_time report b r told live from now next ends.OutputFault more h t k i =
     let xs = h.read ++ items.End ∷ [] in
     let last = codes "end\n" ++ more in
     record {
@@ -334,41 +352,41 @@ finished-done report b r told live from now next ends.OutputFault more h t k i =
         told-now from next (blocks h.outputs ++ i.0) old (added-more from now (blocks h.outputs) i.0 next h.written i.2) f,
         (
           blocks h.outputs,
-          blocks-ended r told live h.read h.outputs h.going,
-          inr (t.0, (more, behind-run report r told live h.read h.outputs more h.going k, (i.1.0, append_assoc (blocks h.outputs) (codes "end\n") more ∙ ap (λ x. blocks h.outputs ++ x) i.1.1 ∙ sym (append_assoc (blocks h.outputs) i.0 i.1.0)))),
+          blocks-ended swap_time r told live h.read h.outputs h.going,
+          inr (t.0, (more, behind-run swap_time report r told live h.read h.outputs more h.going k, (i.1.0, append_assoc (blocks h.outputs) (codes "end\n") more ∙ ap (λ x. blocks h.outputs ++ x) i.1.1 ∙ sym (append_assoc (blocks h.outputs) i.0 i.1.0)))),
         ),
       );
     }
-finished-done report b r told live from now next ends.BadWords more h t k i = absurd i
-finished-done report b r told live from now next (ends.BadScript at) more h t k i = absurd i
-finished-done report b r told live from now next (ends.NoMaster fs) more h t k i = absurd i
-finished-done report b r told live from now next ends.TooLarge more h t k i = absurd i
-finished-done report b r told live from now next ends.InputFault more h t k i = absurd i
-finished-done report b r told live from now next (ends.SwapFault cause) more h t k i = absurd i
-finished-done report b r told live from now next ends.NoMemory more h t k i = absurd i
+finished-done swap_time report b r told live from now next ends.BadWords more h t k i = absurd i
+finished-done swap_time report b r told live from now next (ends.BadScript at) more h t k i = absurd i
+finished-done swap_time report b r told live from now next (ends.NoMaster fs) more h t k i = absurd i
+finished-done swap_time report b r told live from now next ends.TooLarge more h t k i = absurd i
+finished-done swap_time report b r told live from now next ends.InputFault more h t k i = absurd i
+finished-done swap_time report b r told live from now next (ends.SwapFault cause) more h t k i = absurd i
+finished-done swap_time report b r told live from now next ends.NoMemory more h t k i = absurd i
 
 -- there was no memory for them
-finished-none : (report : Bool) (b : List ℕ) (r : Reading) (told : Option Bytes) (live : Live) (from now : Option (List ℕ)) (h : IsRunning r told live from now) → IsScript b (h.read ++ items.End ∷ []) × (length b ≤ longest_input) → Replays report b ends.NoMemory from now
-finished-none report b r told live from now h t =
+finished-none : (swap_time : ℕ) (report : Bool) (b : List ℕ) (r : Reading) (told : Option Bytes) (live : Live) (from now : Option (List ℕ)) (h : IsRunning swap_time r told live from now) → IsScript b (h.read ++ items.End ∷ []) × (length b ≤ longest_input) → Replays swap_time report b ends.NoMemory from now
+finished-none swap_time report b r told live from now h t =
     let xs = h.read ++ items.End ∷ [] in
     record {
       read = xs;
       ends = script-holds b xs t.0 t.1;
-      wrote = λ old f. (blocks h.outputs, told-now from now (blocks h.outputs) old h.written f, blocks-ended r told live h.read h.outputs h.going);
+      wrote = λ old f. (blocks h.outputs, told-now from now (blocks h.outputs) old h.written f, blocks-ended swap_time r told live h.read h.outputs h.going);
     }
 
-pub replays-finished : (report : Bool) (b : List ℕ) (r : Reading) (told : Option Bytes) (live : Live) (from now next : Option (List ℕ)) (s : Status) (h : IsRunning r told live from now) → IsScript b (h.read ++ items.End ∷ []) × (length b ≤ longest_input) → Concludes report live now next s
-    → Replays report b s from next
-replays-finished report b r told live from now next s h t (inl k) = finished-done report b r told live from now next s k.0 h t k.1 k.2
-replays-finished report b r told live from now next s h t (inr k) = subst (λ x. Replays report b x from next) (sym k.0) (subst (λ x. Replays report b ends.NoMemory from x) (sym k.1) (finished-none report b r told live from now h t))
+pub replays-finished : (swap_time : ℕ) (report : Bool) (b : List ℕ) (r : Reading) (told : Option Bytes) (live : Live) (from now next : Option (List ℕ)) (s : Status) (h : IsRunning swap_time r told live from now) → IsScript b (h.read ++ items.End ∷ []) × (length b ≤ longest_input) → Concludes report live now next s
+    → Replays swap_time report b s from next
+replays-finished swap_time report b r told live from now next s h t (inl k) = finished-done swap_time report b r told live from now next s k.0 h t k.1 k.2
+replays-finished swap_time report b r told live from now next s h t (inr k) = subst (λ x. Replays swap_time report b x from next) (sym k.0) (subst (λ x. Replays swap_time report b ends.NoMemory from x) (sym k.1) (finished-none swap_time report b r told live from now h t))
 
 -- only the block of the start is written yet
-pub running-start : (r : Reading) (told : Option Bytes) (live : Live) (from now : Option (List ℕ)) (xs : List Item) (outs : List Out) → IsGoing r told live xs (outs ∷ []) → now ≡ after_adding from (block outs) → IsRunning r told live from now
-running-start r told live from now xs outs g e = record { read = xs; outputs = outs ∷ []; going = g; written = e ∙ ap (after_adding from) (sym (append-nil (block outs))) }
+pub running-start : (swap_time : ℕ) (r : Reading) (told : Option Bytes) (live : Live) (from now : Option (List ℕ)) (xs : List Item) (outs : List Out) → IsGoing swap_time r told live xs (outs ∷ []) → now ≡ after_adding from (block outs) → IsRunning swap_time r told live from now
+running-start swap_time r told live from now xs outs g e = record { read = xs; outputs = outs ∷ []; going = g; written = e ∙ ap (after_adding from) (sym (append-nil (block outs))) }
 
 -- the block of the start was cut
-pub replays-cut : (report : Bool) (b : List ℕ) (r : Reading) (told : Option Bytes) (live : Live) (told_input from next : Option (List ℕ)) (xs : List Item) (outs : List Out) → Reads b r told_input → IsGoing r told live xs (outs ∷ []) → IsCut from next (block outs) → Replays report b ends.OutputFault from next
-replays-cut report b r told live told_input from next xs outs h g cut =
+pub replays-cut : (swap_time : ℕ) (report : Bool) (b : List ℕ) (r : Reading) (told : Option Bytes) (live : Live) (told_input from next : Option (List ℕ)) (xs : List Item) (outs : List Out) → Reads b r told_input → IsGoing swap_time r told live xs (outs ∷ []) → IsCut from next (block outs) → Replays swap_time report b ends.OutputFault from next
+replays-cut swap_time report b r told live told_input from next xs outs h g cut =
     let k : List ℕ = block outs in
     record {
       read = xs;
@@ -376,7 +394,7 @@ replays-cut report b r told live told_input from next xs outs h g cut =
       wrote = λ old f. (
         take cut.0 k,
         told-now from next (take cut.0 k) old cut.2 f,
-        (blocks (outs ∷ []), blocks-running r told live xs (outs ∷ []) g, inl (drop cut.0 k, append-nil k ∙ sym (take-append-drop cut.0 k))),
+        (blocks (outs ∷ []), blocks-running swap_time r told live xs (outs ∷ []) g, inl (drop cut.0 k, append-nil k ∙ sym (take-append-drop cut.0 k))),
       );
     }
 
@@ -396,12 +414,12 @@ kind-finish : (last : List ℕ) (now next : Option (List ℕ)) (s : Status) → 
 kind-finish last now next ends.BadWords i = absurd i
 kind-finish last now next s i = tt
 
-pub kind-finished : (report : Bool) (live : Live) (now next : Option (List ℕ)) (s : Status) → Concludes report live now next s → IsReplayEnd s
+pub kind-finished : (swap_time : ℕ) (report : Bool) (live : Live) (now next : Option (List ℕ)) (s : Status) → Concludes report live now next s → IsReplayEnd s
 kind-finished report live now next s (inl k) = kind-finish (codes "end\n" ++ k.0) now next s k.2
 kind-finished report live now next s (inr k) = subst IsReplayEnd (sym k.0) tt
 
-pub goes-running : (r : Reading) (told : Option Bytes) (live : Live) (from now : Option (List ℕ)) → IsRunning r told live from now → GoesOn r.phase
-goes-running r told live from now h = subst GoesOn (sym h.going.phase) tt
+pub goes-running : (swap_time : ℕ) (r : Reading) (told : Option Bytes) (live : Live) (from now : Option (List ℕ)) → IsRunning swap_time r told live from now → GoesOn r.phase
+goes-running swap_time r told live from now h = subst GoesOn (sym h.going.phase) tt
 
 some-same : {xs ys : List ℕ} → Some xs ≡ Some ys → ys ≡ xs
 some-same e = cc

@@ -68,9 +68,14 @@ is_make (Check simul) = false
 same_report : {a c : ℕ} {r q : Bool} → Replay a r ≡ Replay c q → r ≡ q
 same_report e = cc
 
+same_time : {a c : ℕ} {r q : Bool} → Replay a r ≡ Replay c q → a ≡ c
+same_time e = cc
+
 -- words name one replay at most
-pub replays_named : (o : Option Command) (a c : ℕ) (r q : Bool) (b : List ℕ) (s : Status) (before after : Option (List ℕ)) → o ≡ Some (Replay a r) → o ≡ Some (Replay c q) → Replays r b s before after → Replays q b s before after
-replays_named o a c r q b s before after e f h = subst (λ x. Replays x b s before after) (same_report (some_same (sym e ∙ f))) h
+pub replays_named : (o : Option Command) (a c : ℕ) (r q : Bool) (b : List ℕ) (s : Status) (before after : Option (List ℕ)) → o ≡ Some (Replay a r) → o ≡ Some (Replay c q) → Replays a r b s before after → Replays c q b s before after
+replays_named o a c r q b s before after e f h =
+    let same = some_same (sym e ∙ f) in
+    subst (λ x. Replays c x b s before after) (same_report same) (subst (λ n. Replays n r b s before after) (same_time same) h)
 
 -- words that name another command, or none, name no workload
 pub not_replay : (o : Option Command) (swap_time : ℕ) (report : Bool) (count seed : ℕ) → o ≡ Some (Replay swap_time report) → o ≡ Some (Make count seed) → ⊥

@@ -2,6 +2,7 @@ pub mod Words
 pub mod Ends
 pub mod Items
 pub mod Notes
+pub mod Coming
 pub mod Reports
 pub mod Replay
 pub mod Causes

@@ -15,7 +15,9 @@ use Rattle.lp_front_end.specs.FrontEnds.{IsFrontEnd}
 use Rattle.lp_first.specs.First.{HasFiles}
 use Rattle.lp_world.specs.declared.live.Live.{Live}
 use Rattle.lp_world.specs.Closed.{IsClosed}
+use Rattle.lp_residence.specs.declared.answers.Idled.{Idled}
 use Rattle.lp_driver.specs.Driving.{IsAtRest, TurnsAs}
+use Rattle.lp_driver.specs.Tidying.{HasTidied}
 use Rattle.lp_script.specs.declared.phase.Phase.TheVariants.{Giving}
 use Rattle.lp_script.specs.declared.fault.ScriptFault.{ScriptFault}
 use Rattle.lp_script.specs.declared.fault.ScriptFault.TheVariants as script
@@ -24,6 +26,7 @@ use Rattle.lp_top.specs.declared.opening.Opening.{Opening}
 use Rattle.lp_top.specs.declared.status.Status.{Status}
 use Rattle.lp_top.specs.declared.status.Status.TheVariants.{Done, BadWords, BadScript, NoMaster, TooLarge, InputFault, OutputFault, SwapFault, NoMemory}
 use Rattle.lp_top.specs.Reports.{IsBehind, IsBehindState}
+use Rattle.lp_top.specs.Coming.{HasCome}
 use Rattle.lp_top.specs.Items.{Holds, StopsAt, IsNotRunYet, IsRunOf, HasNoMaster, Blocks, has_started, moment_of, world_files}
 
 -- The input, with the items that were read, gives this end. At Done it is the script of these items, and they have a run.
@@ -45,23 +48,23 @@ IsFrontOf piece whole = (rest : List ℕ) × (whole ≡ piece ++ rest)
 -- What was written at an end: at Done the transcript of the run, and behind it the line of the report where it was asked for; for a
 -- master that is not made nothing, and else the blocks of the start and of each event that was read; where the sink failed a
 -- front of them, behind which after all of a script's blocks a front of the lines at the end may follow.
-abbrev pub Wrote : Bool → List ℕ → List Item → List ℕ → Status → Type 0
-Wrote report bytes xs piece Done = (outputs : List (List Out)) × IsRunOf xs outputs × ((more : List ℕ) × IsBehind report xs more × (piece ≡ transcript outputs ++ more))
-Wrote report bytes xs piece BadWords = piece ≡ []
-Wrote report bytes xs piece (BadScript at) = Blocks xs piece
-Wrote report bytes xs piece (NoMaster fs) = piece ≡ []
-Wrote report bytes xs piece TooLarge = Blocks xs piece
-Wrote report bytes xs piece InputFault = Blocks xs piece
-Wrote report bytes xs piece OutputFault = (whole : List ℕ) × Blocks xs whole × (IsFrontOf piece whole ⊎ (IsScript bytes xs × ((more : List ℕ) × IsBehind report xs more × IsFrontOf piece (whole ++ codes "end\n" ++ more))))
-Wrote report bytes xs piece (SwapFault cause) = Blocks xs piece
-Wrote report bytes xs piece NoMemory = Blocks xs piece
+abbrev pub Wrote : ℕ → Bool → List ℕ → List Item → List ℕ → Status → Type 0
+Wrote swap_time report bytes xs piece Done = (outputs : List (List Out)) × IsRunOf xs outputs × ((more : List ℕ) × IsBehind swap_time report xs more × (piece ≡ transcript outputs ++ more))
+Wrote swap_time report bytes xs piece BadWords = piece ≡ []
+Wrote swap_time report bytes xs piece (BadScript at) = Blocks xs piece
+Wrote swap_time report bytes xs piece (NoMaster fs) = piece ≡ []
+Wrote swap_time report bytes xs piece TooLarge = Blocks xs piece
+Wrote swap_time report bytes xs piece InputFault = Blocks xs piece
+Wrote swap_time report bytes xs piece OutputFault = (whole : List ℕ) × Blocks xs whole × (IsFrontOf piece whole ⊎ (IsScript bytes xs × ((more : List ℕ) × IsBehind swap_time report xs more × IsFrontOf piece (whole ++ codes "end\n" ++ more))))
+Wrote swap_time report bytes xs piece (SwapFault cause) = Blocks xs piece
+Wrote swap_time report bytes xs piece NoMemory = Blocks xs piece
 
--- What a replay of these bytes, asked for a report or not, ended with, and what it wrote behind what was told before: by the items
+-- What a replay of these bytes, with a swap time and asked for a report or not, ended with, and what it wrote behind what was told before: by the items
 -- that it read.
-pub record Replays (report : Bool) (bytes : List ℕ) (status : Status) (before after : Option (List ℕ)) : Type 0 where
+pub record Replays (swap_time : ℕ) (report : Bool) (bytes : List ℕ) (status : Status) (before after : Option (List ℕ)) : Type 0 where
   pub read : List Item
   pub ends : Ends bytes read status
-  pub wrote : (old : List ℕ) → before ≡ Some old → (piece : List ℕ) × (after ≡ Some (old ++ piece)) × Wrote report bytes read piece status
+  pub wrote : (old : List ℕ) → before ≡ Some old → (piece : List ℕ) × (after ≡ Some (old ++ piece)) × Wrote swap_time report bytes read piece status
 
 -- What was noted of these items: the files are in a store, the first one of each path, and the seed and the moment are the head's.
 pub record AreNoted (xs : List Item) (opening : Opening) : Type 0 where
@@ -84,20 +87,21 @@ pub record HasRun (front : FrontEnd) (xs : List Item) (outputs : List (List Out)
   pub run : Run front (seed_of xs) (moment_of xs) (world_files xs) (events_of xs) outputs last
   pub rest : IsAtRest told live last
 
--- The reader has given these items, and they were carried out with these outputs.
-pub record IsGoing (r : Reading) (told : Option Bytes) (live : Live) (xs : List Item) (outputs : List (List Out)) : Type 0 where
+-- The reader has given these items, and they were carried out with these outputs, with this swap time.
+pub record IsGoing (swap_time : ℕ) (r : Reading) (told : Option Bytes) (live : Live) (xs : List Item) (outputs : List (List Out)) : Type 0 where
   pub given : HasGiven r xs
   pub phase : r.phase ≡ Giving
   pub started : has_started xs ≡ true
   pub runs : (front : FrontEnd) → IsFrontEnd front → HasRun front xs outputs told live
+  pub came : HasCome swap_time (seed_of xs) (moment_of xs) (world_files xs) (events_of xs) told live
   pub closed : IsClosed live
   pub rest : (w : World) × IsAtRest told live w
 
 -- Items were carried out with these outputs: the state stands for the world after them, and their blocks are written.
-pub record IsRunning (r : Reading) (told : Option Bytes) (live : Live) (from now : Option (List ℕ)) : Type 0 where
+pub record IsRunning (swap_time : ℕ) (r : Reading) (told : Option Bytes) (live : Live) (from now : Option (List ℕ)) : Type 0 where
   pub read : List Item
   pub outputs : List (List Out)
-  pub going : IsGoing r told live read outputs
+  pub going : IsGoing swap_time r told live read outputs
   pub written : now ≡ after_adding from (blocks outputs)
 
 -- the ends that reading may give
@@ -133,10 +137,14 @@ abbrev pub is_end : Item → Bool
 is_end items.End = true
 is_end x = false
 
--- A turn was carried out with these outputs, and its block was written.
-pub record IsDone (event : Event) (told0 : Option Bytes) (live0 : Live) (told1 : Option Bytes) (live1 : Live) (before after : Option (List ℕ)) : Type 0 where
+-- A turn was carried out with these outputs, with what goes out behind it by the swap time, and its block was written.
+pub record IsDone (swap_time : ℕ) (event : Event) (told0 : Option Bytes) (live0 : Live) (told1 : Option Bytes) (live1 : Live) (before after : Option (List ℕ)) : Type 0 where
   pub outs : List Out
   pub turns : TurnsAs event told0 live0 told1 live1 outs
+  pub writes0 : ℕ
+  pub writes1 : ℕ
+  pub idled : Idled
+  pub tidied : HasTidied swap_time event told0 writes0 live0 told1 writes1 live1 idled
   pub closed : IsClosed live1
   pub rest : (w : World) × IsAtRest told1 live1 w
   pub written : after ≡ after_adding before (block outs)

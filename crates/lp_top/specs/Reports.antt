@@ -13,6 +13,7 @@ use Rattle.lp_world.specs.declared.live.Live.{Live}
 use Rattle.lp_report.specs.Report.{IsReportOf, Reports}
 use Rattle.lp_report.specs.declared.report.Report.{Report}
 use Rattle.lp_driver.specs.Driving.{IsAtRest}
+use Rattle.lp_top.specs.Coming.{HasCome}
 use Rattle.lp_top.specs.Items.{moment_of, world_files}
 
 -- the line: live objects, how many of them are out, kept versions, how many of them are out
@@ -27,17 +28,19 @@ pub record IsLastReport (front : FrontEnd) (xs : List Item) (outputs : List (Lis
   pub rest : IsAtRest told state last
   pub numbers : IsReportOf last state r
 
--- THE NUMBERS OF A RUN of these items: those of its last world, and of a state that stands for it.
-pub record IsReportOfRun (xs : List Item) (r : Report) : Type 0 where
+-- THE NUMBERS OF A RUN of these items, with this swap time: those of its last world, and of the state that came about, by the start and each
+-- turn, with what goes out behind it.
+pub record IsReportOfRun (swap_time : ℕ) (xs : List Item) (r : Report) : Type 0 where
   pub outputs : List (List Out)
   pub told : Option Bytes
   pub state : Live
+  pub came : HasCome swap_time (seed_of xs) (moment_of xs) (world_files xs) (events_of xs) told state
   pub runs : (front : FrontEnd) → IsFrontEnd front → IsLastReport front xs outputs told state r
 
 -- What stands behind a transcript: nothing, or where it was asked for the line of the report.
-abbrev pub IsBehind : Bool → List Item → List ℕ → Type 0
-IsBehind false xs more = more ≡ []
-IsBehind true xs more = (r : Report) × IsReportOfRun xs r × (more ≡ report_line r)
+abbrev pub IsBehind : ℕ → Bool → List Item → List ℕ → Type 0
+IsBehind swap_time false xs more = more ≡ []
+IsBehind swap_time true xs more = (r : Report) × IsReportOfRun swap_time xs r × (more ≡ report_line r)
 
 -- so by the numbers of a state
 abbrev pub IsBehindState : Bool → Live → List ℕ → Type 0

@@ -106,7 +106,7 @@ pub fn run<S: Source, K: Sink, W: Truthful>(
     ensures words { result ≡ Status.BadWords → command_in (map string_bytes words.now) ≡ None }
     ensures refused { command_in (map string_bytes words.now) ≡ None → (result ≡ Status.BadWords) ⊎ (result ≡ Status.NoMemory) }
     ensures untouched { command_in (map string_bytes words.now) ≡ None → (input.new ≡ input.old) × (out.new ≡ out.old) }
-    ensures replays { (swap_time : ℕ) (report : Bool) → Name words.now (Command.Replay swap_time report) → (b : List ℕ) → S.remaining input.old ≡ Some b → Replays report b result (K.written out.old) (K.written out.new) }
+    ensures replays { (swap_time : ℕ) (report : Bool) → Name words.now (Command.Replay swap_time report) → (b : List ℕ) → S.remaining input.old ≡ Some b → Replays swap_time report b result (K.written out.old) (K.written out.new) }
     ensures checks { (simul : Option (List ℕ)) → Name words.now (Command.Check simul) → (b : List ℕ) → S.remaining input.old ≡ Some b → Checks simul b result (K.written out.old) (K.written out.new) }
     ensures makes { (count seed : ℕ) → Name words.now (Command.Make count seed) → Makes count seed result (K.written out.old) (K.written out.new) }
     ensures unread { NameMake words.now → input.new ≡ input.old }

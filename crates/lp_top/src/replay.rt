@@ -48,7 +48,7 @@ fn carry_out<K: Sink, W: Truthful>(
     requires may { MayCome event.now }
     requires closed { IsClosed live.old }
     requires rest { (w : World) × IsAtRest (W.content swap.old) live.old w }
-    ensures done { OnOk result (IsDone event.now (W.content swap.old) live.old (W.content swap.new) live.new (K.written out.old) (K.written out.new)) }
+    ensures done { OnOk result (IsDone swap_time event.now (W.content swap.old) live.old (W.content swap.new) live.new (K.written out.old) (K.written out.new)) }
     ensures end { IfErr result (Interrupts (AreOf event.now (W.content swap.old) live.old) at (K.written out.old) (K.written out.new)) }
     ensures cause { IfErr result (λ s. BlamesOutput s (K.faults out.old) (K.faults out.new) (K.zeros out.old) (K.zeros out.new)) }
     ensures no_fall { K.faults out.old ≤ K.faults out.new }
@@ -56,13 +56,12 @@ fn carry_out<K: Sink, W: Truthful>(
     ensures swap { SwapTells (end_in result) (W.content swap.new) (W.last swap.new) (W.read_faults swap.old) (W.read_faults swap.new)
         (W.is_truthful swap.old) (W.is_truthful swap.new) (W.is_honest swap.old) (W.is_honest swap.new) }
 {
-    let outs = match turn(live, swap, swap_time, event) {
-        Ok(outs) => outs,
-        Err(fault) => return Err(stopped(fault, at)),
-    };
-    match write_outs(out, &outs) {
-        Ok(()) => Ok(()),
-        Err(_) => Err(Status::OutputFault),
+    match turn(live, swap, swap_time, event) {
+        Ok((outs, _idled)) => match write_outs(out, &outs) {
+            Ok(()) => Ok(()),
+            Err(_) => Err(Status::OutputFault),
+        },
+        Err(fault) => Err(stopped(fault, at)),
     }
 }
 
@@ -78,7 +77,7 @@ fn carry<K: Sink, W: Truthful>(
     requires may { MayCome event }
     requires closed { IsClosed live.old }
     requires rest { (w : World) × IsAtRest (W.content swap.old) live.old w }
-    ensures done { OnOk result (IsDone event (W.content swap.old) live.old (W.content swap.new) live.new (K.written out.old) (K.written out.new)) }
+    ensures done { OnOk result (IsDone swap_time event (W.content swap.old) live.old (W.content swap.new) live.new (K.written out.old) (K.written out.new)) }
     ensures end { IfErr result (Interrupts (AreOf event (W.content swap.old) live.old) at (K.written out.old) (K.written out.new)) }
     ensures cause { IfErr result (λ s. BlamesOutput s (K.faults out.old) (K.faults out.new) (K.zeros out.old) (K.zeros out.new)) }
     ensures no_fall { K.faults out.old ≤ K.faults out.new }
@@ -99,8 +98,8 @@ fn events<S: Source, K: Sink, W: Truthful>(
     asks_report: bool,
     live: Live,
 ) -> Status
-    requires { (from : Option (List ℕ)) × IsRunning reader.old (W.content swap.old) live from (K.written out.old) }
-    ensures replays { (b : List ℕ) (from : Option (List ℕ)) → IsRunning reader.old (W.content swap.old) live from (K.written out.old) → Reads b reader.old (S.remaining input.old) → Replays asks_report b result from (K.written out.new) }
+    requires { (from : Option (List ℕ)) × IsRunning swap_time reader.old (W.content swap.old) live from (K.written out.old) }
+    ensures replays { (b : List ℕ) (from : Option (List ℕ)) → IsRunning swap_time reader.old (W.content swap.old) live from (K.written out.old) → Reads b reader.old (S.remaining input.old) → Replays swap_time asks_report b result from (K.written out.new) }
     ensures whole { result ≡ Status.Done → (b : List ℕ) → Reads b reader.old (S.remaining input.old) → S.remaining input.new ≡ Some [] }
     ensures most { (b : List ℕ) → Reads b reader.old (S.remaining input.old) → GoneAtMost b (S.remaining input.new) }
     ensures passed { result ≡ Status.Done → IsPassedOn (K.passed out.new) }
@@ -140,8 +139,8 @@ fn begun<S: Source, K: Sink, W: Truthful>(
     live: Live,
     outs: &Outs,
 ) -> Status
-    requires { (xs : List I) × IsGoing reader.old (W.content swap.old) live xs (outs.now ∷ []) }
-    ensures replays { (b : List ℕ) → Reads b reader.old (S.remaining input.old) → Replays asks_report b result (K.written out.old) (K.written out.new) }
+    requires { (xs : List I) × IsGoing swap_time reader.old (W.content swap.old) live xs (outs.now ∷ []) }
+    ensures replays { (b : List ℕ) → Reads b reader.old (S.remaining input.old) → Replays swap_time asks_report b result (K.written out.old) (K.written out.new) }
     ensures whole { result ≡ Status.Done → (b : List ℕ) → Reads b reader.old (S.remaining input.old) → S.remaining input.new ≡ Some [] }
     ensures most { (b : List ℕ) → GoneAtMost b (S.remaining input.old) → Reads b reader.old (S.remaining input.old) → GoneAtMost b (S.remaining input.new) }
     ensures passed { result ≡ Status.Done → IsPassedOn (K.passed out.new) }
@@ -169,7 +168,7 @@ fn begin<S: Source, K: Sink, W: Truthful>(
     asks_report: bool,
 ) -> Status
     requires { IsAtStart reader.old opening }
-    ensures replays { (b : List ℕ) → Reads b reader.old (S.remaining input.old) → Replays asks_report b result (K.written out.old) (K.written out.new) }
+    ensures replays { (b : List ℕ) → Reads b reader.old (S.remaining input.old) → Replays swap_time asks_report b result (K.written out.old) (K.written out.new) }
     ensures whole { result ≡ Status.Done → (b : List ℕ) → Reads b reader.old (S.remaining input.old) → S.remaining input.new ≡ Some [] }
     ensures most { (b : List ℕ) → GoneAtMost b (S.remaining input.old) → Reads b reader.old (S.remaining input.old) → GoneAtMost b (S.remaining input.new) }
     ensures passed { result ≡ Status.Done → IsPassedOn (K.passed out.new) }
@@ -213,7 +212,7 @@ pub(crate) fn replay<S: Source, K: Sink, W: Truthful>(
     out: &mut K,
     swap: &mut W,
 ) -> Status
-    ensures replays { (b : List ℕ) → S.remaining input.old ≡ Some b → Replays asks_report b result (K.written out.old) (K.written out.new) }
+    ensures replays { (b : List ℕ) → S.remaining input.old ≡ Some b → Replays swap_time asks_report b result (K.written out.old) (K.written out.new) }
     ensures whole { result ≡ Status.Done → (b : List ℕ) → S.remaining input.old ≡ Some b → S.remaining input.new ≡ Some [] }
     ensures most { (b : List ℕ) → S.remaining input.old ≡ Some b → GoneAtMost b (S.remaining input.new) }
     ensures passed { result ≡ Status.Done → IsPassedOn (K.passed out.new) }

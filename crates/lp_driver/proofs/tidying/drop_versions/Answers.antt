@@ -1,6 +1,7 @@
 use Rattle.std.proofs.Common.{◌∙◌, ap}
 use Rattle.lp_driver.specs.Tidying.{drops_behind}
 use Rattle.lp_driver.proofs.Rested.{on_ok_of}
+use Rattle.lp_driver.proofs.Swaps.{both_ways}
 use Rattle.lp_driver.proofs.Tidied.{none_made, over_still}
 use Rattle.lp_driver.proofs.tidying.drop_versions.Goals as goal
 
@@ -12,3 +13,6 @@ returns-then-drops_behind-clause-over c = λ first o. over_still first c.args.li
 
 pub returns-clause-needed : goal.returns-clause-needed
 returns-clause-needed c = none_made c.args.live.now c.args.event.now c.args.before c.drops_behind.result (c.drops_behind.ensures ∙ ap (drops_behind c.args.event.now c.args.before) c.len.ensures) c.if-drops_behind.false
+
+pub returns-then-drops_behind-clause-quiet : goal.returns-then-drops_behind-clause-quiet
+returns-then-drops_behind-clause-quiet c = λ none. absurd (both_ways c.drops_behind.result _ (c.drops_behind.ensures ∙ ap (drops_behind c.args.event.now c.args.before) c.len.ensures) c.if-drops_behind.true none)

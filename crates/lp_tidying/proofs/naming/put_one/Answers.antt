@@ -4,7 +4,7 @@ use Rattle.lp_tidying.proofs.Puts.{put_outputs, same_world}
 use Rattle.lp_tidying.proofs.naming.put_one.Goals as goal
 
 pub returns-in-Ok-clause-put : goal.returns-in-Ok-clause-put
-returns-in-Ok-clause-put g c = record { answer = c.in-Ok._answer; put = c.in-Ok.ensures.answer; faults = c.in-Ok.ensures.faults }
+returns-in-Ok-clause-put g c = record { answer = c.in-Ok.answer; put = c.in-Ok.ensures.answer; faults = c.in-Ok.ensures.faults; counts = c.counted.ensures.counts }
 
 pub returns-in-Ok-clause-told : goal.returns-in-Ok-clause-told
 returns-in-Ok-clause-told g c = told_after c.args.who c.args.live.now (g.W.SwapFile.content c.args.swap.now) (g.W.SwapFile.content c.put_out.new.swap) c.in-Ok.ensures.written c.requires.told
@@ -19,7 +19,7 @@ pub returns-in-Err-clause-world : goal.returns-in-Err-clause-world
 returns-in-Err-clause-world g c = same_world (g.W.SwapFile.content c.args.swap.now) (g.W.SwapFile.content c.put_out.new.swap) c.args.live.now c.put_out.new.live (c.in-Err.ensures.stands c.requires.told)
 
 pub returns-in-Ok-clause-outputs : goal.returns-in-Ok-clause-outputs
-returns-in-Ok-clause-outputs g c = put_outputs c.args.who c.args.live.now c.put_out.new.live (g.W.SwapFile.content c.put_out.new.swap) (Ok c.in-Ok._answer) c.in-Ok.ensures.answer
+returns-in-Ok-clause-outputs g c = put_outputs c.args.who c.args.live.now c.put_out.new.live (g.W.SwapFile.content c.put_out.new.swap) (Ok c.in-Ok.answer) c.in-Ok.ensures.answer
 
 pub returns-in-Err-clause-outputs : goal.returns-in-Err-clause-outputs
 returns-in-Err-clause-outputs g c = put_outputs c.args.who c.args.live.now c.put_out.new.live (g.W.SwapFile.content c.put_out.new.swap) (Err c.in-Err.e) c.in-Err.ensures.answer

@@ -28,7 +28,7 @@ returns-in-Ok-Check-clause-complete_check g c = λ simul b xs words told short s
     completes_check c.one_spelling.ensures b r.read xs c.check.result short script (λ e. source (c.check.ensures.input_cause e)) (λ e. either_not (c.check.ensures.output_cause e) sink zeros) r.ends
 
 pub returns-in-Err-NoMemory-clause-replays : goal.returns-in-Err-NoMemory-clause-replays
-returns-in-Err-NoMemory-clause-replays g c = λ swap_time report named b told. replays_unread report b _
+returns-in-Err-NoMemory-clause-replays g c = λ swap_time report named b told. replays_unread swap_time report b _
 
 pub returns-in-Err-NoMemory-clause-checks : goal.returns-in-Err-NoMemory-clause-checks
 returns-in-Err-NoMemory-clause-checks g c = λ simul named b told. checks_unread simul b _

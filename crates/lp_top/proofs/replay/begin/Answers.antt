@@ -12,16 +12,16 @@ pub start-requires-clause-files : goal.start-requires-clause-files
 start-requires-clause-files g c = (world_files c.requires.files, c.requires.noted.files)
 
 pub begun-requires : goal.begun-requires
-begun-requires g c = (_, going-start c.args.reader.now c.args.opening _ c.in-Ok.live c.in-Ok.outs c.requires c.in-Ok.ensures.starts c.in-Ok.ensures.closed c.in-Ok.ensures.rest)
+begun-requires g c = (_, going-start c.args.swap_time c.args.reader.now c.args.opening _ c.in-Ok.live c.in-Ok.outs c.requires c.in-Ok.ensures.starts c.in-Ok.ensures.closed c.in-Ok.ensures.rest)
 
 pub returns-in-Err-NoMaster-clause-replays : goal.returns-in-Err-NoMaster-clause-replays
 returns-in-Err-NoMaster-clause-replays g c = λ b h.
     rw c.from_vec.ensures
-    (replays-none c.args.asks_report b c.args.reader.now _ _ c.args.opening c.in-Err-NoMaster.faults.items c.requires h
+    (replays-none c.args.swap_time c.args.asks_report b c.args.reader.now _ _ c.args.opening c.in-Err-NoMaster.faults.items c.requires h
     (subst (HasNoMasterIf c.args.opening.store c.args.opening.seed c.args.opening.moment) c.in-Err-NoMaster.field-0-is c.in-Err-NoMaster.ensures.none))
 
 pub returns-in-Err-Stopped-clause-replays : goal.returns-in-Err-Stopped-clause-replays
-returns-in-Err-Stopped-clause-replays g c = λ b h. rw c.stopped.ensures (replays-unstarted c.args.asks_report b c.args.reader.now _ _ c.args.opening c.in-Err-Stopped.fault c.at-at.result c.requires h c.at-at.ensures)
+returns-in-Err-Stopped-clause-replays g c = λ b h. rw c.stopped.ensures (replays-unstarted c.args.swap_time c.args.asks_report b c.args.reader.now _ _ c.args.opening c.in-Err-Stopped.fault c.at-at.result c.requires h c.at-at.ensures)
 
 pub returns-in-Err-Stopped-clause-whole : goal.returns-in-Err-Stopped-clause-whole
 returns-in-Err-Stopped-clause-whole g c = λ e. absurd (stop-not-done c.at-at.result c.in-Err-Stopped.fault (sym c.stopped.ensures ∙ e))

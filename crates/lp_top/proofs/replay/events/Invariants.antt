@@ -11,7 +11,7 @@ abbrev pub invariant-loop-item : goal.invariant-loop-item
 invariant-loop-item g l =
     let device = g.W.SwapFile in
     record {
-      running : (from : Option (List ℕ)) → IsRunning l.fn.reader (device.content l.fn.swap) l.fn.live from (g.K.Sink.written l.fn.out) → IsRunning l.reader (device.content l.swap) l.live from (g.K.Sink.written l.out);
+      running : (from : Option (List ℕ)) → IsRunning l.fn.swap_time l.fn.reader (device.content l.fn.swap) l.fn.live from (g.K.Sink.written l.fn.out) → IsRunning l.fn.swap_time l.reader (device.content l.swap) l.live from (g.K.Sink.written l.out);
       reads : (b : List ℕ) → Reads b l.fn.reader (g.S.Source.remaining l.fn.input) → Reads b l.reader (g.S.Source.remaining l.input);
       source_faults : g.S.Source.faults l.fn.input ≤ g.S.Source.faults l.input;
       sink_faults : g.K.Sink.faults l.fn.out ≤ g.K.Sink.faults l.out;

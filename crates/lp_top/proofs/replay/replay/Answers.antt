@@ -5,7 +5,7 @@ use Rattle.lp_top.proofs.replay.replay.Goals as goal
 pub returns-in-Err-clause-replays : goal.returns-in-Err-clause-replays
 returns-in-Err-clause-replays g c = λ b h.
     let e = c.in-Err.ensures.end b h in
-    replays-early c.args.asks_report b _ c.in-Err.status e.0 e.1 e.2 c.in-Err.ensures.kind
+    replays-early c.args.swap_time c.args.asks_report b _ c.in-Err.status e.0 e.1 e.2 c.in-Err.ensures.kind
 
 pub returns-in-Err-clause-swap : goal.returns-in-Err-clause-swap
 returns-in-Err-clause-swap g c = still-tells c.in-Err.status _ _ _ _ _ (reading-calm c.in-Err.status c.in-Err.ensures.kind)
