@@ -1,6 +1,7 @@
 -- What is read of the files, and what is done to them, is what it means.
-use Rattle.std.proofs.Common.{◌≡◌, ◌∙◌, ◌++◌, ℕ, Bool, true, false, List, Option, Some, None, refl, ap, sym, subst, length, pos, is_some, if◌then◌else◌}
+use Rattle.std.proofs.Common.{◌≡◌, ◌∙◌, ◌++◌, ℕ, Bool, true, false, List, [], Option, Some, None, refl, ap, sym, subst, length, pos, is_some, if◌then◌else◌}
 use Rattle.std.specs.Prelude.{◌&&◌, IsUtf8, bytes_eq, chars, encode_utf8_all, nat_le, nat_lt}
+use Rattle.std.specs.Option.{unwrap_or}
 use Rattle.std.proofs.lemmas.Bool.{le-leb, lt-leb, ltb-false, ltb-true}
 use Rattle.std.proofs.lemmas.Slice.Eq.{bytes_eq-Decides}
 use Rattle.lp_values.specs.Limits.{max_code_points}
@@ -30,6 +31,10 @@ pub shows_none : (live : Live) (of : Option (List ℕ) → Value) (v : Value) �
 shows_none live of v e told programs w h = e
 
 -- Writing
+
+pub or_empty-is : (o : Option (List ℕ)) → unwrap_or o [] ≡ or_empty o
+or_empty-is None = refl
+or_empty-is (Some bytes) = refl
 
 pub comes_written : (live live1 : Live) (path text : List ℕ) → live1 ≡ record live { store = live1.store } → IsWith live.store live1.store path (Some (or_empty (file_at live.store path) ++ encode_utf8_all text))
     → Comes (written_to (Some path) text) live (outcomes.Value (Int (pos 1))) live1

@@ -2,6 +2,7 @@ pub mod Become
 pub mod Coming
 pub mod Elsewhere
 pub mod Keeping
+pub mod Lengths
 pub mod PathTests
 pub mod Putting
 pub mod Spelled

@@ -42,11 +42,15 @@ fn short_text(alloc: Global, text: &str) -> Result<Value, AllocError>
     bounded(alloc, points)
 }
 
-/// The text of bytes that are UTF-8 and no longer than a text may be, or 0.
+/// The text of bytes that are UTF-8 and no longer than a text may be, or 0. Bytes that are too many for that, four for each code point, are
+/// not looked at.
 fn text_or_zero(alloc: Global, bytes: &[u8]) -> Result<Value, AllocError>
     ensures value { IfOk result (λ v. v ≡ text_or_zero bytes.now) }
     ensures there { IfOk result (λ v. (cells : Store) → IsThere cells v) }
 {
+    if bytes.len() / 4 > MAX_CODE_POINTS {
+        return Ok(Value::Int(0));
+    }
     match std::str::from_utf8(bytes) {
         Ok(text) => short_text(alloc, text),
         Err(_) => Ok(Value::Int(0)),
@@ -54,7 +58,7 @@ fn text_or_zero(alloc: Global, bytes: &[u8]) -> Result<Value, AllocError>
 }
 
 /// The text of a file, or 0 where leave was refused, where no file is there, and where its bytes are no UTF-8 or more than 100000 code
-/// points.
+/// points. Takes time for at most 400000 bytes.
 pub fn read_text(live: &Live, path: Option<&str>) -> Result<Value, AllocError>
     ensures shows { IfOk result (λ v. Shows (λ w. read_value (bytes_of w (option_copied path.entry))) live.now v) }
     ensures there { IfOk result (λ v. (cells : Store) → IsThere cells v) }

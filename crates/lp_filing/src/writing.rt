@@ -22,35 +22,15 @@ fn utf8_of(alloc: Global, text: &[char]) -> Result<String, AllocError>
     Ok(spelled)
 }
 
-/// These bytes, if any are given, to be changed.
-fn copied(alloc: Global, bytes: Option<&[u8]>) -> Result<Vec<u8>, AllocError>
-    ensures { IfOk result (λ v. v.items ≡ or_empty (option_copied bytes.entry)) }
-{
-    match bytes {
-        Some(bytes) => Vec::from_slice(alloc, bytes),
-        None => Ok(Vec::new(alloc)),
-    }
-}
-
-/// These bytes, if any are given, with a text behind them.
-fn with_text(alloc: Global, bytes: Option<&[u8]>, text: &[char]) -> Result<Vec<u8>, AllocError>
-    ensures { IfOk result (λ v. v.items ≡ or_empty (option_copied bytes.entry) ++ encode_utf8_all text.now) }
-{
-    let more = utf8_of(alloc, text)?;
-    let mut all = copied(alloc, bytes)?;
-    all.extend_from_slice(more.as_bytes())?;
-    Ok(all)
-}
-
-/// A text is appended to a file, which is made where it is not there.
+/// A text is appended to a file, which is made where it is not there. Takes time for the text.
 fn append_to(live: &mut Live, path: &str, text: &[char]) -> Result<(), AllocError>
     ensures others { live.new ≡ record live.old { store = live.new.store } }
     ensures files { OnOk result (IsWith live.old.store live.new.store path.now (Some (or_empty (file_at live.old.store path.now) ++ encode_utf8_all text.now))) }
     ensures changed { OnOk result (changed_in live.new.store ≡ with_path path.now (changed_in live.old.store)) }
     ensures err { OnErr result (IsSame live.old.store live.new.store) }
 {
-    let bytes = with_text(live.alloc, live.store.read(path), text)?;
-    live.store.write(path, bytes.as_slice())
+    let more = utf8_of(live.alloc, text)?;
+    live.store.append(path, more.as_bytes())
 }
 
 /// Appends a text to a file, which is made where it is not there: 1, or 0 where leave was refused, and then nothing changes.

@@ -19,6 +19,7 @@ use lp_world::frame::Frame;
 use lp_world::live::Live;
 
 /// Carries out one instruction of a function that runs.
+#[inline(always)]
 fn go(
     live: &mut Live,
     stack: &mut Vec<Value>,

@@ -149,6 +149,7 @@ fn on_values(
 }
 
 /// A binary operator: takes its operands. Most are integers, whose result takes their place.
+#[inline(always)]
 pub fn binary_operator(
     live: &mut Live,
     stack: &mut Vec<Value>,

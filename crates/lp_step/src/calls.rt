@@ -9,6 +9,7 @@ use lp_values::value::Value;
 use lp_world::frame::Frame;
 
 /// Calls a function of the program's own table.
+#[inline(always)]
 pub fn call_slot(stack: &mut Vec<Value>, frame: &mut Frame, k: u32, n: u32) -> Next
     requires room { frame.old.at + 1 < 2 ^ 32 }
     ensures table { (live : _) (budget : _) → Performs (Instr.CallSlot k n) live stack.old.items frame.old budget result live stack.new.items frame.new budget }
@@ -22,6 +23,7 @@ pub fn call_slot(stack: &mut Vec<Value>, frame: &mut Frame, k: u32, n: u32) -> N
 }
 
 /// Calls a function of a parent's table.
+#[inline(always)]
 pub fn call_fixed(stack: &mut Vec<Value>, frame: &mut Frame, parent: u32, j: u32, n: u32) -> Next
     requires room { frame.old.at + 1 < 2 ^ 32 }
     ensures table { (live : _) (budget : _) → Performs (Instr.CallFixed parent j n) live stack.old.items frame.old budget result live stack.new.items frame.new budget }
@@ -35,6 +37,7 @@ pub fn call_fixed(stack: &mut Vec<Value>, frame: &mut Frame, parent: u32, j: u32
 }
 
 /// Calls a function of an object.
+#[inline(always)]
 pub fn call_other(stack: &mut Vec<Value>, frame: &mut Frame, n: u32) -> Next
     requires room { frame.old.at + 1 < 2 ^ 32 }
     ensures table { (live : _) (budget : _) → Performs (Instr.CallOther n) live stack.old.items frame.old budget result live stack.new.items frame.new budget }
@@ -48,6 +51,7 @@ pub fn call_other(stack: &mut Vec<Value>, frame: &mut Frame, n: u32) -> Next
 }
 
 /// Calls a function of the simul-efun object.
+#[inline(always)]
 pub fn call_simul(stack: &mut Vec<Value>, frame: &mut Frame, k: u32, n: u32) -> Next
     requires room { frame.old.at + 1 < 2 ^ 32 }
     ensures table { (live : _) (budget : _) → Performs (Instr.CallSimul k n) live stack.old.items frame.old budget result live stack.new.items frame.new budget }
@@ -61,6 +65,7 @@ pub fn call_simul(stack: &mut Vec<Value>, frame: &mut Frame, k: u32, n: u32) -> 
 }
 
 /// Calls an efun.
+#[inline(always)]
 pub fn call_efun(stack: &mut Vec<Value>, frame: &mut Frame, efun: Efun, n: u32) -> Next
     requires room { frame.old.at + 1 < 2 ^ 32 }
     ensures table { (live : _) (budget : _) → Performs (Instr.CallEfun efun n) live stack.old.items frame.old budget result live stack.new.items frame.new budget }

@@ -136,6 +136,7 @@ fn on_value(
 }
 
 /// One more or one less: takes a value. Most are integers, whose result takes their place.
+#[inline(always)]
 pub fn step_operator(
     live: &Live,
     stack: &mut Vec<Value>,

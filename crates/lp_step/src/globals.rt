@@ -12,6 +12,7 @@ use lp_world::frame::Frame;
 use lp_world::live::Live;
 
 /// Pushes a variable of the object.
+#[inline(always)]
 pub fn push_global(
     live: &Live,
     stack: &mut Vec<Value>,
@@ -33,6 +34,7 @@ pub fn push_global(
 }
 
 /// Writes the top of the stack to a variable of the object.
+#[inline(always)]
 pub fn set_global(
     live: &mut Live,
     stack: &mut Vec<Value>,

@@ -13,6 +13,7 @@ use lp_tree::operator::{BinOp, Step};
 use lp_values::value::Value;
 
 /// A sum, if 64 bits hold it.
+#[inline(always)]
 fn sum(m: i64, n: i64) -> Option<i64>
     ensures { IfSome result (λ k. whole (m +ℤ n) ≡ int k) }
 {
@@ -20,6 +21,7 @@ fn sum(m: i64, n: i64) -> Option<i64>
 }
 
 /// A difference, if 64 bits hold it.
+#[inline(always)]
 fn difference(m: i64, n: i64) -> Option<i64>
     ensures { IfSome result (λ k. whole (m -ℤ n) ≡ int k) }
 {
@@ -27,6 +29,7 @@ fn difference(m: i64, n: i64) -> Option<i64>
 }
 
 /// A product, if 64 bits hold it.
+#[inline(always)]
 fn product(m: i64, n: i64) -> Option<i64>
     ensures { IfSome result (λ k. whole (m *ℤ n) ≡ int k) }
 {
@@ -34,6 +37,7 @@ fn product(m: i64, n: i64) -> Option<i64>
 }
 
 /// A quotient, rounded towards 0. `None` for 0, and where 64 bits do not hold it.
+#[inline(always)]
 fn quotient(m: i64, n: i64) -> Option<i64>
     ensures { IfSome result (λ k. divided m n ≡ int k) }
 {
@@ -44,6 +48,7 @@ fn quotient(m: i64, n: i64) -> Option<i64>
 }
 
 /// What a division leaves. `None` for 0 and for -1, by which the machine does not divide.
+#[inline(always)]
 fn rest(m: i64, n: i64) -> Option<i64>
     ensures { IfSome result (λ k. remainder m n ≡ int k) }
 {
@@ -54,6 +59,7 @@ fn rest(m: i64, n: i64) -> Option<i64>
 }
 
 /// 1 for true, 0 for false.
+#[inline(always)]
 fn truth(b: bool) -> Option<i64>
     ensures { IfSome result (λ k. truth b ≡ int k) }
 {
@@ -61,6 +67,7 @@ fn truth(b: bool) -> Option<i64>
 }
 
 /// What a binary operator gives for two integers. `None` where that is an error, and for shifts.
+#[inline(always)]
 fn of_integers(op: BinOp, m: i64, n: i64) -> Option<i64>
     ensures { (live : ObjId → Bool) → IfSome result (λ k. operators.result_of live op (Number m) (Number n) ≡ int k) }
 {
@@ -85,6 +92,7 @@ fn of_integers(op: BinOp, m: i64, n: i64) -> Option<i64>
 }
 
 /// One more or one less. `None` where 64 bits do not hold it.
+#[inline(always)]
 fn next_integer(step: Step, n: i64) -> Option<i64>
     ensures { IfSome result (λ k. step_effect step (Number n) ≡ int k) }
 {
@@ -95,6 +103,7 @@ fn next_integer(step: Step, n: i64) -> Option<i64>
 }
 
 /// The integer at a place, if one is there.
+#[inline(always)]
 fn integer_at(stack: &Vec<Value>, i: usize) -> Option<i64>
     requires { i < length stack.now.items }
     ensures { IfSome result (λ n. slice_get stack.now.items i ≡ Some (Value.Int n)) }
@@ -106,6 +115,7 @@ fn integer_at(stack: &Vec<Value>, i: usize) -> Option<i64>
 }
 
 /// Writes an integer in the place of the two topmost values.
+#[inline(always)]
 fn put_for_two(stack: &mut Vec<Value>, k: i64)
     requires { 2 ≤ length stack.old.items }
     ensures { (left : List V) (right : V) → stack.old.items ≡ left ++ right ∷ [] → stack.new.items ≡ slice_set left (length left - 1) (Value.Int k) }
@@ -117,6 +127,7 @@ fn put_for_two(stack: &mut Vec<Value>, k: i64)
 
 /// A binary operator on two integers: its price is 1, and its result takes their place. Where other values lie there,
 /// the result is an error or nothing is left of the budget, nothing changes and it says so.
+#[inline(always)]
 pub fn binary_in_place(stack: &mut Vec<Value>, budget: &mut u64, op: BinOp) -> bool
     requires { 2 ≤ length stack.old.items }
     ensures { InPlace op stack.old.items stack.new.items budget.old result budget.new }
@@ -140,6 +151,7 @@ pub fn binary_in_place(stack: &mut Vec<Value>, budget: &mut u64, op: BinOp) -> b
 }
 
 /// One more or one less of an integer likewise.
+#[inline(always)]
 pub fn count_in_place(stack: &mut Vec<Value>, budget: &mut u64, step: Step) -> bool
     requires { 1 ≤ length stack.old.items }
     ensures { CountsInPlace step stack.old.items stack.new.items budget.old result budget.new }

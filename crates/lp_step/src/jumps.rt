@@ -11,6 +11,7 @@ use lp_world::frame::{Catch, Frame};
 use lp_world::live::Live;
 
 /// Goes on elsewhere.
+#[inline(always)]
 pub fn jump(stack: &mut Vec<Value>, frame: &mut Frame, to: u32) -> Next
     ensures table { (live : _) (budget : _) → Performs (Instr.Jump to) live stack.old.items frame.old budget result live stack.new.items frame.new budget }
     ensures keeps { (live : _) → Keeps live stack.old.items result live stack.new.items }
@@ -20,6 +21,7 @@ pub fn jump(stack: &mut Vec<Value>, frame: &mut Frame, to: u32) -> Next
 }
 
 /// Drops the top, and goes on elsewhere where it is 0.
+#[inline(always)]
 pub fn jump_if_zero(live: &Live, stack: &mut Vec<Value>, frame: &mut Frame, to: u32) -> Next
     requires room { frame.old.at + 1 < 2 ^ 32 }
     requires operands { 1 ≤ length stack.old.items }
@@ -36,6 +38,7 @@ pub fn jump_if_zero(live: &Live, stack: &mut Vec<Value>, frame: &mut Frame, to: 
 }
 
 /// Drops the top, and goes on elsewhere where it is not 0.
+#[inline(always)]
 pub fn jump_if_not_zero(live: &Live, stack: &mut Vec<Value>, frame: &mut Frame, to: u32) -> Next
     requires room { frame.old.at + 1 < 2 ^ 32 }
     requires operands { 1 ≤ length stack.old.items }
@@ -52,6 +55,7 @@ pub fn jump_if_not_zero(live: &Live, stack: &mut Vec<Value>, frame: &mut Frame, 
 }
 
 /// Goes on elsewhere and keeps the top where it is 0, else drops it.
+#[inline(always)]
 pub fn keep_if_zero(live: &Live, stack: &mut Vec<Value>, frame: &mut Frame, to: u32) -> Next
     requires room { frame.old.at + 1 < 2 ^ 32 }
     requires operands { 1 ≤ length stack.old.items }
@@ -68,6 +72,7 @@ pub fn keep_if_zero(live: &Live, stack: &mut Vec<Value>, frame: &mut Frame, to: 
 }
 
 /// Goes on elsewhere and keeps the top where it is not 0, else drops it.
+#[inline(always)]
 pub fn keep_if_not_zero(live: &Live, stack: &mut Vec<Value>, frame: &mut Frame, to: u32) -> Next
     requires room { frame.old.at + 1 < 2 ^ 32 }
     requires operands { 1 ≤ length stack.old.items }
@@ -84,6 +89,7 @@ pub fn keep_if_not_zero(live: &Live, stack: &mut Vec<Value>, frame: &mut Frame, 
 }
 
 /// A turn of a loop takes 1 from the budget.
+#[inline(always)]
 pub fn loop_turn(stack: &mut Vec<Value>, frame: &mut Frame, budget: &mut u64) -> Next
     requires room { frame.old.at + 1 < 2 ^ 32 }
     ensures table { (live : _) → Performs Instr.LoopTurn live stack.old.items frame.old budget.old result live stack.new.items frame.new budget.new }
@@ -98,6 +104,7 @@ pub fn loop_turn(stack: &mut Vec<Value>, frame: &mut Frame, budget: &mut u64) ->
 }
 
 /// Opens a catch that goes on at a place.
+#[inline(always)]
 pub fn catch_begin(stack: &mut Vec<Value>, frame: &mut Frame, to: u32) -> Result<Next, StepFault>
     requires room { frame.old.at + 1 < 2 ^ 32 }
     requires low { length stack.old.items < 2 ^ 32 }
@@ -114,6 +121,7 @@ pub fn catch_begin(stack: &mut Vec<Value>, frame: &mut Frame, to: u32) -> Result
 }
 
 /// Closes the innermost catch.
+#[inline(always)]
 pub fn catch_end(stack: &mut Vec<Value>, frame: &mut Frame) -> Next
     requires room { frame.old.at + 1 < 2 ^ 32 }
     requires open { 1 ≤ length frame.old.catches.items }
@@ -126,6 +134,7 @@ pub fn catch_end(stack: &mut Vec<Value>, frame: &mut Frame) -> Next
 }
 
 /// Ends the function with the top of the stack.
+#[inline(always)]
 pub fn returns(stack: &mut Vec<Value>, frame: &mut Frame) -> Next
     requires { 1 ≤ length stack.old.items }
     ensures table { (live : _) (budget : _) → Performs Instr.Return live stack.old.items frame.old budget result live stack.new.items frame.new budget }
@@ -135,6 +144,7 @@ pub fn returns(stack: &mut Vec<Value>, frame: &mut Frame) -> Next
 }
 
 /// Ends the function with 0.
+#[inline(always)]
 pub fn returns_zero(stack: &mut Vec<Value>, frame: &mut Frame) -> Next
     ensures table { (live : _) (budget : _) → Performs Instr.ReturnZero live stack.old.items frame.old budget result live stack.new.items frame.new budget }
     ensures keeps { (live : _) → Keeps live stack.old.items result live stack.new.items }

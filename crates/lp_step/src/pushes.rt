@@ -11,6 +11,7 @@ use lp_values::value::Value;
 use lp_world::frame::Frame;
 
 /// Pushes an integer.
+#[inline(always)]
 pub fn push_int(stack: &mut Vec<Value>, frame: &mut Frame, z: i64) -> Result<Next, StepFault>
     requires { frame.old.at + 1 < 2 ^ 32 }
     ensures table { IfOk result (λ n. (live : _) (budget : _) → Performs (Instr.PushInt z) live stack.old.items frame.old budget n live stack.new.items frame.new budget) }
@@ -22,6 +23,7 @@ pub fn push_int(stack: &mut Vec<Value>, frame: &mut Frame, z: i64) -> Result<Nex
 }
 
 /// A text of the program's list. It keeps its memory.
+#[inline(always)]
 fn text_at(frame: &Frame, k: u32) -> Result<Text, StepFault>
     requires { k < length frame.now.code.consts }
     ensures { IfOk result (λ t. slice_get frame.now.code.consts k ≡ Some t) }
@@ -30,6 +32,7 @@ fn text_at(frame: &Frame, k: u32) -> Result<Text, StepFault>
 }
 
 /// Pushes a text of the program's list.
+#[inline(always)]
 pub fn push_text(stack: &mut Vec<Value>, frame: &mut Frame, k: u32) -> Result<Next, StepFault>
     requires room { frame.old.at + 1 < 2 ^ 32 }
     requires there { k < length frame.old.code.consts }
@@ -43,6 +46,7 @@ pub fn push_text(stack: &mut Vec<Value>, frame: &mut Frame, k: u32) -> Result<Ne
 }
 
 /// Pushes a local.
+#[inline(always)]
 pub fn push_local(stack: &mut Vec<Value>, frame: &mut Frame, k: u32) -> Result<Next, StepFault>
     requires room { frame.old.at + 1 < 2 ^ 32 }
     requires there { frame.old.bottom + k < length stack.old.items }
@@ -56,6 +60,7 @@ pub fn push_local(stack: &mut Vec<Value>, frame: &mut Frame, k: u32) -> Result<N
 }
 
 /// Writes the top of the stack to a local.
+#[inline(always)]
 pub fn set_local(stack: &mut Vec<Value>, frame: &mut Frame, k: u32) -> Result<Next, StepFault>
     requires room { frame.old.at + 1 < 2 ^ 32 }
     requires there { frame.old.bottom + k < length stack.old.items }
@@ -70,6 +75,7 @@ pub fn set_local(stack: &mut Vec<Value>, frame: &mut Frame, k: u32) -> Result<Ne
 }
 
 /// Drops the top of the stack.
+#[inline(always)]
 pub fn drop_value(stack: &mut Vec<Value>, frame: &mut Frame) -> Next
     requires room { frame.old.at + 1 < 2 ^ 32 }
     requires operands { 1 ≤ length stack.old.items }
@@ -82,6 +88,7 @@ pub fn drop_value(stack: &mut Vec<Value>, frame: &mut Frame) -> Next
 }
 
 /// Pushes the top of the stack again.
+#[inline(always)]
 pub fn again_one(stack: &mut Vec<Value>, frame: &mut Frame) -> Result<Next, StepFault>
     requires room { frame.old.at + 1 < 2 ^ 32 }
     requires operands { 1 ≤ length stack.old.items }
@@ -95,6 +102,7 @@ pub fn again_one(stack: &mut Vec<Value>, frame: &mut Frame) -> Result<Next, Step
 }
 
 /// Pushes the two topmost values again.
+#[inline(always)]
 pub fn again_two(stack: &mut Vec<Value>, frame: &mut Frame) -> Result<Next, StepFault>
     requires room { frame.old.at + 1 < 2 ^ 32 }
     requires operands { 2 ≤ length stack.old.items }

@@ -11,6 +11,7 @@ use lp_world::frame::Catch;
 use lp_world::objects::ObjectTable;
 
 /// Puts a value on top.
+#[inline(always)]
 pub fn push(stack: &mut Vec<Value>, v: Value) -> Result<(), StepFault>
     ensures { OnOk result (stack.new.items ≡ stack.old.items ++ v ∷ []) }
 {
@@ -19,6 +20,7 @@ pub fn push(stack: &mut Vec<Value>, v: Value) -> Result<(), StepFault>
 }
 
 /// Takes the topmost value.
+#[inline(always)]
 pub fn pop(stack: &mut Vec<Value>) -> Value
     requires { 1 ≤ length stack.old.items }
     ensures { stack.old.items ≡ stack.new.items ++ result ∷ [] }
@@ -27,6 +29,7 @@ pub fn pop(stack: &mut Vec<Value>) -> Value
 }
 
 /// A copy of the value at a place.
+#[inline(always)]
 pub fn copy_at(stack: &Vec<Value>, i: usize) -> Result<Value, StepFault>
     requires { i < length stack.now.items }
     ensures { IfOk result (λ v. slice_get stack.now.items i ≡ Some v) }
@@ -35,6 +38,7 @@ pub fn copy_at(stack: &Vec<Value>, i: usize) -> Result<Value, StepFault>
 }
 
 /// Writes the value at a place.
+#[inline(always)]
 pub fn write_at(stack: &mut Vec<Value>, i: usize, v: Value)
     requires { i < length stack.old.items }
     ensures { stack.new.items ≡ slice_set stack.old.items i v }
@@ -43,6 +47,7 @@ pub fn write_at(stack: &mut Vec<Value>, i: usize, v: Value)
 }
 
 /// Whether the topmost value reads as 0.
+#[inline(always)]
 pub fn is_top_zero(stack: &Vec<Value>, objects: &ObjectTable) -> bool
     requires { 1 ≤ length stack.now.items }
     ensures { (rest : List V) (v : V) → stack.now.items ≡ rest ++ v ∷ [] → result ≡ is_zero (live_in objects.now) v }
@@ -51,6 +56,7 @@ pub fn is_top_zero(stack: &Vec<Value>, objects: &ObjectTable) -> bool
 }
 
 /// Adds an innermost catch.
+#[inline(always)]
 pub fn push_catch(catches: &mut Vec<Catch>, c: Catch) -> Result<(), StepFault>
     ensures { OnOk result (catches.new.items ≡ catches.old.items ++ c ∷ []) }
 {
@@ -59,6 +65,7 @@ pub fn push_catch(catches: &mut Vec<Catch>, c: Catch) -> Result<(), StepFault>
 }
 
 /// Takes the innermost catch.
+#[inline(always)]
 pub fn pop_catch(catches: &mut Vec<Catch>) -> Catch
     requires { 1 ≤ length catches.old.items }
     ensures { catches.old.items ≡ catches.new.items ++ result ∷ [] }
@@ -67,6 +74,7 @@ pub fn pop_catch(catches: &mut Vec<Catch>) -> Catch
 }
 
 /// Pays, or tells that the budget is spent: then nothing is left of it.
+#[inline(always)]
 pub fn pay(budget: &mut u64, n: u64) -> bool
     ensures { Pays n budget.old result budget.new }
 {
@@ -79,6 +87,7 @@ pub fn pay(budget: &mut u64, n: u64) -> bool
 }
 
 /// Pays a price that may be above 64 bits, or tells that the budget is spent: then nothing is left of it.
+#[inline(always)]
 pub fn pay_wide(budget: &mut u64, n: u128) -> bool
     ensures { Pays n budget.old result budget.new }
 {

@@ -29,6 +29,7 @@ use lp_world::frame::Frame;
 use lp_world::live::Live;
 
 /// The instruction that comes next.
+#[inline(always)]
 fn fetch(frame: &Frame) -> Instr
     requires { IsSome (instr_at frame.now) }
     ensures { instr_at frame.now ≡ Some result }
@@ -37,6 +38,7 @@ fn fetch(frame: &Frame) -> Instr
 }
 
 /// Carries out one instruction.
+#[inline(always)]
 pub fn step(
     live: &mut Live,
     stack: &mut Vec<Value>,
