@@ -1,6 +1,6 @@
 -- Swap items, and what goes out behind them.
-use Rattle.std.proofs.Common.{◌≡◌, ◌∙◌, ℕ, Bool, true, false, List, Result, Ok, Err, None, ap, refl, sym, subst}
-use Rattle.std.specs.Prelude.{IsOk, nat_eq}
+use Rattle.std.proofs.Common.{◌≡◌, ◌∙◌, ℕ, Bool, true, false, List, Result, Ok, Err, None, ap, arith, refl, sym, subst}
+use Rattle.std.specs.Prelude.{IsOk, is_ok, nat_eq}
 use Rattle.lp_events.specs.declared.event.Event.{Event}
 use Rattle.lp_events.specs.declared.event.Event.TheVariants as events
 use Rattle.lp_objects.specs.Objects.{Named}
@@ -40,7 +40,10 @@ swap_drops_nothing (events.Swap name) before behind h q = subst (λ n. drops_beh
 
 -- what went well did not fail
 pub no_fault : {A E : Type 0} (r : Result A E) (e : E) → IsOk r → r ≡ Err e → ⊥
-no_fault r e h q = elim (subst IsOk q h) [ ]
+no_fault r e h q = differ (sym (ap is_ok q) ∙ h)
+  where
+    differ : false ≡ true → ⊥
+    differ f = cc
 
 -- the one of two truths
 pub both_ways : (b c : Bool) → b ≡ c → b ≡ true → c ≡ false → ⊥

@@ -39,7 +39,7 @@ pub returns-in-Ok-clause-swaps : goal.returns-in-Ok-clause-swaps
 returns-in-Ok-clause-swaps g c = λ h. ((c.in_ok-outs.ensures.swaps h).0, tt)
 
 pub returns-in_err-outs-clause-swaps : goal.returns-in_err-outs-clause-swaps
-returns-in_err-outs-clause-swaps g c = λ h. absurd (no_fault c.carry_turn.result _ (c.carry_turn.ensures.swaps h).1 c.in_err-outs.is)
+returns-in_err-outs-clause-swaps g c = λ h. absurd (no_fault c.carry_turn.result _ (c.carry_turn.ensures.swaps h).1 c.in_err-outs.was)
 
 pub returns-in-Err-clause-quiet : goal.returns-in-Err-clause-quiet
 returns-in-Err-clause-quiet g c = λ h.
@@ -47,4 +47,4 @@ returns-in-Err-clause-quiet g c = λ h.
     absurd (no_fault c.tidy.result _ (c.tidy.ensures.quiet (nobody_still c.args.event.now _ _ s.2 h)) c.in-Err.is)
 
 pub returns-in_err-outs-clause-quiet : goal.returns-in_err-outs-clause-quiet
-returns-in_err-outs-clause-quiet g c = λ h. absurd (no_fault c.carry_turn.result _ (c.carry_turn.ensures.swaps (nobody_is_swap c.args.event.now _ h)).1 c.in_err-outs.is)
+returns-in_err-outs-clause-quiet g c = λ h. absurd (no_fault c.carry_turn.result _ (c.carry_turn.ensures.swaps (nobody_is_swap c.args.event.now _ h)).1 c.in_err-outs.was)

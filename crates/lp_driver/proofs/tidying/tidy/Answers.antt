@@ -15,17 +15,17 @@ returns-in-Connect-clause-tidied g c =
 pub returns-in-Line-clause-tidied : goal.returns-in-Line-clause-tidied
 returns-in-Line-clause-tidied g c =
     let d : Device = record { told = g.W.SwapFile.content c.args.swap.now; faults = g.W.SwapFile.write_faults c.args.swap.now } in
-    tidied_is c.args.swap_time c.args.event.now _ c.args.live.now d c.args.live.now d c.none_out.result c.in-Line.is (untouched c.args.live.now d c.none_out.result c.none_out.ensures)
+    tidied_is c.args.swap_time c.args.event.now _ c.args.live.now d c.args.live.now d c.none_out-in-Line.result c.in-Line.is (untouched c.args.live.now d c.none_out-in-Line.result c.none_out-in-Line.ensures)
 
 pub returns-in-Gone-clause-tidied : goal.returns-in-Gone-clause-tidied
 returns-in-Gone-clause-tidied g c =
     let d : Device = record { told = g.W.SwapFile.content c.args.swap.now; faults = g.W.SwapFile.write_faults c.args.swap.now } in
-    tidied_is c.args.swap_time c.args.event.now _ c.args.live.now d c.args.live.now d c.none_out.result c.in-Gone.is (untouched c.args.live.now d c.none_out.result c.none_out.ensures)
+    tidied_is c.args.swap_time c.args.event.now _ c.args.live.now d c.args.live.now d c.none_out-in-Gone.result c.in-Gone.is (untouched c.args.live.now d c.none_out-in-Gone.result c.none_out-in-Gone.ensures)
 
 pub returns-in-Reload-clause-tidied : goal.returns-in-Reload-clause-tidied
 returns-in-Reload-clause-tidied g c =
     let d : Device = record { told = g.W.SwapFile.content c.args.swap.now; faults = g.W.SwapFile.write_faults c.args.swap.now } in
-    tidied_is c.args.swap_time c.args.event.now _ c.args.live.now d c.args.live.now d c.none_out.result c.in-Reload.is (untouched c.args.live.now d c.none_out.result c.none_out.ensures)
+    tidied_is c.args.swap_time c.args.event.now _ c.args.live.now d c.args.live.now d c.none_out-in-Reload.result c.in-Reload.is (untouched c.args.live.now d c.none_out-in-Reload.result c.none_out-in-Reload.ensures)
 
 pub returns-in-Tick-clause-tidied : goal.returns-in-Tick-clause-tidied
 returns-in-Tick-clause-tidied g c =
