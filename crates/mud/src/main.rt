@@ -1,6 +1,11 @@
 //! `mud`: a driver for LPC mudlibs.
 #![tactic(auto)]
 
+ghost use Rattle.std.specs.Prelude.{◌≡◌, [], codes, map, slice_index_or, string_bytes};
+ghost use Rattle.std.specs.Process.{exit_status};
+ghost use Rattle.std.specs.Str.{bytes_eq};
+ghost use Rattle.lp_top.specs.Ends.{number_of};
+
 mod no_swap;
 
 use crate::no_swap::NoSwap;
@@ -72,7 +77,9 @@ fn carried_out<W: Truthful>(rt: &HostRuntime, words: &[String], swap: &mut W) ->
 }
 
 /// Whether the words are those of a replay, which wants a swap file.
-fn is_replay(words: &[String]) -> bool {
+fn is_replay(words: &[String]) -> bool
+    ensures { result ≡ bytes_eq (slice_index_or (map string_bytes words.now) 0 []) (codes "replay") }
+{
     match words.first() {
         Some(word) => word.as_str() == "replay",
         None => false,
@@ -103,6 +110,13 @@ fn tell_status(rt: &HostRuntime, status: &Status) {
     }
 }
 
+/// The number of a status, as that with which the program ends.
+fn exit_code(status: &Status) -> ExitCode
+    ensures { exit_status result ≡ number_of status.now }
+{
+    ExitCode::from(code(status))
+}
+
 /// A replay puts what is idle into a swap file in memory, which tells what it holds. The other commands have none.
 fn status(rt: &HostRuntime) -> Status {
     let words = match words(rt) {
@@ -119,5 +133,5 @@ fn status(rt: &HostRuntime) -> Status {
 fn main(rt: HostRuntime) -> ExitCode {
     let status = status(&rt);
     tell_status(&rt, &status);
-    ExitCode::from(code(&status))
+    exit_code(&status)
 }
