@@ -1,9 +1,14 @@
 //! Counted bytes, and the line end behind them.
+ghost use Rattle.std.specs.Prelude.{◌≡◌, length, take_while};
+ghost use Rattle.lp_events.specs.Script.{is_line_byte};
+
 use crate::line::line_ends;
 use crate::reason::Reason;
 
 // Where the first byte stands that no line holds, or how many bytes there are.
-fn line_len(bytes: &[u8]) -> usize {
+fn line_len(bytes: &[u8]) -> usize
+    ensures { result ≡ length (take_while is_line_byte bytes.now) }
+{
     bytes
         .iter()
         .take_while(|b| **b != 0 && **b != 10 && **b != 13)
@@ -16,7 +21,7 @@ pub(crate) fn check_line(count: u64, bytes: &[u8]) -> Result<(), Reason> {
     match bytes.get(len) {
         None => Ok(()),
         Some(b'\n') => Err(Reason::LineEndWithin(count, len as u64)),
-        Some(_) => Err(Reason::ByteWithin(count, len as u64)),
+        Some(_) => Err(Reason::ByteWithin(len as u64)),
     }
 }
 
@@ -27,7 +32,7 @@ pub(crate) fn check_end(count: u64, line: u64, bytes: &[u8]) -> Result<(), Reaso
         return Err(Reason::BytesEnd(count, len));
     }
     if len == count {
-        return Err(Reason::LineEndMissing(count));
+        return Err(Reason::LineEndMissing);
     }
     let (counted, rest) = bytes.split_at(count as usize);
     if rest[0] != b'\n' {

@@ -58,7 +58,7 @@ fn shown_as(byte: u8) -> char
 fn front(line: &[u8]) -> &[u8]
     ensures { result.now ≡ take 60 line.now }
 {
-    &line[..line.len().min(SHOWN)]
+    &line[..SHOWN.min(line.len())]
 }
 
 /// The front of a line, at most 60 characters.

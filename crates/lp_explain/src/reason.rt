@@ -48,16 +48,16 @@ pub(crate) enum Reason {
     NeverThere(u64),
     #[error("connection {0} is gone, or never came")]
     NotThere(u64),
-    #[error("its {0} bytes have a line end behind the first {1}, which no line holds")]
+    #[error("the count of bytes is {0}, and behind {1} of them stands a line end, which no line holds")]
     LineEndWithin(u64, u64),
-    #[error("its {0} bytes have a byte 0 or 13 behind the first {1}, which no line holds")]
-    ByteWithin(u64, u64),
-    #[error("behind its {0} bytes, in line {1}, stands no line end")]
+    #[error("behind {0} of its bytes stands a byte 0 or 13, which no line holds")]
+    ByteWithin(u64),
+    #[error("the count of bytes is {0}, and behind so many, in line {1}, stands no line end")]
     NoLineEnd(u64, u64),
-    #[error("the script ends behind {1} of its {0} bytes")]
+    #[error("the count of bytes is {0}, and the script ends behind {1} of them")]
     BytesEnd(u64, u64),
-    #[error("the script ends before the line end behind its {0} bytes")]
-    LineEndMissing(u64),
+    #[error("the script ends before the line end behind its bytes")]
+    LineEndMissing,
     #[error("the script ends within this item")]
     Ends,
     #[error("the script ends before `start`")]

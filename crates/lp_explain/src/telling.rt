@@ -67,7 +67,7 @@ fn reason_behind(
         (Err(reason), Stop::Wrong) => reason,
         (Ok(()), Stop::Wrong) => Reason::Unknown,
         (Err(Reason::BytesEnd(count, len)), Stop::Short) => Reason::BytesEnd(count, len),
-        (Err(Reason::LineEndMissing(count)), Stop::Short) => Reason::LineEndMissing(count),
+        (Err(Reason::LineEndMissing), Stop::Short) => Reason::LineEndMissing,
         (_, Stop::Short) => Reason::Ends,
     })
 }

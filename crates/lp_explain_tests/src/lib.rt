@@ -2,3 +2,6 @@
 //!
 //! The tests stand here and not beside the code, so that no library is proved twice.
 #![tactic(auto)]
+
+#[cfg(test)]
+mod reasons;

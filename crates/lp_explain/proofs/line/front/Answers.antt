@@ -1,6 +1,7 @@
-use Rattle.lp_events.specs.Script.{60}
-use Rattle.lp_explain.proofs.ReaderLemmas.{short_window}
+-- the front that is shown is cut at the end of the line
+use Rattle.std.proofs.Common.{ap, ◌∙◌, take}
+use Rattle.std.proofs.lemmas.List.{take_min}
 use Rattle.lp_explain.proofs.line.front.Goals as goal
 
 pub returns : goal.returns
-returns g = short_window 60 _ _ g.min.ensures
+returns c = ap (λ n. take n c.args.line.now) c.min.ensures ∙ take_min 60 c.args.line.now
