@@ -1,7 +1,7 @@
 //! Lines and words.
-ghost use Rattle.std.specs.Prelude.{◌≡◌, ◌+◌, ◌≤◌, ◌==◌, take, drop, length, not, take_while, map, IfOk, string_bytes};
+ghost use Rattle.std.specs.Prelude.{◌≡◌, ◌+◌, ◌≤◌, ◌==◌, take, drop, length, not, take_while, IfOk, string_bytes};
 ghost use Rattle.std.specs.List.{count_by};
-ghost use Rattle.lp_explain.specs.Shown.{shown_byte};
+ghost use Rattle.lp_explain.specs.Shown.{line_number, shown_byte, shown_front};
 
 use std::alloc::{AllocError, Global};
 
@@ -18,7 +18,7 @@ pub(crate) fn line_ends(bytes: &[u8]) -> usize
 /// The number, from 1, of the line in which the byte at this place stands: one more than the line ends before it.
 pub(crate) fn line_of(bytes: &[u8], place: usize) -> u64
     requires { place ≤ length bytes.now }
-    ensures { result ≡ count_by (λ b. b == 10) (take place bytes.now) + 1 }
+    ensures { result ≡ line_number bytes.now place }
 {
     line_ends(&bytes[..place]) as u64 + 1
 }
@@ -63,7 +63,7 @@ fn front(line: &[u8]) -> &[u8]
 
 /// The front of a line, at most 60 characters.
 pub(crate) fn shown(alloc: Global, line: &[u8]) -> Result<String, AllocError>
-    ensures { IfOk result (λ text. string_bytes text ≡ map shown_byte (take 60 line.now)) }
+    ensures { IfOk result (λ text. string_bytes text ≡ shown_front line.now) }
 {
     let mut text = String::new(alloc);
     for byte in front(line) {

@@ -66,6 +66,7 @@ fn reason_behind(
     Ok(match (check_item(before, bytes, number), stop) {
         (Err(reason), Stop::Wrong) => reason,
         (Ok(()), Stop::Wrong) => Reason::Unknown,
+        (Err(Reason::Above(what, most)), Stop::Short) => Reason::Above(what, most),
         (Err(Reason::BytesEnd(count, len)), Stop::Short) => Reason::BytesEnd(count, len),
         (Err(Reason::LineEndMissing), Stop::Short) => Reason::LineEndMissing,
         (_, Stop::Short) => Reason::Ends,
@@ -94,13 +95,14 @@ fn reason_at(alloc: Global, script: &[u8], place: usize, number: u64) -> Result<
     }
 }
 
-// A line of its number, the item's text and the reason.
+// The line that tells a number of a line, what stands in that line, and a reason.
 fn told(alloc: Global, number: u64, line: &[u8], reason: Reason) -> Result<String, AllocError> {
-    if line.is_empty() {
-        return format!(in alloc; "line {number}: {reason}");
-    }
+    let reason = reason.to_string(alloc)?;
     let text = shown(alloc, line)?;
-    format!(in alloc; "line {number}, {text}: {reason}")
+    match line {
+        [] => format!(in alloc; "line {number}: {reason}"),
+        [_, ..] => format!(in alloc; "line {number}, {text}: {reason}"),
+    }
 }
 
 /// One line, without its end, on why no item of this script stands at the byte `at`, counted from 0, that may stand there: the
