@@ -1,7 +1,7 @@
 //! Lines and words.
 ghost use Rattle.std.specs.Prelude.{◌≡◌, ◌+◌, ◌≤◌, ◌==◌, take, drop, length, not, take_while, IfOk, string_bytes};
 ghost use Rattle.std.specs.List.{count_by};
-ghost use Rattle.lp_explain.specs.Shown.{line_number, shown_byte, shown_front};
+ghost use Rattle.lp_explain.specs.Shown.{first_line as line_in, line_number, shown_byte, shown_front};
 
 use std::alloc::{AllocError, Global};
 
@@ -41,6 +41,22 @@ pub(crate) fn split(end: u8, bytes: &[u8]) -> (&[u8], &[u8])
     } else {
         (bytes, &[])
     }
+}
+
+/// What stands before the first line end.
+pub(crate) fn first_line(bytes: &[u8]) -> &[u8]
+    ensures { result.now ≡ line_in bytes.now }
+{
+    let (line, _) = split(b'\n', bytes);
+    line
+}
+
+/// The bytes from a place on.
+pub(crate) fn from(bytes: &[u8], place: usize) -> &[u8]
+    requires { place ≤ length bytes.now }
+    ensures { result.now ≡ drop place bytes.now }
+{
+    &bytes[place..]
 }
 
 /// A byte as it is shown: itself, or `?` where it is no printable ASCII.

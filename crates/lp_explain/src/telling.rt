@@ -1,8 +1,10 @@
 //! The line that tells why a script is none.
-ghost use Rattle.std.specs.Prelude.{◌≤◌, length, IfOk};
+ghost use Rattle.std.specs.Prelude.{◌≡◌, ◌≤◌, ◌++◌, codes, length, IfOk, string_bytes};
+ghost use Rattle.std.specs.Fmt.{decimal};
+ghost use Rattle.lp_explain.specs.Shown.{listed as listed_line, IsTold};
 
 use crate::item::check_item;
-use crate::line::{line_of, shown, split};
+use crate::line::{first_line, from, line_of, shown};
 use crate::reason::Reason;
 use lp_script::before::{Before, Stage};
 use lp_script::stop::{ReadError, Stop};
@@ -89,20 +91,31 @@ fn reason_at(alloc: Global, script: &[u8], place: usize, number: u64) -> Result<
 {
     let mut before = before_first(alloc);
     match pass_all(alloc, &mut before, script, place) {
-        Ok(true) => reason_behind(alloc, &before, &script[place..], number),
+        Ok(true) => reason_behind(alloc, &before, from(script, place), number),
         Ok(false) => Ok(Reason::Unknown),
         Err(e) => Err(e),
     }
 }
 
-// The line that tells a number of a line, what stands in that line, and a reason.
-fn told(alloc: Global, number: u64, line: &[u8], reason: Reason) -> Result<String, AllocError> {
-    let reason = reason.to_string(alloc)?;
-    let text = shown(alloc, line)?;
+// What a line holds as it is told behind its number, where it holds something.
+fn listed(alloc: Global, line: &[u8]) -> Result<String, AllocError>
+    ensures { IfOk result (λ text. string_bytes text ≡ listed_line line.now) }
+{
     match line {
-        [] => format!(in alloc; "line {number}: {reason}"),
-        [_, ..] => format!(in alloc; "line {number}, {text}: {reason}"),
+        [] => Ok(String::new(alloc)),
+        [_, ..] => {
+            let text = shown(alloc, line)?;
+            format!(in alloc; ", {text}")
+        }
     }
+}
+
+// The line that tells a number of a line, what that line holds, and a reason.
+fn told(alloc: Global, number: u64, line: &[u8], reason: &str) -> Result<String, AllocError>
+    ensures { IfOk result (λ told. string_bytes told ≡ codes "line " ++ (decimal number ++ (listed_line line.now ++ (codes ": " ++ reason.now)))) }
+{
+    let text = listed(alloc, line)?;
+    format!(in alloc; "line {number}{text}: {reason}")
 }
 
 /// One line, without its end, on why no item of this script stands at the byte `at`, counted from 0, that may stand there: the
@@ -113,10 +126,12 @@ fn told(alloc: Global, number: u64, line: &[u8], reason: Reason) -> Result<Strin
 ///
 /// The items before are read once more. It takes time in proportion to the bytes, and memory for one item. It fails only for want
 /// of memory.
-pub fn explain(alloc: Global, script: &[u8], at: u64) -> Result<String, AllocError> {
+pub fn explain(alloc: Global, script: &[u8], at: u64) -> Result<String, AllocError>
+    ensures told { IfOk result (λ told. IsTold script.now at (string_bytes told)) }
+{
     let place = at.min(script.len() as u64) as usize;
     let number = line_of(script, place);
-    let (line, _) = split(b'\n', &script[place..]);
-    let reason = reason_at(alloc, script, place, number)?;
-    told(alloc, number, line, reason)
+    let line = first_line(from(script, place));
+    let reason = reason_at(alloc, script, place, number)?.to_string(alloc)?;
+    told(alloc, number, line, reason.as_str())
 }
