@@ -1,11 +1,19 @@
 //! `mud`: a driver for LPC mudlibs.
 #![tactic(auto)]
 
+ghost use Rattle.std.specs.Prelude.{◌≡◌, [], codes, map, slice_index_or, string_bytes};
+ghost use Rattle.std.specs.Process.{exit_status};
+ghost use Rattle.std.specs.Str.{bytes_eq};
+ghost use Rattle.lp_top.specs.Ends.{number_of};
+
+mod kept_source;
 mod no_swap;
 
+use crate::kept_source::KeptSource;
 use crate::no_swap::NoSwap;
 use lp_asking::truth::Truthful;
-use lp_io::{Sink, StdSink, StdSource};
+use lp_explain::{USAGE, explain};
+use lp_io::{Sink, Source, StdSink, StdSource};
 use lp_memory_file::MemoryFile;
 use lp_top::{Faults, Status, code, run};
 use std::env::{self, FillError};
@@ -58,21 +66,27 @@ fn status_of_words(kind: ErrorKind) -> Status {
     }
 }
 
-/// Carries out the command, over standard input and output and this swap file.
-fn carried_out<W: Truthful>(rt: &HostRuntime, words: &[String], swap: &mut W) -> Status {
+/// Carries out the command, over this input, standard output and this swap file.
+fn carried_out<S: Source, W: Truthful>(
+    rt: &HostRuntime,
+    words: &[String],
+    input: &mut S,
+    swap: &mut W,
+) -> Status {
     let writer = match BufWriter::new(rt.alloc(), rt.stdout()) {
         Ok(writer) => writer,
         Err(_) => return Status::NoMemory,
     };
-    let mut input = StdSource::new(rt.stdin());
     let mut out = StdSink::new(writer);
-    let status = run(rt.alloc(), words, &mut input, &mut out, swap);
+    let status = run(rt.alloc(), words, input, &mut out, swap);
     let _ = out.flush();
     status
 }
 
 /// Whether the words are those of a replay, which wants a swap file.
-fn is_replay(words: &[String]) -> bool {
+fn is_replay(words: &[String]) -> bool
+    ensures { result ≡ bytes_eq (slice_index_or (map string_bytes words.now) 0 []) (codes "replay") }
+{
     match words.first() {
         Some(word) => word.as_str() == "replay",
         None => false,
@@ -89,13 +103,34 @@ fn tell_faults(rt: &HostRuntime, faults: &Faults) {
     }
 }
 
-/// Tells on standard error how the program ends, where it is not well.
-fn tell_status(rt: &HostRuntime, status: &Status) {
-    if let Status::NoMaster { faults } = status {
-        tell_faults(rt, faults);
+/// Tells on standard error why no item of the script may stand at this byte, or the byte alone where
+/// there is no memory to tell more.
+fn tell_place(rt: &HostRuntime, script: Option<&[u8]>, at: u64) {
+    if let Some(script) = script {
+        if let Ok(line) = explain(rt.alloc(), script, at) {
+            let text = line.as_str();
+            let _ = eprintln!(rt; "{text}");
+            return;
+        }
     }
-    if let Status::BadScript { at } = status {
-        let _ = eprintln!(rt; "at byte {at} of the script");
+    let _ = eprintln!(rt; "at byte {at} of the script");
+}
+
+/// Tells on standard error how the program is called.
+fn tell_usage(rt: &HostRuntime) {
+    for line in USAGE {
+        let _ = eprintln!(rt; "{line}");
+    }
+}
+
+/// Tells on standard error how the program ends, where it is not well. Of the script the bytes that were
+/// kept are given.
+fn tell_status(rt: &HostRuntime, status: &Status, script: Option<&[u8]>) {
+    match status {
+        Status::NoMaster { faults } => tell_faults(rt, faults),
+        Status::BadScript { at } => tell_place(rt, script, *at),
+        Status::BadWords => tell_usage(rt),
+        _ => {}
     }
     let number = code(status);
     if number != 0 {
@@ -103,21 +138,30 @@ fn tell_status(rt: &HostRuntime, status: &Status) {
     }
 }
 
-/// A replay puts what is idle into a swap file in memory, which tells what it holds. The other commands have none.
-fn status(rt: &HostRuntime) -> Status {
+/// The number of a status, as that with which the program ends.
+fn exit_code(status: &Status) -> ExitCode
+    ensures { exit_status result ≡ number_of status.now }
+{
+    ExitCode::from(code(status))
+}
+
+/// Carries out the command over this input. A replay puts what is idle into a swap file in memory, which
+/// tells what it holds. The other commands have none.
+fn status<S: Source>(rt: &HostRuntime, input: &mut S) -> Status {
     let words = match words(rt) {
         Ok(words) => words,
         Err(status) => return status,
     };
     if is_replay(words.as_slice()) {
         let mut swap = MemoryFile::new(rt.alloc());
-        return carried_out(rt, words.as_slice(), &mut swap);
+        return carried_out(rt, words.as_slice(), input, &mut swap);
     }
-    carried_out(rt, words.as_slice(), &mut NoSwap::new())
+    carried_out(rt, words.as_slice(), input, &mut NoSwap::new())
 }
 
 fn main(rt: HostRuntime) -> ExitCode {
-    let status = status(&rt);
-    tell_status(&rt, &status);
-    ExitCode::from(code(&status))
+    let mut input = KeptSource::new(rt.alloc(), StdSource::new(rt.stdin()));
+    let status = status(&rt, &mut input);
+    tell_status(&rt, &status, input.kept());
+    exit_code(&status)
 }

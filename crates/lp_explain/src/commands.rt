@@ -1,0 +1,8 @@
+//! How the program is called.
+
+/// The commands with their options, a line each without its end.
+pub const USAGE: [&str; 3] = [
+    "mud replay [--swap-time N] [--report] < SCRIPT     N: seconds, up to 1000000000; 0 is never",
+    "mud check [--simul PATH] < SCRIPT                  PATH: the file of the simul efuns",
+    "mud make N SEED                                    N: events, 1 to 200000; SEED: below 2^64",
+];
