@@ -74,10 +74,7 @@ pub fn start<W: Truthful>(
 }
 
 /// How a turn ended, noted in the state: what went out behind it, or that it failed.
-fn note(
-    state: &mut State,
-    ended: Result<(Outs, Idled), VmFault>,
-) -> Result<Outs, TurnFault>
+fn note(state: &mut State, ended: Result<(Outs, Idled), VmFault>) -> Result<Outs, TurnFault>
     ensures live { (live_in state.new) ≡ (live_in state.old) }
     ensures time { swap_time_in state.new ≡ swap_time_in state.old }
     ensures fails { has_failed_in state.new ≡ is_err result }
@@ -104,11 +101,7 @@ fn note(
 /// `HasFailed` exactly where an earlier turn of this state ended with a fault, and then nothing is done. `NoMemory`, also where the swap
 /// file gave other bytes of the same digest; `Swap` where it failed or gave bytes of another digest; `NotYet` where something is
 /// asked that is not carried out yet; for a swap item `NoMemory` alone. The state has failed then.
-pub fn turn<W: Truthful>(
-    state: &mut State,
-    swap: &mut W,
-    event: &Event,
-) -> Result<Outs, TurnFault>
+pub fn turn<W: Truthful>(state: &mut State, swap: &mut W, event: &Event) -> Result<Outs, TurnFault>
     requires may { MayCome event.now }
     requires goes { GoesOn (W.content swap.old) state.old }
     ensures goes { GoesOn (W.content swap.new) state.new }

@@ -37,10 +37,12 @@ pub returns-in-Ok-clause-swaps : goal.returns-in-Ok-clause-swaps
 returns-in-Ok-clause-swaps g c = λ h.
     let s = c.in_ok-carry_out.ensures.swaps h in
     let none : drops_behind c.args.event.now c.len-before.result (length c.end_turn-outs.new.live.versions) ≡ false =
-        swap_drops_nothing c.args.event.now _ _ h (ap length (c.end_turn-outs.ensures.versions ∙ ap (λ (l : Live). l.versions) s.1) ∙ sym c.len-before.ensures) in
-    let d = c.drop_versions.ensures.quiet none in
-    (c.end_turn-outs.ensures.outs ∙ ap (λ (l : Live). l.outputs) s.1 ∙ c.requires.rest.1.outputs, refl,
-      λ objects a. subst (λ (l : Live). names.Stands l.names objects) (sym d.1) (c.end_turn-outs.ensures.names objects (subst (λ (l : Live). names.Stands l.names objects) (sym s.1) a)))
+    swap_drops_nothing c.args.event.now _ _ h (ap length (c.end_turn-outs.ensures.versions ∙ ap (λ (l : Live). l.versions) s.1) ∙ sym c.len-before.ensures) in
+    let d = c.drop_versions.ensures.quiet none in (
+      c.end_turn-outs.ensures.outs ∙ ap (λ (l : Live). l.outputs) s.1 ∙ c.requires.rest.1.outputs,
+      refl,
+      λ objects a. subst (λ (l : Live). names.Stands l.names objects) (sym d.1) (c.end_turn-outs.ensures.names objects (subst (λ (l : Live). names.Stands l.names objects) (sym s.1) a)),
+    )
 
 pub returns-in_err-carry_out-clause-swaps : goal.returns-in_err-carry_out-clause-swaps
 returns-in_err-carry_out-clause-swaps g c = λ h. absurd (no_fault c.carry_out.result _ (c.carry_out.ensures.swaps h).0 c.in_err-carry_out.was)
