@@ -1,0 +1,6 @@
+pub mod Offering
+pub mod SoFar
+pub mod Taking
+pub mod Outputs
+pub mod Finding
+pub mod Serving

@@ -1,0 +1,4 @@
+pub mod Tied
+pub mod All
+pub mod Table
+pub mod Serving
