@@ -45,6 +45,6 @@ pub none : (n : ℕ) (ss : List Session) (i : ℕ) → AreAbove 0 (numbers ss) �
 none n ss i above parted =
     let parts = parted (comparisons_rise n ss above) in
     other_from n ss (λ j d lt. elim (cases_lt j i) [
-      | inl below ↦ less_apart (get_or ss j d).number n (parts.0 j d lt below)
+      | inl below ↦ less_apart (get_or ss j d).number n (parts.0 j d (omega arith) below)
       | inr from ↦ greater_apart (get_or ss j d).number n (parts.1 j d from lt)
     ])

@@ -4,3 +4,5 @@ pub mod Taking
 pub mod Outputs
 pub mod Finding
 pub mod Serving
+pub mod LawsHold
+pub mod Tables

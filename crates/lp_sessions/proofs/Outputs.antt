@@ -1,7 +1,7 @@
 -- The connections take outputs in.
-use Rattle.std.proofs.Common.{rules, subst, ◌≡◌, ℕ, zero, suc, ◌<◌, ◌≤◌, ◌+◌, List, [], ◌∷◌, ◌++◌, length, map, take, drop, get_or, slice_set, nat_eq, true, false, Option, Some, None, Result, Ok, Err, OnOk, refl, sym, ap, ◌∙◌, append-nil, append_assoc, arith, inl, inr}
+use Rattle.std.proofs.Common.{rules, subst, ◌≡◌, ℕ, zero, suc, ◌<◌, ◌≤◌, ◌+◌, List, [], ◌∷◌, ◌++◌, length, map, take, drop, get_or, slice_set, nat_eq, true, false, Option, Some, None, Result, Ok, Err, OnOk, OnErr, refl, sym, ap, ◌∙◌, append-nil, append_assoc, arith, inl, inr}
 use Rattle.std.proofs.lemmas.Bool.{cases_Bool}
-use Rattle.std.proofs.lemmas.List.{drop_all, take_all, length-set, take_more}
+use Rattle.std.proofs.lemmas.List.{drop_all, take_all, length-set, take_more, set-get_or}
 use Rattle.std.proofs.Math.Seq.{drop-cons}
 use Rattle.lp_events.specs.declared.out.Out.{Out}
 use Rattle.lp_events.specs.declared.out.Out.TheVariants.{Text, Hide, Show, Close, Log}
@@ -141,3 +141,11 @@ takes_some outs i ss ss1 ss2 within same t = record { count = i; fewer = within;
 pub ok_takes : {A E : Type 0} (r : Result A E) (P Q : Type 0) → (P → Q) → OnOk r P → OnOk r Q
 ok_takes (Ok a) P Q f p = f p
 ok_takes (Err e) P Q f p = p
+
+-- and where it is not
+pub err_takes : {A E : Type 0} (r : Result A E) (P Q : Type 0) → (P → Q) → OnErr r P → OnErr r Q
+err_takes (Ok a) P Q f p = p
+err_takes (Err e) P Q f p = f p
+
+pub set_same : (i : ℕ) (ss : List Session) (s s1 d : Session) → s ≡ get_or ss i d → s1 ≡ s → slice_set ss i s1 ≡ ss
+set_same i ss s s1 d at same = rw (same, at) (set-get_or ss i d)

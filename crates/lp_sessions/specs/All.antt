@@ -79,11 +79,11 @@ pub record TakesSome (outs : List Out) (ss ss1 : List Session) : Type 0 where
   pub taken_in : TakesOuts (take count outs) ss ss1
 
 -- THE CONNECTION AT A PLACE WAS FED a piece of its stream: these lines end in it, and whatever follows gives the lines of both together; nothing else changes
-pub record Fed (at : ℕ) (bytes : List ℕ) (lines : List (List ℕ)) (ss ss1 : List Session) : Type 0 where
+pub record Fed (at : ℕ) (bytes : List ℕ) (ended : List (List ℕ)) (ss ss1 : List Session) : Type 0 where
   pub place : Place
   pub after : (d : Session) → ss1 ≡ slice_set ss at (record (get_or ss at d) { telnet = place })
-  pub lines : (d : Session) → lines ≡ lines_from (get_or ss at d).telnet bytes
-  pub rest : (d : Session) (more : List ℕ) → lines ++ lines_from place more ≡ lines_from (get_or ss at d).telnet (bytes ++ more)
+  pub lines : (d : Session) → ended ≡ lines_from (get_or ss at d).telnet bytes
+  pub rest : (d : Session) (more : List ℕ) → ended ++ lines_from place more ≡ lines_from (get_or ss at d).telnet (bytes ++ more)
 
 -- the connection that an output is for
 abbrev pub goes_to : Out → Option ℕ

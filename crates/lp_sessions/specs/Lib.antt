@@ -2,3 +2,4 @@ pub mod Tied
 pub mod All
 pub mod Table
 pub mod Serving
+pub mod Laws

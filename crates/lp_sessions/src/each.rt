@@ -35,7 +35,7 @@ pub(crate) fn place_among(sessions: &[Session], number: u32) -> Option<usize>
 {
     let place = sessions.binary_search_by(
         |own: &Session| -> Ordering
-            ensures { result ≡ nat_cmp own.now.number number.entry }
+            ensures { result ≡ nat_cmp own.now.number number }
         { own.number.cmp(&number) },
     );
     match place {

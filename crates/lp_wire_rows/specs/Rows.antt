@@ -1,5 +1,5 @@
 -- Rows: happenings over a small driver, and what is heard of them.
-use Rattle.std.specs.Prelude.{◌≡◌, ℕ, List, [], ◌∷◌, ◌++◌, flat_map, map, nat_eq, true, Option, Some, None, codes, if◌then◌else◌}
+use Rattle.std.specs.Prelude.{◌≡◌, ℕ, List, [], ◌∷◌, ◌++◌, flat_map, map, nat_eq, true, false, Option, Some, None, codes, if◌then◌else◌}
 use Rattle.std.specs.Str.{bytes_eq}
 use Rattle.lp_events.specs.declared.event.Event.{Event}
 use Rattle.lp_events.specs.declared.event.Event.TheVariants as ev
@@ -77,6 +77,8 @@ two = h.Accept 1 ∷ h.Accept 2 ∷ h.Piece 2 (codes "hi\n") ∷ h.Piece 0 (code
 pub record TwoRow : Type 0 where
   pub events : Hears all two (ev.Connect 1 ∷ ev.Connect 2 ∷ [])
   pub text : ((shown all two).end.links 2).text ≡ []
+  pub closed : ((shown all two).end.links 2).closed ≡ true
+  pub first : ((shown all two).end.links 1).closed ≡ false
 
 -- Happenings for which a script has no item: a number that is there already, bytes of a number that never came, bytes of one that is gone, and what follows `stop`.
 abbrev pub odd : List Happening
@@ -84,6 +86,10 @@ odd = h.Accept 1 ∷ h.Accept 1 ∷ h.Piece 7 (codes "x\n") ∷ h.Piece 1 (codes
 
 pub record OddRow : Type 0 where
   pub events : Hears all odd (ev.Connect 1 ∷ ev.Gone 1 ∷ [])
+
+-- Bytes that come before their connection opens belong to no stream.
+abbrev pub early : List Happening
+early = h.Piece 3 (codes "lo") ∷ h.Accept 3 ∷ h.Piece 3 (codes "ok\n") ∷ []
 
 -- Ticks: one that falls and one past the last moment are not heard.
 abbrev pub ticks : List Happening
@@ -99,6 +105,14 @@ pub record OrdersRow : Type 0 where
   pub spans : (shown all orders).end.spans ≡ ([]) ∷ (codes "unknown\nreload failed\nok\n") ∷ []
   pub answers : (shown all orders).end.answers ≡ codes "reload failed\n"
   pub reads : reads_of (shown all orders).deeds ≡ (codes "/no.c", None) ∷ (codes "/a.c", Some (codes "x")) ∷ []
+
+-- The operator's words, exactly: the empty line and words with a blank behind them are unknown, and nothing is a path; none of them stops the run.
+abbrev pub words : List Happening
+words = h.Piece 0 (codes "\nstop \nreload\nreload \n") ∷ []
+
+pub record WordsRow : Type 0 where
+  pub answers : (shown all words).end.answers ≡ codes "unknown\nunknown\nunknown\nreload failed\n"
+  pub stopped : (shown all words).end.stopped ≡ false
 
 -- Slow connections: of what comes for connection 1 two bytes are ever taken, and at most four may be pending. Behind its first block it is gone, and its line is not heard.
 abbrev pub shown_above : ℕ → (ℕ → ℕ) → List Happening → Done Master Hearing
@@ -119,6 +133,8 @@ pub record HeardRows : Type 0 where
   pub look : LookRow
   pub two : TwoRow
   pub odd : OddRow
+  pub early : Hears all early (ev.Connect 3 ∷ ev.Line 3 (codes "ok") ∷ [])
   pub ticks : Hears all ticks (ev.Tick 5 ∷ ev.Tick 5 ∷ [])
   pub orders : OrdersRow
+  pub words : WordsRow
   pub slow : SlowRow
