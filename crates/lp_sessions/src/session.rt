@@ -24,9 +24,13 @@ pub enum Phase {
 /// A connection: its number, the stream of its bytes, what is pending for it, and how far it has come.
 #[derive(Drop)]
 pub struct Session {
+    /// Its number, from 1 upwards.
     pub number: u32,
+    /// Where its stream stands.
     pub telnet: Telnet,
+    /// What is pending for it.
     pub outbox: Outbox,
+    /// How far it has come.
     pub phase: Phase,
 }
 
