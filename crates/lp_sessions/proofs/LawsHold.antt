@@ -1,5 +1,5 @@
 -- The laws of connections that stand for what was heard.
-use Rattle.std.proofs.Common.{◌≡◌, ap, ◌∙◌}
+use Rattle.std.proofs.Common.{ap, ◌∙◌}
 use Rattle.std.specs.List.{find}
 use Rattle.lp_wire.specs.Heard.{slow_by}
 use Rattle.lp_sessions.specs.Laws.{OutputsAreSent, GoneAreForgotten, SlowAreHeard}

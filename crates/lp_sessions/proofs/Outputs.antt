@@ -1,18 +1,16 @@
 -- The connections take outputs in.
-use Rattle.std.proofs.Common.{rules, subst, ◌≡◌, ℕ, zero, suc, ◌<◌, ◌≤◌, ◌+◌, List, [], ◌∷◌, ◌++◌, length, map, take, drop, get_or, slice_set, nat_eq, true, false, Option, Some, None, Result, Ok, Err, OnOk, OnErr, refl, sym, ap, ◌∙◌, append-nil, append_assoc, arith, inl, inr}
+use Rattle.std.proofs.Common.{rules, subst, ◌≡◌, ℕ, zero, suc, ◌<◌, ◌≤◌, ◌+◌, List, [], ◌∷◌, ◌++◌, length, take, get_or, slice_set, nat_eq, false, Some, None, Result, Ok, Err, OnOk, OnErr, refl, sym, ap, ◌∙◌, arith, inl, inr}
 use Rattle.std.proofs.lemmas.Bool.{cases_Bool}
-use Rattle.std.proofs.lemmas.List.{drop_all, take_all, length-set, take_more, set-get_or}
-use Rattle.std.proofs.Math.Seq.{drop-cons}
+use Rattle.std.proofs.lemmas.List.{take_all, take_more, set-get_or}
 use Rattle.lp_events.specs.declared.out.Out.{Out}
 use Rattle.lp_events.specs.declared.out.Out.TheVariants.{Text, Hide, Show, Close, Log}
 use Rattle.lp_wire.specs.WireText.{Link, behind_out, behind_outs, with_text, wire_bytes}
 use Rattle.lp_wire.specs.declared.happening.WireCall.{WireCall}
 use Rattle.lp_wire.specs.Wires.{taken}
 use Rattle.lp_sessions.specs.declared.session.Session.{Session}
-use Rattle.lp_sessions.specs.Tied.{HasText, HasStream, IsTied}
-use Rattle.lp_sessions.specs.All.{AreTied, AreAbove, AreOther, TakesOut, TakesOuts, TakesSome, goes_to, numbers, number_of, links_behind_out, links_behind}
-use Rattle.lp_sessions.proofs.Taking.{below_other, turned, above_other}
-use Rattle.lp_sessions.proofs.SoFar.{next}
+use Rattle.lp_sessions.specs.Tied.{HasText, IsTied}
+use Rattle.lp_sessions.specs.All.{AreTied, AreAbove, AreOther, TakesOut, TakesOuts, TakesSome, goes_to, numbers, links_behind_out, links_behind}
+use Rattle.lp_sessions.proofs.Taking.{turned, above_other}
 
 -- an output for another connection, or for none
 pub behind_other : (j k : ℕ) (out : Out) (l : Link) → goes_to out ≡ Some k → nat_eq k j ≡ false → behind_out j l out ≡ l

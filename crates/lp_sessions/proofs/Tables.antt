@@ -1,5 +1,5 @@
 -- Tables of connections stay tables.
-use Rattle.std.proofs.Common.{◌≡◌, ℕ, zero, suc, ◌<◌, ◌≤◌, List, [], ◌∷◌, ◌++◌, length, get_or, slice_set, Result, Ok, Err, IfOk, refl, sym, ap, ◌∙◌, arith}
+use Rattle.std.proofs.Common.{◌≡◌, ℕ, zero, suc, ◌<◌, List, [], ◌∷◌, ◌++◌, length, get_or, slice_set, Result, Ok, Err, IfOk, refl, ap, ◌∙◌, arith}
 use Rattle.std.specs.List.{remove}
 use Rattle.lp_sessions.specs.declared.session.Session.{Session}
 use Rattle.lp_sessions.specs.Tied.{new_session}

@@ -1,7 +1,6 @@
 -- All connections of a server.
-use Rattle.std.specs.Prelude.{◌≡◌, ℕ, ◌<◌, ◌≤◌, ◌+◌, ⊤, List, [], ◌∷◌, ◌++◌, length, map, take, get_or, slice_set, Option, None, Some, nat_eq, false, ◌⊎◌}
+use Rattle.std.specs.Prelude.{◌≡◌, ℕ, ◌<◌, ⊤, List, [], ◌∷◌, ◌++◌, length, map, take, get_or, slice_set, Option, None, Some, nat_eq, false, ◌⊎◌}
 use Rattle.lp_telnet.specs.Lines.{Place, lines_from}
-use Rattle.std.specs.List.{find}
 use Rattle.lp_events.specs.declared.out.Out.{Out}
 use Rattle.lp_events.specs.declared.out.Out.TheVariants.{Text, Hide, Show, Close, Log}
 use Rattle.lp_wire.specs.WireText.{Link, behind_out, behind_outs}

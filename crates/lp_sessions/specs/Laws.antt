@@ -1,5 +1,5 @@
 -- Laws of connections that stand for what was heard.
-use Rattle.std.specs.Prelude.{◌≡◌, ℕ, ◌<◌, ◌≤◌, List, length, get_or, Option, Some, None}
+use Rattle.std.specs.Prelude.{◌≡◌, ℕ, ◌<◌, ◌≤◌, List, length, get_or, Some, None}
 use Rattle.std.specs.List.{remove}
 use Rattle.lp_events.specs.declared.event.Event.TheVariants.{Gone}
 use Rattle.lp_events.specs.declared.out.Out.{Out}

@@ -1,10 +1,10 @@
 -- How a connection of a server stands to what was heard of it and what its wire took.
-use Rattle.std.specs.Prelude.{◌≡◌, ℕ, ◌<◌, List, [], ◌∷◌, ◌++◌, length, Bool, true, false, Option, Some}
+use Rattle.std.specs.Prelude.{◌≡◌, ℕ, ◌<◌, List, [], ◌∷◌, ◌++◌, length, true, false, Option, Some}
 use Rattle.lp_telnet.specs.Lines.{beginning, lines_of, lines_from}
 use Rattle.lp_wire.specs.WireText.{Link}
-use Rattle.lp_wire.specs.Wires.{Offers, taken}
+use Rattle.lp_wire.specs.Wires.{Offers}
 use Rattle.lp_wire.specs.declared.happening.WireCall.{WireCall}
-use Rattle.lp_wire.specs.declared.happening.WireCall.TheVariants.{Gave, Took, Closed}
+use Rattle.lp_wire.specs.declared.happening.WireCall.TheVariants.{Closed}
 use Rattle.lp_sessions.specs.declared.session.Phase.{Phase}
 use Rattle.lp_sessions.specs.declared.session.Phase.TheVariants.{Open, Closing, Over}
 use Rattle.lp_sessions.specs.declared.session.Session.{Session}

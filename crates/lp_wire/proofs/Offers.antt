@@ -1,9 +1,9 @@
 -- Offers of what is pending.
-use Rattle.std.proofs.Common.{◌≡◌, ℕ, zero, suc, ◌<◌, ◌≤◌, ◌+◌, ◌-◌, List, [], ◌∷◌, ◌++◌, length, take, drop, Option, Some, refl, sym, ap, ◌∙◌, append-nil}
+use Rattle.std.proofs.Common.{◌≡◌, ℕ, ◌≤◌, ◌+◌, List, [], ◌∷◌, ◌++◌, length, take, drop, Option, refl, sym, ap, ◌∙◌, append-nil}
 use Rattle.std.proofs.lemmas.List.{take-append-drop, drop-drop, drop_all}
 use Rattle.lp_wire.specs.declared.happening.WireCall.{WireCall}
-use Rattle.lp_wire.specs.declared.happening.WireCall.TheVariants.{Gave, Took, Closed}
-use Rattle.lp_wire.specs.Wires.{Adds, IsRest, TellsOffer, Offers, nothing, offered}
+use Rattle.lp_wire.specs.declared.happening.WireCall.TheVariants.{Took}
+use Rattle.lp_wire.specs.Wires.{Adds, IsRest, TellsOffer, nothing, offered}
 
 pub offered_lem : (k i n : ℕ) (xs before piece : List ℕ) (old now : Option (List WireCall)) → before ≡ drop i xs → piece ≡ drop i xs
     → Adds old now (Took k (take n piece) (length piece) ∷ []) → TellsOffer k before (drop (i + n) xs) old now

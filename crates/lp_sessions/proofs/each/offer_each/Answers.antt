@@ -1,5 +1,4 @@
-use Rattle.std.proofs.Common.{◌≡◌, ◌<◌, ◌≤◌, ◌∙◌, length, arith, rules, sym, ap}
-use Rattle.lp_sessions.specs.declared.session.Session.{Session}
+use Rattle.std.proofs.Common.{◌<◌, ◌≤◌, ◌∙◌, length, arith}
 use Rattle.lp_sessions.proofs.SoFar.{so_far_next, so_far_all}
 use Rattle.lp_sessions.proofs.Outputs.{numbers_at}
 use Rattle.lp_sessions.proofs.each.offer_each.Goals as goal

@@ -1,4 +1,4 @@
-use Rattle.std.proofs.Common.{rules, sym, ◌∙◌}
+use Rattle.std.proofs.Common.{rules}
 use Rattle.lp_sessions.proofs.Serving.{quick_more}
 use Rattle.lp_sessions.proofs.each.slowest_among.Goals as goal
 

@@ -1,4 +1,4 @@
-use Rattle.std.proofs.Common.{◌≡◌, take}
+use Rattle.std.proofs.Common.{take}
 use Rattle.lp_sessions.specs.Serving.{AreQuick}
 use Rattle.lp_sessions.proofs.each.slowest_among.Given as goal
 

@@ -1,5 +1,5 @@
-use Rattle.std.proofs.Common.{rules, sym, ◌∙◌}
-use Rattle.lp_sessions.proofs.Outputs.{takes_more, takes_some}
+use Rattle.std.proofs.Common.{◌∙◌}
+use Rattle.lp_sessions.proofs.Outputs.{takes_more}
 use Rattle.lp_sessions.proofs.each.take_each.Goals as goal
 
 pub loop-out-preserved : goal.loop-out-preserved

@@ -1,4 +1,4 @@
-use Rattle.std.proofs.Common.{◌≡◌, ◌<◌, length, rules, sym, ap, ◌∙◌, get_or}
+use Rattle.std.proofs.Common.{◌<◌, length, rules, sym, ◌∙◌}
 use Rattle.lp_sessions.proofs.Outputs.{takes_at, takes_other, ok_takes, err_takes, numbers_at, set_same}
 use Rattle.lp_sessions.proofs.each.take_one.Goals as goal
 

@@ -1,4 +1,3 @@
-use Rattle.std.proofs.Common.{rules}
 use Rattle.lp_sessions.proofs.Tables.{table_removed}
 use Rattle.lp_sessions.proofs.sessions.Sessions.remove.Goals as goal
 

@@ -1,4 +1,4 @@
-use Rattle.std.proofs.Common.{rules, refl}
+use Rattle.std.proofs.Common.{refl}
 use Rattle.lp_wire.proofs.Playing.{one_passed}
 use Rattle.lp_wire.proofs.memory.MemWire.pass_happening.Goals as goal
 

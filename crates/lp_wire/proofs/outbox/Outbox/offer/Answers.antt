@@ -1,4 +1,4 @@
-use Rattle.std.proofs.Common.{◌≡◌, drop, rules, sym, ap}
+use Rattle.std.proofs.Common.{sym}
 use Rattle.lp_wire.proofs.Offers.{offered_lem, rest_lem}
 use Rattle.lp_wire.proofs.Returns.{slice_from}
 use Rattle.lp_wire.proofs.outbox.Outbox.offer.Goals as goal
