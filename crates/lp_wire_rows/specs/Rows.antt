@@ -1,5 +1,5 @@
 -- Rows: happenings over a small driver, and what is heard of them.
-use Rattle.std.specs.Prelude.{◌≡◌, ℕ, List, [], ◌∷◌, ◌++◌, flat_map, map, nat_eq, true, false, Option, Some, None, codes, if◌then◌else◌}
+use Rattle.std.specs.Prelude.{◌≡◌, ℕ, List, [], ◌∷◌, ◌++◌, nat_eq, true, false, Option, Some, None, codes, if◌then◌else◌}
 use Rattle.std.specs.Str.{bytes_eq}
 use Rattle.lp_events.specs.declared.event.Event.{Event}
 use Rattle.lp_events.specs.declared.event.Event.TheVariants as ev
@@ -8,7 +8,7 @@ use Rattle.lp_events.specs.declared.out.Out.TheVariants as o
 use Rattle.lp_wire.specs.declared.happening.Happening.{Happening}
 use Rattle.lp_wire.specs.declared.happening.Happening.TheVariants as h
 use Rattle.lp_wire.specs.Courses.{Done, carried, events_of, reads_of}
-use Rattle.lp_wire.specs.Heard.{Hearing, Slow, hearing_from, heard, slow_above, slow_by}
+use Rattle.lp_wire.specs.Heard.{Hearing, hearing_from, heard, slow_above, slow_by}
 use Rattle.lp_wire.specs.Record.{record_bytes}
 
 -- A driver with one object, the master: `connect` answers the master itself, `logon` writes `Hello`, and no action is known, so each line but an empty one is
