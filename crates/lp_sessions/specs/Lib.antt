@@ -1,0 +1,5 @@
+pub mod Tied
+pub mod All
+pub mod Table
+pub mod Serving
+pub mod Laws

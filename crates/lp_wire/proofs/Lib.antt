@@ -1,0 +1,4 @@
+pub mod Offers
+pub mod Returns
+pub mod Playing
+pub mod Texts
