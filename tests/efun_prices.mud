@@ -38,6 +38,7 @@ void make_arrays() {
 }
 object connect() {
   int i;
+  if (player) return clone_object("/player");
   me = this_object(); player = clone_object("/player"); hall = load_object("/hall"); full = load_object("/full"); left = allocate(40);
   name = "/0123456789abcdef0123456789abcdef"; named = load_object(name);
   make_texts(); make_arrays();
@@ -180,7 +181,7 @@ code: COST(1, explode(b15, ""))
 code: COST(2, explode(b16, ""))
 code: COST(3, explode(b15, "b"))
 code: COST(4, explode(b10000, ""))
-code: COST(5, explode(b100000, "b"))
+code: COST(5, explode(b50000, "bbbbbbbbbb"))
 code: COST(6, implode(x10, "123456"))
 code: COST(7, implode(x10000, ""))
 code: COST(8, implode(z10000, ","))
@@ -222,7 +223,7 @@ log: "error: Too long evaluation. Execution aborted. [spend of /secure/master, o
 log: "error: Too long evaluation. Execution aborted. [spend of /secure/master, object /secure/master]"
 log: "error: Too long evaluation. Execution aborted. [spend of /secure/master, object /secure/master]"
 log: "error: Too long evaluation. Execution aborted. [spend of /secure/master, object /secure/master]"
-to 1: "1 3 2 1251 6251 11 6876 626 3 12501 12501 12501 3 6251 4 12501 8 5 625 12501 3 2 "
+to 1: "1 3 3 1251 3438 11 6876 626 3 12501 12501 12501 3 6251 4 12501 8 5 625 12501 3 2 "
 end
 
 === arrays_and_mappings

@@ -62,12 +62,12 @@ code: a;
 /t.c line 2: unexpected token
 1 files, 1 faults
 
-=== inherit_of_two_texts
-# And one of them.
+=== inherit_of_joined_texts
+# And one of them: neighbouring texts are one.
 code: inherit "a"
 code: "b";
 --- written
-/t.c line 2: unexpected token
+/ab.c line 0: no such file
 1 files, 1 faults
 
 === private_inherit

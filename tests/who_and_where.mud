@@ -85,9 +85,11 @@ code: cloak->uncovers(); SHOW(query_shadowing(cloak))
 gives: "/std/player#1\n0\n0\n/std/player#1\n0\n"
 
 === living
-# Who enabled its commands is living, and becomes `this_player()`.
-code: SHOW(living(player)) SHOW(other->enables()) SHOW(this_player()) SHOW(living(other)) SHOW(living(player)) SHOW(enable_commands()) SHOW(this_player())
-gives: "0\n/std/player#2\n/std/player#2\n1\n0\n0\n/std/player#1\n"
+# Who enabled its commands is living, and becomes `this_player()`, to whom what is written goes.
+code: string all;
+code: all = sprintf("%O %O %O %O %O", living(player), other->enables(), this_player(), living(other), living(player));
+code: write("This is lost: the other one has no connection."); all += sprintf(" %O", enable_commands()); write(all + sprintf(" %O %O\n", living(player), this_player()));
+gives: "0 /std/player#2 /std/player#2 1 0 0 1 /std/player#1\n"
 
 === hearts
 # 1 where it changed: any integer but 0 lets a heart beat.
