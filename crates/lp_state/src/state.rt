@@ -1,5 +1,5 @@
 //! The state, and its turns.
-ghost use Rattle.std.specs.Prelude.{◌≡◌, ◌≤◌, ◌^◌, [], Err, IfErr, IfOk, IsOk, List, OnOk, false, is_err, map, string_bytes, true};
+ghost use Rattle.std.specs.Prelude.{◌≡◌, ◌≤◌, ◌^◌, [], Err, IfErr, IfOk, IsOk, List, OnOk, Option, false, is_err, map, string_bytes, true, ℕ};
 ghost use Rattle.std.specs.Option.{option_map};
 ghost use Rattle.lp_files.specs.Paths.{without_path};
 ghost use Rattle.lp_files.specs.Store.{changed_in, file_at};

@@ -414,7 +414,7 @@ kind-finish : (last : List ℕ) (now next : Option (List ℕ)) (s : Status) → 
 kind-finish last now next ends.BadWords i = absurd i
 kind-finish last now next s i = tt
 
-pub kind-finished : (swap_time : ℕ) (report : Bool) (live : Live) (now next : Option (List ℕ)) (s : Status) → Concludes report live now next s → IsReplayEnd s
+pub kind-finished : (report : Bool) (live : Live) (now next : Option (List ℕ)) (s : Status) → Concludes report live now next s → IsReplayEnd s
 kind-finished report live now next s (inl k) = kind-finish (codes "end\n" ++ k.0) now next s k.2
 kind-finished report live now next s (inr k) = subst IsReplayEnd (sym k.0) tt
 
