@@ -1,5 +1,5 @@
 use lp_io::*;
-use std::alloc::Global;
+use std::alloc::{AllocError, Global};
 use std::io::{Error, ErrorKind, Read, Write};
 use std::test::Fail;
 
@@ -23,105 +23,164 @@ impl Write for Broken {
     }
 }
 
-fn numbers(alloc: Global, xs: &[u64]) -> Result<Vec<u64>, Fail> {
-    Ok(Vec::from_slice(alloc, xs)?)
+fn octets(alloc: Global, bytes: &[u8]) -> Result<Octets, AllocError> {
+    Ok(Octets::from_vec(Vec::from_slice(alloc, bytes)?))
 }
 
-#[test]
-fn octets_keep_their_bytes(rt: HostRuntime) -> Result<(), Fail> {
-    let octets = Octets::from_vec(Vec::from_slice(rt.alloc(), b"abc")?);
-    assert_eq!(rt; octets.as_slice(), b"abc".as_slice());
-    let others = Octets::from_vec(Vec::from_slice(rt.alloc(), b"abd")?);
-    assert!(rt; octets == octets);
-    assert!(rt; octets != others);
-    assert_eq!(rt; octets.into_vec().as_slice(), b"abc".as_slice());
-    Ok(())
+// Whether octets keep their bytes, and are the same as others only where these are.
+fn keep_bytes(alloc: Global) -> Result<bool, AllocError> {
+    let some = octets(alloc, b"abc")?;
+    let others = octets(alloc, b"abd")?;
+    Ok(
+        some.as_slice() == b"abc".as_slice()
+            && some == some
+            && some != others
+            && some.into_vec().as_slice() == b"abc".as_slice(),
+    )
 }
 
-// Eight bytes by threes, where the second call fails; what stands behind the bytes given is kept.
-#[test]
-fn a_source_in_memory_gives_its_bytes(rt: HostRuntime) -> Result<(), Fail> {
-    let bytes = Octets::from_vec(Vec::from_slice(rt.alloc(), b"abcdefgh")?);
-    let mut source = MemSource::new(bytes, numbers(rt.alloc(), &[2])?);
+// A source of these bytes, whose call with a number fails.
+fn source(alloc: Global, bytes: &[u8], fail: u64) -> Result<MemSource, AllocError> {
+    let bytes = octets(alloc, bytes)?;
+    Ok(MemSource::new(bytes, Vec::from_slice(alloc, &[fail])?))
+}
+
+// How many bytes a read of three gives, if it does not fail, and what stands there then: what is behind the bytes given is kept.
+static READS: [(Option<usize>, [u8; 3]); 5] = [
+    (Some(3), *b"abc"),
+    (None, *b"abc"),
+    (Some(3), *b"def"),
+    (Some(2), *b"ghf"),
+    (Some(0), *b"ghf"),
+];
+
+// Whether a read gives so many bytes, or fails, and leaves these.
+fn reads<S: Source>(source: &mut S, into: &mut [u8; 3], count: Option<usize>, held: &[u8]) -> bool {
+    let answer = match source.read(into) {
+        Ok(n) => Some(n),
+        Err(Failed) => None,
+    };
+    answer == count && into.as_slice() == held
+}
+
+fn gives(source: &mut MemSource) -> bool {
     let mut into = *b"...";
-    let rows = [
-        (Ok(3), *b"abc"),
-        (Err(Failed), *b"abc"),
-        (Ok(3), *b"def"),
-        (Ok(2), *b"ghf"),
-        (Ok(0), *b"ghf"),
-    ];
-    for (answer, held) in rows {
-        assert_eq!(rt; source.read(&mut into), answer);
-        assert_eq!(rt; into, held);
+    for i in 0..READS.len() {
+        if !reads(source, &mut into, READS[i].0, READS[i].1.as_slice()) {
+            return false;
+        }
     }
-    assert_eq!(rt; source.calls(), 5);
-    assert_eq!(rt; source.faults(), 1);
-    Ok(())
+    source.calls() == 5 && source.faults() == 1
 }
 
-// A row: the calls that fail, the most that a write takes, the piece, the fault, what was taken.
-#[test]
-fn pieces_are_written_whole_or_cut(rt: HostRuntime) -> Result<(), Fail> {
-    let rows: [(&[u64], usize, &str, Option<PutFault>, &str); 6] = [
-        (&[], 1, "Hello\n", None, "Hello\n"),
-        (&[], 64, "Hello\n", None, "Hello\n"),
-        (&[], 0, "Hello\n", Some(PutFault::ZeroTaken), ""),
-        (&[], 0, "", None, ""),
-        (&[1], 64, "Hello\n", Some(PutFault::Failed), ""),
-        (&[3, 4], 2, "Hello\n", Some(PutFault::Failed), "Hell"),
-    ];
-    for (fail, take, piece, fault, taken) in rows {
-        let mut sink = MemSink::new(rt.alloc(), numbers(rt.alloc(), fail)?, take);
-        assert_eq!(rt; put_all(&mut sink, piece.as_bytes()).err(), fault);
-        assert_eq!(rt; sink.as_slice(), taken.as_bytes());
+// Eight bytes by threes, where the second call fails.
+fn gives_its_bytes(alloc: Global) -> Result<bool, AllocError> {
+    let mut source = source(alloc, b"abcdefgh", 2)?;
+    let found = gives(&mut source);
+    drop(source);
+    Ok(found)
+}
+
+// The calls that fail, the most that a write takes, the piece, the fault, what was taken.
+type Row = (
+    &'static [u64],
+    usize,
+    &'static str,
+    Option<PutFault>,
+    &'static str,
+);
+
+static PIECES: [Row; 6] = [
+    (&[], 1, "Hello\n", None, "Hello\n"),
+    (&[], 64, "Hello\n", None, "Hello\n"),
+    (&[], 0, "Hello\n", Some(PutFault::ZeroTaken), ""),
+    (&[], 0, "", None, ""),
+    (&[1], 64, "Hello\n", Some(PutFault::Failed), ""),
+    (&[3, 4], 2, "Hello\n", Some(PutFault::Failed), "Hell"),
+];
+
+// Whether a piece is written whole or cut, as a row says.
+fn is_written(alloc: Global, row: &Row) -> Result<bool, AllocError> {
+    let failing = Vec::from_slice(alloc, row.0)?;
+    let mut sink = MemSink::new(alloc, failing, row.1);
+    let fault = put_all(&mut sink, row.2.as_bytes()).err();
+    let is_taken = sink.as_slice() == row.4.as_bytes();
+    drop(sink);
+    Ok(is_taken && fault == row.3)
+}
+
+fn writes<S: Sink>(sink: &mut S, bytes: &[u8]) -> bool {
+    match sink.write(bytes) {
+        Ok(n) => n == bytes.len(),
+        Err(Failed) => false,
     }
-    Ok(())
 }
 
-#[test]
-fn writes_and_flushes_are_numbered_together(rt: HostRuntime) -> Result<(), Fail> {
-    let mut sink = MemSink::new(rt.alloc(), numbers(rt.alloc(), &[2])?, 64);
-    assert_eq!(rt; sink.write(b"abc"), Ok(3));
-    assert_eq!(rt; sink.flush(), Err(Failed));
-    assert_eq!(rt; sink.flush(), Ok(()));
-    assert_eq!(rt; sink.write(b"de"), Ok(2));
-    assert_eq!(rt; sink.as_slice(), b"abcde".as_slice());
-    assert_eq!(rt; sink.calls(), 4);
-    assert_eq!(rt; sink.faults(), 1);
-    Ok(())
+fn numbers(sink: &mut MemSink) -> bool {
+    writes(sink, b"abc")
+        && sink.flush().is_err()
+        && sink.flush().is_ok()
+        && writes(sink, b"de")
+        && sink.as_slice() == b"abcde".as_slice()
+        && sink.calls() == 4
+        && sink.faults() == 1
 }
 
-#[test]
-fn quiet_ones_never_fail(rt: HostRuntime) {
+// Whether writes and flushes are numbered together.
+fn are_numbered(alloc: Global) -> Result<bool, AllocError> {
+    let failing = Vec::from_slice(alloc, &[2])?;
+    let mut sink = MemSink::new(alloc, failing, 64);
+    let found = numbers(&mut sink);
+    drop(sink);
+    Ok(found)
+}
+
+fn are_quiet() -> bool {
     let mut into = *b"abc";
-    assert_eq!(rt; QuietSource.read(&mut into), Ok(0));
-    assert_eq!(rt; into, *b"abc");
-    assert_eq!(rt; QuietSink.write(b"abc"), Ok(3));
-    assert_eq!(rt; QuietSink.flush(), Ok(()));
+    reads(&mut QuietSource, &mut into, Some(0), b"abc")
+        && writes(&mut QuietSink, b"abc")
+        && QuietSink.flush().is_ok()
 }
 
-#[test]
-fn a_source_over_a_reader(rt: HostRuntime) {
+// Whether a source over a reader gives its bytes, and fails where that does.
+fn reads_over() -> bool {
     let mut into = *b"...";
     let mut source = StdSource::new(b"abcd".as_slice());
-    assert_eq!(rt; source.read(&mut into), Ok(3));
-    assert_eq!(rt; into, *b"abc");
-    assert_eq!(rt; source.read(&mut into), Ok(1));
-    assert_eq!(rt; source.read(&mut into), Ok(0));
-    assert_eq!(rt; StdSource::new(Broken).read(&mut into), Err(Failed));
+    reads(&mut source, &mut into, Some(3), b"abc")
+        && reads(&mut source, &mut into, Some(1), b"dbc")
+        && reads(&mut source, &mut into, Some(0), b"dbc")
+        && reads(&mut StdSource::new(Broken), &mut into, None, b"dbc")
 }
 
-// A writer into a slice takes nothing once the slice is full.
-#[test]
-fn a_sink_over_a_writer(rt: HostRuntime) {
+fn writes_into(room: &mut [u8]) -> bool {
+    let mut sink = StdSink::new(room);
+    put_all(&mut sink, b"abc").is_ok()
+        && sink.flush().is_ok()
+        && put_all(&mut sink, b"def") == Err(PutFault::ZeroTaken)
+}
+
+fn is_broken() -> bool {
+    let mut sink = StdSink::new(Broken);
+    put_all(&mut sink, b"abc") == Err(PutFault::Failed) && sink.flush().is_err()
+}
+
+// Whether a sink over a writer into a slice takes nothing once the slice is full, and fails where a writer does.
+fn writes_over() -> bool {
     let mut room = *b".....";
-    let mut sink = StdSink::new(room.as_mut_slice());
-    assert_eq!(rt; put_all(&mut sink, b"abc"), Ok(()));
-    assert_eq!(rt; sink.flush(), Ok(()));
-    assert_eq!(rt; put_all(&mut sink, b"def"), Err(PutFault::ZeroTaken));
-    assert_eq!(rt; room, *b"abcde");
-    let mut broken = StdSink::new(Broken);
-    assert_eq!(rt; put_all(&mut broken, b"abc"), Err(PutFault::Failed));
-    assert_eq!(rt; broken.flush(), Err(Failed));
+    writes_into(room.as_mut_slice()) && room == *b"abcde" && is_broken()
+}
+
+#[test]
+fn devices_hold(rt: HostRuntime) -> Result<(), Fail> {
+    let alloc = rt.alloc();
+    assert!(rt; keep_bytes(alloc)?);
+    assert!(rt; gives_its_bytes(alloc)?);
+    for i in 0..PIECES.len() {
+        assert!(rt; is_written(alloc, &PIECES[i])?, "{i}");
+    }
+    assert!(rt; are_numbered(alloc)?);
+    assert!(rt; are_quiet());
+    assert!(rt; reads_over());
+    assert!(rt; writes_over());
+    Ok(())
 }

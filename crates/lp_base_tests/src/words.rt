@@ -2,7 +2,7 @@
 use lp_words::path::{begins_name, begins_path, is_above, is_name, is_path};
 
 /// A word, and whether it is a path, begins one, is a name and begins one.
-const WORDS: [(&str, bool, bool, bool, bool); 20] = [
+static WORDS: [(&str, bool, bool, bool, bool); 20] = [
     ("", false, true, false, true),
     ("/", false, true, false, true),
     ("a", false, false, false, false),
@@ -36,7 +36,7 @@ fn is_told(row: (&str, bool, bool, bool, bool)) -> bool {
 }
 
 /// The last byte but one and the last of 256, and whether they are a path, begin one, are a name and begin one.
-const ENDS: [(u8, u8, bool, bool, bool, bool); 4] = [
+static ENDS: [(u8, u8, bool, bool, bool, bool); 4] = [
     (b'x', b'x', true, true, true, true),
     (b'x', b'/', false, false, false, false),
     (b'.', b'c', true, true, false, false),
@@ -60,7 +60,7 @@ fn is_longest(row: (u8, u8, bool, bool, bool, bool)) -> bool {
 }
 
 /// The last path, a word, whether it stands above, and whether a path above begins with it.
-const ORDERS: [(&str, &str, bool, bool); 7] = [
+static ORDERS: [(&str, &str, bool, bool); 7] = [
     ("", "/a", true, true),
     ("/a", "/a", false, true),
     ("/b", "/a", false, false),
@@ -79,13 +79,16 @@ fn is_ordered(row: (&str, &str, bool, bool)) -> bool {
 
 #[test]
 fn words_of_scripts(rt: HostRuntime) {
-    for row in WORDS {
+    for i in 0..WORDS.len() {
+        let row = WORDS[i];
         assert!(rt; is_told(row), "{}", row.0);
     }
-    for row in ENDS {
+    for i in 0..ENDS.len() {
+        let row = ENDS[i];
         assert!(rt; is_longest(row), "{} {}", row.0, row.1);
     }
-    for row in ORDERS {
+    for i in 0..ORDERS.len() {
+        let row = ORDERS[i];
         assert!(rt; is_ordered(row), "{} {}", row.0, row.1);
     }
     // No path stands above the greatest.

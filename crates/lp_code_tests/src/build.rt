@@ -20,18 +20,68 @@ const MIXED: TypeName = TypeName {
     stars: 0,
 };
 
-/// A function that begins at a place.
-pub fn function(alloc: Global, from: u32, params: u8, locals: u16) -> Result<FunRow, AllocError> {
+/// What differs between programs of two texts, one switch, one parent and two variables.
+#[derive(Clone, Copy)]
+pub struct Form<'a> {
+    /// The instructions of all functions.
+    pub instrs: &'a [Instr],
+    /// Where each function begins, how many parameters it has, and how many locals.
+    pub funs: &'a [(u32, u8, u16)],
+    /// The labels of the switch.
+    pub cases: &'a [Case],
+    /// The place where none of them fits.
+    pub other: u32,
+    /// The names of the slots.
+    pub slots: &'a [&'a str],
+    /// How many operands the stack may hold.
+    pub max_height: u32,
+}
+
+/// The form of one function with one local, of two labels and one slot.
+pub fn plain(instrs: &[Instr], max_height: u32) -> Form<'_> {
+    Form {
+        instrs,
+        funs: &[(0, 1, 1)],
+        cases: &[Case::Ints(1, 3, 0), Case::Text(1, 0)],
+        other: 0,
+        slots: &["f"],
+        max_height,
+    }
+}
+
+fn function(alloc: Global, row: &(u32, u8, u16)) -> Result<FunRow, AllocError> {
     Ok(FunRow {
         name: Name::from_str(alloc, "f")?,
-        from,
-        params,
-        locals,
+        from: row.0,
+        params: row.1,
+        locals: row.2,
     })
 }
 
-/// A slot of a name.
-pub fn slot(alloc: Global, name: &str) -> Result<Slot, AllocError> {
+fn functions(alloc: Global, rows: &[(u32, u8, u16)]) -> Result<Listed<FunRow>, AllocError> {
+    let mut all = Vec::new(alloc);
+    for row in rows {
+        all.push(function(alloc, row)?)?;
+    }
+    Ok(Listed::from_vec(all))
+}
+
+fn switches(alloc: Global, cases: &[Case], other: u32) -> Result<Listed<SwitchRow>, AllocError> {
+    let row = SwitchRow {
+        cases: Listed::from_vec(Vec::from_slice(alloc, cases)?),
+        other,
+    };
+    Ok(Listed::from_vec(vec![in alloc; row]?))
+}
+
+fn texts(alloc: Global) -> Result<Listed<Text>, AllocError> {
+    let mut all = Vec::new(alloc);
+    all.push(Text::from_str(alloc, "x")?)?;
+    all.push(Text::from_str(alloc, "\u{e9}")?)?;
+    Ok(Listed::from_vec(all))
+}
+
+fn slot(alloc: Global, name: &str) -> Result<Slot, AllocError> {
     Ok(Slot {
         name: Name::from_str(alloc, name)?,
         part: 1,
@@ -40,6 +90,14 @@ pub fn slot(alloc: Global, name: &str) -> Result<Slot, AllocError> {
         answer: MIXED,
         params: Listed::from_vec(vec![in alloc; MIXED]?),
     })
+}
+
+fn slots(alloc: Global, names: &[&str]) -> Result<Slots, AllocError> {
+    let mut all = Vec::new(alloc);
+    for name in names {
+        all.push(slot(alloc, name)?)?;
+    }
+    Slots::from_vec(alloc, all)
 }
 
 fn variable(alloc: Global, name: &str) -> Result<VarRow, AllocError> {
@@ -51,40 +109,40 @@ fn variable(alloc: Global, name: &str) -> Result<VarRow, AllocError> {
     })
 }
 
-fn tables(alloc: Global) -> Result<Tables, AllocError> {
-    let parent = ProgId(1);
+fn variables(alloc: Global) -> Result<Listed<VarRow>, AllocError> {
+    let mut all = Vec::new(alloc);
+    all.push(variable(alloc, "a")?)?;
+    all.push(variable(alloc, "b")?)?;
+    Ok(Listed::from_vec(all))
+}
+
+/// The tables of a program with slots of these names.
+pub fn tables(alloc: Global, names: &[&str]) -> Result<Tables, AllocError> {
     Ok(Tables {
         path: FilePath::from_str(alloc, "/a")?,
-        parents: Listed::from_vec(vec![in alloc; parent]?),
-        parts: Listed::from_vec(vec![in alloc; parent, ProgId(2)]?),
-        slots: Slots::from_vec(alloc, vec![in alloc; slot(alloc, "f")?]?)?,
-        vars: Listed::from_vec(vec![in alloc; variable(alloc, "a")?, variable(alloc, "b")?]?),
+        parents: Listed::from_vec(vec![in alloc; ProgId(1)]?),
+        parts: Listed::from_vec(vec![in alloc; ProgId(1), ProgId(2)]?),
+        vars: variables(alloc)?,
+        slots: slots(alloc, names)?,
         pragmas: Pragmas::new(),
     })
 }
 
-/// A program of one function with one local, two texts, one switch, one slot, one parent and two variables.
-pub fn program(alloc: Global, instrs: &[Instr], max_height: u32) -> Result<RawProgram, AllocError> {
-    let switch = SwitchRow {
-        cases: Listed::from_vec(vec![in alloc; Case::Ints(1, 3, 0), Case::Text(1, 0)]?),
-        other: 0,
-    };
+/// The program of a form.
+pub fn program(alloc: Global, form: &Form<'_>) -> Result<RawProgram, AllocError> {
     Ok(RawProgram {
-        instrs: Listed::from_vec(Vec::from_slice(alloc, instrs)?),
-        consts: Listed::from_vec(vec![in alloc;
-            Text::from_str(alloc, "x")?,
-            Text::from_str(alloc, "\u{e9}")?,
-        ]?),
-        switches: Listed::from_vec(vec![in alloc; switch]?),
-        funs: Listed::from_vec(vec![in alloc; function(alloc, 0, 1, 1)?]?),
-        tables: tables(alloc)?,
-        max_height,
+        instrs: Listed::from_vec(Vec::from_slice(alloc, form.instrs)?),
+        consts: texts(alloc)?,
+        switches: switches(alloc, form.cases, form.other)?,
+        funs: functions(alloc, form.funs)?,
+        tables: tables(alloc, form.slots)?,
+        max_height: form.max_height,
     })
 }
 
-/// Where a program is unsound, or None where it is sound.
-pub fn fault(alloc: Global, raw: RawProgram) -> Result<Option<usize>, AllocError> {
-    match verify(alloc, raw) {
+/// Where the program of a form is unsound, or None where it is sound.
+pub fn fault(alloc: Global, form: &Form<'_>) -> Result<Option<usize>, AllocError> {
+    match verify(alloc, program(alloc, form)?) {
         Ok(_program) => Ok(None),
         Err(VerifyFault::Unsound { at }) => Ok(Some(at)),
         Err(VerifyFault::NoMemory) => Err(AllocError),

@@ -1,8 +1,10 @@
-//! Tests of stack code: efuns, the verifier.
+//! Tests of stack code: efuns, the verifier, the encoding of programs.
 #![tactic(auto)]
 
 #[cfg(test)]
 mod build;
+#[cfg(test)]
+mod bytes;
 #[cfg(test)]
 mod efuns;
 #[cfg(test)]
@@ -11,3 +13,7 @@ mod flows;
 mod operands;
 #[cfg(test)]
 mod parts;
+#[cfg(test)]
+mod slots;
+#[cfg(test)]
+mod trips;

@@ -1,118 +1,119 @@
 //! Functions, switches and tables.
-use crate::build::{fault, function, program, slot};
-use lp_code::listed::Listed;
-use lp_code::program::{FunRow, SwitchRow};
-use lp_code::slots::Slots;
+use crate::build::{Form, fault, plain, tables};
+use lp_code::tables::Tables;
 use lp_instr::instr::{Case, Instr};
 use std::alloc::{AllocError, Global};
 use std::test::Fail;
 
-const CODE: [Instr; 4] = [
+static CODE: [Instr; 4] = [
     Instr::PushLocal(0),
     Instr::Return,
     Instr::PushLocal(0),
     Instr::Return,
 ];
 
-fn with_functions(alloc: Global, funs: Vec<FunRow>) -> Result<Option<usize>, AllocError> {
-    let mut raw = program(alloc, &CODE, 1)?;
-    raw.funs = Listed::from_vec(funs);
-    fault(alloc, raw)
-}
+/// Functions, where the program is unsound, and what is tried.
+type TriedFunctions = (&'static [(u32, u8, u16)], Option<usize>, &'static str);
 
-#[test]
-fn functions(rt: HostRuntime) -> Result<(), Fail> {
-    let a = rt.alloc();
-    let two = vec![in a; function(a, 0, 0, 1)?, function(a, 2, 1, 1)?]?;
-    assert_eq!(rt; with_functions(a, two)?, None);
-    let locals = vec![in a; function(a, 0, 0, 1)?, function(a, 2, 0, 0)?]?;
-    assert_eq!(rt;
-        with_functions(a, locals)?,
+static FUNCTIONS: [TriedFunctions; 7] = [
+    (&[(0, 0, 1), (2, 1, 1)], None, "two functions"),
+    (
+        &[(0, 0, 1), (2, 0, 0)],
         Some(2),
-        "locals of its own function"
-    );
-    let inside = vec![in a; function(a, 0, 0, 1)?, function(a, 1, 0, 1)?]?;
-    assert_eq!(rt;
-        with_functions(a, inside)?,
+        "locals of its own function",
+    ),
+    (
+        &[(0, 0, 1), (1, 0, 1)],
         Some(0),
-        "a path leaves the function"
-    );
-    let late = vec![in a; function(a, 2, 0, 1)?]?;
-    assert_eq!(rt;
-        with_functions(a, late)?,
-        Some(0),
-        "no local before the first function"
-    );
-    let same = vec![in a; function(a, 0, 0, 1)?, function(a, 0, 0, 1)?]?;
-    assert_eq!(rt; with_functions(a, same)?, Some(4));
-    let past = vec![in a; function(a, 0, 0, 1)?, function(a, 4, 0, 1)?]?;
-    assert_eq!(rt; with_functions(a, past)?, Some(4));
-    let params = vec![in a; function(a, 0, 2, 1)?]?;
-    assert_eq!(rt; with_functions(a, params)?, Some(4));
-    Ok(())
+        "a path leaves the function",
+    ),
+    (&[(2, 0, 1)], Some(0), "no local before the first function"),
+    (&[(0, 0, 1), (0, 0, 1)], Some(4), "two at one place"),
+    (&[(0, 0, 1), (4, 0, 1)], Some(4), "one past the code"),
+    (&[(0, 2, 1)], Some(4), "more parameters than locals"),
+];
+
+/// The first of these that is not judged so.
+fn wrong_functions(alloc: Global) -> Result<Option<&'static str>, AllocError> {
+    for (funs, want, why) in &FUNCTIONS {
+        let tried = Form {
+            funs,
+            ..plain(&CODE, 1)
+        };
+        if fault(alloc, &tried)? != *want {
+            return Ok(Some(*why));
+        }
+    }
+    Ok(None)
 }
 
-fn with_switch(
-    alloc: Global,
-    case: Case,
-    other: u32,
-    used: bool,
-) -> Result<Option<usize>, AllocError> {
-    let first = if used {
-        Instr::PushInt(1)
-    } else {
-        Instr::Jump(2)
+static SWITCH: [Instr; 4] = [
+    Instr::PushInt(1),
+    Instr::Switch(0),
+    Instr::ReturnZero,
+    Instr::ReturnZero,
+];
+
+/// Labels, the place where none fits, where the program is unsound, and what is tried.
+type TriedSwitch = (&'static [Case], u32, Option<usize>, &'static str);
+
+static SWITCHES: [TriedSwitch; 4] = [
+    (&[Case::Ints(0, 0, 2)], 2, None, "one label"),
+    (&[Case::Text(2, 2)], 2, Some(1), "no such text"),
+    (&[Case::Ints(0, 0, 1)], 2, Some(1), "back to no turn"),
+    (&[Case::Ints(0, 0, 2)], 4, Some(1), "past the code"),
+];
+
+/// The first of these that is not judged so.
+fn wrong_switch(alloc: Global) -> Result<Option<&'static str>, AllocError> {
+    for (cases, other, want, why) in &SWITCHES {
+        let tried = Form {
+            cases,
+            other: *other,
+            ..plain(&SWITCH, 1)
+        };
+        if fault(alloc, &tried)? != *want {
+            return Ok(Some(*why));
+        }
+    }
+    Ok(None)
+}
+
+/// Where a program with slots of these names is unsound.
+fn fault_of_slots(alloc: Global, slots: &[&str]) -> Result<Option<usize>, AllocError> {
+    let tried = Form {
+        slots,
+        ..plain(&CODE, 1)
     };
-    let code = [
-        first,
-        Instr::Switch(0),
-        Instr::ReturnZero,
-        Instr::ReturnZero,
-    ];
-    let mut raw = program(alloc, &code, 1)?;
-    let row = SwitchRow {
-        cases: Listed::from_vec(vec![in alloc; case]?),
-        other,
-    };
-    raw.switches = Listed::from_vec(vec![in alloc; row]?);
-    fault(alloc, raw)
+    fault(alloc, &tried)
+}
+
+/// Whether each of the slots `f`, `g` and `f` is found at its first place, and no other.
+fn finds(tables: &Tables) -> bool {
+    tables.slots.as_slice().len() <= 65535
+        && tables.slot("f") == Some(0)
+        && tables.slot("g") == Some(1)
+        && tables.slot("h").is_none()
+}
+
+fn finds_slots(alloc: Global) -> Result<bool, AllocError> {
+    let made = tables(alloc, &["f", "g", "f"])?;
+    let found = finds(&made);
+    drop(made);
+    Ok(found)
 }
 
 #[test]
-fn tables(rt: HostRuntime) -> Result<(), Fail> {
-    let a = rt.alloc();
-    let mut twice = program(a, &CODE, 1)?;
-    twice.tables.slots = Slots::from_vec(
-        a,
-        vec![in a; slot(a, "f")?, slot(a, "g")?, slot(a, "f")?]?,
-    )?;
-    assert_eq!(rt; fault(a, twice)?, Some(4), "two slots of one name");
-    let mut distinct = program(a, &CODE, 1)?;
-    distinct.tables.slots = Slots::from_vec(a, vec![in a; slot(a, "f")?, slot(a, "g")?]?)?;
-    assert_eq!(rt; fault(a, distinct)?, None);
-    assert_eq!(rt; with_switch(a, Case::Ints(0, 0, 2), 2, true)?, None);
-    assert_eq!(rt; with_switch(a, Case::Text(2, 2), 2, true)?, Some(1));
+fn parts(rt: HostRuntime) -> Result<(), Fail> {
+    let alloc = rt.alloc();
+    assert_eq!(rt; wrong_functions(alloc)?, None);
+    assert_eq!(rt; wrong_switch(alloc)?, None);
     assert_eq!(rt;
-        with_switch(a, Case::Ints(0, 0, 1), 2, true)?,
-        Some(1),
-        "back to no turn"
+        fault_of_slots(alloc, &["f", "g", "f"])?,
+        Some(4),
+        "two slots of one name"
     );
-    assert_eq!(rt; with_switch(a, Case::Ints(0, 0, 2), 4, true)?, Some(1));
-    Ok(())
-}
-
-#[test]
-fn slots(rt: HostRuntime) -> Result<(), Fail> {
-    let a = rt.alloc();
-    let mut raw = program(a, &CODE, 1)?;
-    raw.tables.slots = Slots::from_vec(
-        a,
-        vec![in a; slot(a, "f")?, slot(a, "g")?, slot(a, "f")?]?,
-    )?;
-    let few = raw.tables.slots.as_slice().len() <= 65535;
-    assert!(rt; few);
-    assert_eq!(rt; raw.tables.slot("f"), Some(0));
-    assert_eq!(rt; raw.tables.slot("g"), Some(1));
-    assert_eq!(rt; raw.tables.slot("h"), None);
+    assert_eq!(rt; fault_of_slots(alloc, &["f", "g"])?, None);
+    assert!(rt; finds_slots(alloc)?);
     Ok(())
 }

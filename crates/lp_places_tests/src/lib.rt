@@ -5,5 +5,3 @@
 mod objects;
 #[cfg(test)]
 mod places;
-#[cfg(test)]
-mod shadows;

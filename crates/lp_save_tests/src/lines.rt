@@ -4,7 +4,7 @@ use std::alloc::{AllocError, Global};
 use std::test::Fail;
 
 /// Streams, with the lines that end in them, each with a `|` behind it.
-const STREAMS: [(&[u8], &[u8]); 22] = [
+static STREAMS: [(&[u8], &[u8]); 22] = [
     (b"", b""),
     (b"lo", b""),
     (b"look\r\n", b"look|"),
@@ -58,73 +58,101 @@ fn cut_everywhere(alloc: Global, stream: &[u8]) -> Result<Vec<u8>, Fail> {
     Ok(given)
 }
 
-#[test]
-fn streams_give_their_lines(rt: HostRuntime) -> Result<(), Fail> {
-    for (stream, want) in STREAMS {
-        let got = cut_everywhere(rt.alloc(), stream)?;
-        assert_eq!(rt; got.as_slice(), want, "of {stream:?} byte by byte");
-        for at in 0..=stream.len().min(64) {
-            let got = cut_at(rt.alloc(), stream, at)?;
-            assert_eq!(rt; got.as_slice(), want, "of {stream:?} cut at {at}");
-        }
-    }
-    Ok(())
+// Whether a stream gives this byte by byte.
+fn gives_everywhere(alloc: Global, stream: &[u8], want: &[u8]) -> Result<bool, Fail> {
+    let got = cut_everywhere(alloc, stream)?;
+    Ok(got.as_slice() == want)
 }
 
-// A line with each byte from 240 on, and some others, behind a 255; and what it gives.
-fn commands(alloc: Global) -> Result<(Vec<u8>, Vec<u8>), AllocError> {
+// Whether it does in two pieces.
+fn gives_at(alloc: Global, stream: &[u8], want: &[u8], at: usize) -> Result<bool, Fail> {
+    let got = cut_at(alloc, stream, at)?;
+    Ok(got.as_slice() == want)
+}
+
+// Whether it does however it is cut in two.
+fn gives(alloc: Global, stream: &[u8], want: &[u8]) -> Result<bool, Fail> {
+    for at in 0..=stream.len().min(1000) {
+        if !gives_at(alloc, stream, want, at)? {
+            return Ok(false);
+        }
+    }
+    gives_everywhere(alloc, stream, want)
+}
+
+// A byte behind a 255, what stands behind both in a line of `a` and `b`, and what the line has in their place.
+static COMMANDS: [(u8, &[u8], &[u8]); 21] = [
+    (0, b"", b""),
+    (1, b"", b""),
+    (10, b"", b""),
+    (13, b"", b""),
+    (97, b"", b""),
+    (240, b"", b""),
+    (241, b"", b""),
+    (242, b"", b""),
+    (243, b"", b""),
+    (244, b"", b""),
+    (245, b"", b""),
+    (246, b"", b""),
+    (247, b"", b""),
+    (248, b"", b""),
+    (249, b"", b""),
+    (250, &[13, 255, 255, 240, 255, 250, 255, 240], b""),
+    (251, b"\n", b""),
+    (252, b"\n", b""),
+    (253, b"\n", b""),
+    (254, b"\n", b""),
+    (255, b"", b"\xff"),
+];
+
+// Whether a stream of a line for each of them gives these lines, however it is cut.
+fn gives_commands(alloc: Global) -> Result<bool, Fail> {
     let mut stream = Vec::new(alloc);
     let mut want = Vec::new(alloc);
-    for command in [
-        0, 1, 10, 13, 97, 240, 241, 242, 243, 244, 245, 246, 247, 248, 249, 250, 251, 252, 253,
-        254, 255,
-    ] {
-        stream.extend_from_slice(&[b'a', 255, command])?;
-        want.push(b'a')?;
-        match command {
-            250 => stream.extend_from_slice(&[13, 255, 255, 240, 255, 250, 255, 240])?,
-            251..=254 => stream.push(10)?,
-            255 => want.push(255)?,
-            _ => {}
-        }
+    for (command, behind, given) in &COMMANDS {
+        stream.extend_from_slice(&[b'a', 255, *command])?;
+        stream.extend_from_slice(behind)?;
         stream.extend_from_slice(b"b\r\n")?;
+        want.push(b'a')?;
+        want.extend_from_slice(given)?;
         want.extend_from_slice(b"b|")?;
     }
-    Ok((stream, want))
+    gives(alloc, stream.as_slice(), want.as_slice())
 }
 
 #[test]
-fn each_command_is_taken_out_however_it_is_cut(rt: HostRuntime) -> Result<(), Fail> {
-    let (stream, want) = commands(rt.alloc())?;
-    assert_eq!(rt;
-        cut_everywhere(rt.alloc(), stream.as_slice())?.as_slice(),
-        want.as_slice()
-    );
-    for at in 0..=stream.len() {
-        let got = cut_at(rt.alloc(), stream.as_slice(), at)?;
-        assert_eq!(rt; got.as_slice(), want.as_slice(), "cut at {at}");
+fn streams_give_their_lines(rt: HostRuntime) -> Result<(), Fail> {
+    for i in 0..STREAMS.len() {
+        assert!(rt; gives(rt.alloc(), STREAMS[i].0, STREAMS[i].1)?, "{i}");
     }
+    assert!(rt; gives_commands(rt.alloc())?);
     Ok(())
 }
 
-// 4096 bytes of a line are kept, in one piece and in two.
+// A line of so many bytes, and a short one.
+fn long(alloc: Global, len: usize) -> Result<Vec<u8>, AllocError> {
+    let mut stream = Vec::new(alloc);
+    stream.resize(len, b'x')?;
+    stream.extend_from_slice(b"\nok\n")?;
+    Ok(stream)
+}
+
+// Whether so many bytes of a long line are kept, where the stream is cut.
+fn keeps(alloc: Global, len: usize, at: usize, want: usize) -> Result<bool, Fail> {
+    let stream = long(alloc, len)?;
+    let got = cut_at(alloc, stream.as_slice(), at)?;
+    Ok(got.len() == want.saturating_add(4) && &got[want.min(got.len())..] == b"|ok|".as_slice())
+}
+
+// The length of a line, and how many bytes of it are kept, in one piece and in two.
+static LENGTHS: [(usize, usize); 4] = [(4095, 4095), (4096, 4096), (4097, 4096), (9000, 4096)];
+
 #[test]
 fn long_lines_are_cut_off(rt: HostRuntime) -> Result<(), Fail> {
-    for (len, want) in [
-        (4095usize, 4095usize),
-        (4096, 4096),
-        (4097, 4096),
-        (9000, 4096),
-    ] {
+    for i in 0..LENGTHS.len() {
+        let (len, want) = LENGTHS[i];
         for at in [0, 1, 4096, len] {
-            let mut stream = Vec::new(rt.alloc());
-            for _ in 0..len {
-                stream.push(b'x')?;
-            }
-            stream.extend_from_slice(b"\nok\n")?;
-            let got = cut_at(rt.alloc(), stream.as_slice(), at)?;
-            assert_eq!(rt; got.len(), want + 4, "of {len} cut at {at}");
-            assert_eq!(rt; &got[want.min(got.len())..], b"|ok|".as_slice());
+            assert!(rt; keeps(rt.alloc(), len, at, want)?, "{len} {at}");
         }
     }
     Ok(())

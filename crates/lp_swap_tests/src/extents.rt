@@ -106,52 +106,89 @@ fn give_all(room: &mut Extents, plain: &mut Plain, es: &[Extent]) -> bool {
     true
 }
 
-// Gives back the first `back` of an order, and then takes what fits here or there.
+// Whether room is the same here and there, when the first `back` of an order are given back and then is taken what fits.
+fn is_same(
+    room: &mut Extents,
+    plain: &mut Plain,
+    es: &[Extent],
+    len: u64,
+) -> Result<bool, ExtentFault> {
+    Ok(
+        take_same(room, plain, &[3, 1, 4, 2, 5])?
+            && give_all(room, plain, es)
+            && take_same(room, plain, &[len, 1, 2, len])?,
+    )
+}
+
 fn try_order(alloc: Global, number: u64, back: usize, len: u64) -> Result<bool, Fail> {
-    let mut room = Extents::new(alloc);
+    let es = order(alloc, number)?;
+    let back = back.min(es.len());
     let mut plain = Plain {
         taken: [false; 64],
         end: 0,
     };
-    let es = order(alloc, number)?;
-    let back = back.min(es.len());
-    let taken = take_same(&mut room, &mut plain, &[3, 1, 4, 2, 5])?;
-    let given = give_all(&mut room, &mut plain, &es[..back]);
-    let again = take_same(&mut room, &mut plain, &[len, 1, 2, len])?;
-    Ok(taken && given && again)
+    let mut room = Extents::new(alloc);
+    let found = is_same(&mut room, &mut plain, &es[..back], len);
+    drop(room);
+    Ok(found?)
+}
+
+// Whether it is so for each number of extents that are given back, and each of some lengths.
+fn try_orders(alloc: Global, number: u64) -> Result<bool, Fail> {
+    for i in 0..30u64 {
+        if !try_order(alloc, number, (i / 6) as usize + 1, i % 6 + 1)? {
+            return Ok(false);
+        }
+    }
+    Ok(true)
 }
 
 // Orders by numbers in the base of five: among them each of the 120 orders of five extents.
 #[test]
 fn room_is_given_back_in_every_order(rt: HostRuntime) -> Result<(), Fail> {
     for number in 0..625u64 {
-        for back in 1..6usize {
-            for len in 1..7u64 {
-                assert!(rt; try_order(rt.alloc(), number, back, len)?);
-            }
-        }
+        assert!(rt; try_orders(rt.alloc(), number)?, "{number}");
     }
     Ok(())
 }
 
-fn takes(room: &mut Extents, len: u64) -> Result<u64, ExtentFault> {
-    room.take(len)
+// Whether room of a length is taken at this place, or there is none.
+fn takes(room: &mut Extents, len: u64, place: Option<u64>) -> bool {
+    match (room.take(len), place) {
+        (Ok(found), Some(place)) => found == place,
+        (Err(ExtentFault::Full), None) => true,
+        _ => false,
+    }
 }
 
-#[test]
-fn the_end_is_at_two_to_the_fortieth(rt: HostRuntime) -> Result<(), Fail> {
-    let mut room = Extents::new(rt.alloc());
-    assert_eq!(rt; takes(&mut room, 1099511627777), Err(ExtentFault::Full));
-    assert_eq!(rt; takes(&mut room, 1099511627775), Ok(0));
-    assert_eq!(rt; takes(&mut room, 2), Err(ExtentFault::Full));
-    assert_eq!(rt; takes(&mut room, 1), Ok(1099511627775));
-    assert_eq!(rt; takes(&mut room, 1), Err(ExtentFault::Full));
-    assert_eq!(rt; takes(&mut room, 0), Ok(1099511627776));
-    assert!(rt; give_back(&mut room, extent(0, 1099511627775)));
-    assert_eq!(rt; takes(&mut room, 1099511627776), Err(ExtentFault::Full));
-    assert_eq!(rt; takes(&mut room, 1099511627775), Ok(0));
+fn takes_all(room: &mut Extents, rows: &[(u64, Option<u64>)]) -> bool {
+    for (len, place) in rows {
+        if !takes(room, *len, *place) {
+            return false;
+        }
+    }
+    true
+}
+
+// Lengths, and the places that they take in turn: the end is at 2^40.
+static UP_TO_THE_END: [(u64, Option<u64>); 6] = [
+    (1099511627777, None),
+    (1099511627775, Some(0)),
+    (2, None),
+    (1, Some(1099511627775)),
+    (1, None),
+    (0, Some(1099511627776)),
+];
+
+// The same once the first of them is given back.
+static UP_TO_THE_LAST: [(u64, Option<u64>); 2] = [(1099511627776, None), (1099511627775, Some(0))];
+
+fn ends(room: &mut Extents) -> bool {
+    let found = takes_all(room, &UP_TO_THE_END)
+        && give_back(room, extent(0, 1099511627775))
+        && takes_all(room, &UP_TO_THE_LAST);
     room.law();
-    Ok(())
+    found
 }
 
 // Numbers that look drawn at random, by a linear congruence.
@@ -167,41 +204,96 @@ fn choose(held: &mut Vec<Extent>, number: u64) -> Option<Extent> {
     Some(held.swap_remove(i.min(last)))
 }
 
+// Room, and the extents of it that are taken.
+#[derive(Drop)]
+struct Holding {
+    room: Extents,
+    held: Vec<Extent>,
+    seed: u64,
+}
+
+// An extent of a random length is taken.
+fn take_one(all: &mut Holding) -> Result<(), Fail> {
+    all.seed = next(all.seed);
+    let len = (all.seed >> 40) % 1000;
+    let place = all.room.take(len)?;
+    all.held.push(extent(place, len))?;
+    Ok(())
+}
+
+// A random one is given back, if there is one and it was taken. Where it ends.
+fn give_one(all: &mut Holding) -> Option<u64> {
+    all.seed = next(all.seed);
+    let e = choose(&mut all.held, all.seed >> 20)?;
+    if give_back(&mut all.room, e) {
+        Some(e.place.saturating_add(e.len))
+    } else {
+        None
+    }
+}
+
+fn take_many(all: &mut Holding) -> Result<(), Fail> {
+    for _ in 0..1000000u64 {
+        take_one(all)?;
+    }
+    Ok(())
+}
+
+fn change_many(all: &mut Holding) -> Result<bool, Fail> {
+    for _ in 0..1000000u64 {
+        if give_one(all).is_none() {
+            return Ok(false);
+        }
+        take_one(all)?;
+    }
+    Ok(true)
+}
+
+// Where the last of them ended, if all were given back.
+fn give_many(all: &mut Holding) -> Option<u64> {
+    let mut most = 0u64;
+    for _ in 0..1000000u64 {
+        most = most.max(give_one(all)?);
+    }
+    Some(most)
+}
+
+// Whether all that is free is one hole from the beginning on.
+fn is_one_hole(all: &mut Holding) -> bool {
+    match give_many(all) {
+        Some(most) => all.held.is_empty() && takes(&mut all.room, most, Some(0)),
+        None => false,
+    }
+}
+
+fn changes(all: &mut Holding) -> Result<bool, Fail> {
+    take_many(all)?;
+    Ok(change_many(all)? && is_one_hole(all))
+}
+
+fn hold_in_random_order(alloc: Global) -> Result<bool, Fail> {
+    let mut all = Holding {
+        room: Extents::new(alloc),
+        held: Vec::new(alloc),
+        seed: 7,
+    };
+    let found = changes(&mut all);
+    drop(all);
+    found
+}
+
+fn end_there(alloc: Global) -> bool {
+    let mut room = Extents::new(alloc);
+    let found = ends(&mut room);
+    drop(room);
+    found
+}
+
 // A million extents are taken; then a million times one is given back at random and another is
 // taken; then all are given back at random, and what is free is one hole from the beginning on.
 #[test]
 fn a_million_extents_in_random_order(rt: HostRuntime) -> Result<(), Fail> {
-    let mut room = Extents::new(rt.alloc());
-    let mut held = Vec::new(rt.alloc());
-    let mut seed = 7u64;
-    for _ in 0..1000000u64 {
-        seed = next(seed);
-        let len = (seed >> 40) % 1000;
-        held.push(Extent {
-            place: room.take(len)?,
-            len,
-        })?;
-    }
-    for _ in 0..1000000u64 {
-        seed = next(seed);
-        if let Some(e) = choose(&mut held, seed >> 20) {
-            assert!(rt; give_back(&mut room, e));
-        }
-        let len = (seed >> 40) % 1000;
-        held.push(Extent {
-            place: room.take(len)?,
-            len,
-        })?;
-    }
-    let mut most = 0u64;
-    for _ in 0..1000000u64 {
-        seed = next(seed);
-        if let Some(e) = choose(&mut held, seed >> 20) {
-            most = most.max(e.place.saturating_add(e.len));
-            assert!(rt; give_back(&mut room, e));
-        }
-    }
-    assert!(rt; held.is_empty());
-    assert_eq!(rt; room.take(most), Ok(0));
+    assert!(rt; end_there(rt.alloc()));
+    assert!(rt; hold_in_random_order(rt.alloc())?);
     Ok(())
 }

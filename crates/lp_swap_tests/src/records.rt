@@ -1,24 +1,11 @@
+use crate::devices::memory;
 use lp_swapfile::*;
 use lp_swapper::*;
-use std::alloc::Global;
+use std::alloc::{AllocError, Global};
 use std::test::Fail;
 
-fn numbers(alloc: Global, xs: &[u64]) -> Result<Vec<u64>, Fail> {
-    Ok(Vec::from_slice(alloc, xs)?)
-}
-
-fn file(
-    alloc: Global,
-    reads: &[u64],
-    writes: &[u64],
-    lies: &[(u64, u64)],
-) -> Result<MemSwap, Fail> {
-    let lies = Vec::from_slice(alloc, lies)?;
-    Ok(MemSwap::new(alloc, numbers(alloc, reads)?, numbers(alloc, writes)?, lies))
-}
-
 // So many bytes, of all kinds.
-fn record(alloc: Global, len: usize) -> Result<Vec<u8>, Fail> {
+fn record(alloc: Global, len: usize) -> Result<Vec<u8>, AllocError> {
     let mut bytes = Vec::with_capacity(alloc, len)?;
     for i in 0..len {
         bytes.push((i % 251) as u8)?;
@@ -49,7 +36,7 @@ fn goes_out(
     swapper: &mut Swapper,
     swap: &mut MemSwap,
     bytes: &[u8],
-) -> Result<Option<Ticket>, Fail> {
+) -> Result<Option<Ticket>, AllocError> {
     Ok(ticket(swapper.out(swap, bytes)?))
 }
 
@@ -72,7 +59,7 @@ fn goes_round(
     swap: &mut MemSwap,
     small: &[u8],
     large: &[u8],
-) -> Result<bool, Fail> {
+) -> Result<bool, AllocError> {
     let Some(first) = goes_out(swapper, swap, small)? else {
         return Ok(false);
     };
@@ -86,39 +73,46 @@ fn goes_round(
     Ok(out && seen && back && !swapper.is_out(&first))
 }
 
-#[test]
-fn records_go_out_and_come_back(rt: HostRuntime) -> Result<(), Fail> {
-    let alloc = rt.alloc();
-    let mut swap = file(alloc, &[], &[], &[])?;
-    let mut swapper = Swapper::new(alloc);
+fn go_round(alloc: Global, swapper: &mut Swapper, swap: &mut MemSwap) -> Result<bool, AllocError> {
     let small = record(alloc, 1024)?;
     let large = record(alloc, 1048576)?;
-    assert!(rt; goes_round(&mut swapper, &mut swap, &small, &large)?);
+    let found = goes_round(swapper, swap, &small, &large)?;
     swapper.law();
-    Ok(())
+    Ok(found)
+}
+
+// Whether a ticket is dropped, if it can be.
+fn drops(swapper: &mut Swapper, t: &Ticket) -> bool {
+    if !swapper.is_out(t) {
+        return false;
+    }
+    swapper.drop_ticket(t);
+    !swapper.is_out(t)
 }
 
 // The room of what is dropped is taken again.
-#[test]
-fn a_ticket_is_dropped(rt: HostRuntime) -> Result<(), Fail> {
-    let mut swap = file(rt.alloc(), &[], &[], &[])?;
-    let mut swapper = Swapper::new(rt.alloc());
-    let Some(t) = goes_out(&mut swapper, &mut swap, b"abc")? else {
-        panic!(rt; "kept");
-    };
-    if swapper.is_out(&t) {
-        swapper.drop_ticket(&t);
+fn drops_a_ticket(swapper: &mut Swapper, swap: &mut MemSwap) -> Result<bool, AllocError> {
+    match goes_out(swapper, swap, b"abc")? {
+        Some(t) => Ok(drops(swapper, &t) && stands_at(swapper, swap, b"de", 0)?),
+        None => Ok(false),
     }
-    assert!(rt; !swapper.is_out(&t));
-    let Some(again) = goes_out(&mut swapper, &mut swap, b"de")? else {
-        panic!(rt; "kept");
-    };
-    assert!(rt; is_at(&again, 0, 2));
-    Ok(())
+}
+
+// Whether bytes go out to a place.
+fn stands_at(
+    swapper: &mut Swapper,
+    swap: &mut MemSwap,
+    bytes: &[u8],
+    place: u64,
+) -> Result<bool, AllocError> {
+    match goes_out(swapper, swap, bytes)? {
+        Some(t) => Ok(is_at(&t, place, bytes.len() as u64)),
+        None => Ok(false),
+    }
 }
 
 // The digest of the three bytes `abc`, as the standard of SHA-256 gives it.
-const ABC: [u8; 32] = [
+static ABC: [u8; 32] = [
     0xba, 0x78, 0x16, 0xbf, 0x8f, 0x01, 0xcf, 0xea, 0x41, 0x41, 0x40, 0xde, 0x5d, 0xae, 0x22, 0x23,
     0xb0, 0x03, 0x61, 0xa3, 0x96, 0x17, 0x7a, 0x9c, 0xb4, 0x10, 0xff, 0x61, 0xf2, 0x00, 0x15, 0xad,
 ];
@@ -128,34 +122,21 @@ fn has_digest(t: &Ticket, digest: &[u8]) -> bool {
     t.digest.as_slice() == digest
 }
 
-#[test]
-fn a_ticket_has_the_digest(rt: HostRuntime) -> Result<(), Fail> {
-    let mut swap = file(rt.alloc(), &[], &[], &[])?;
-    let mut swapper = Swapper::new(rt.alloc());
-    let Some(t) = goes_out(&mut swapper, &mut swap, b"abc")? else {
-        panic!(rt; "kept");
-    };
-    assert!(rt; is_at(&t, 0, 3));
-    assert!(rt; has_digest(&t, &ABC));
-    Ok(())
+fn has_the_digest(swapper: &mut Swapper, swap: &mut MemSwap) -> Result<bool, AllocError> {
+    match goes_out(swapper, swap, b"abc")? {
+        Some(t) => Ok(is_at(&t, 0, 3) && has_digest(&t, &ABC)),
+        None => Ok(false),
+    }
 }
 
 // Whether bytes are kept since the write failed.
-fn is_kept(swapper: &mut Swapper, swap: &mut MemSwap, bytes: &[u8]) -> Result<bool, Fail> {
+fn is_kept(swapper: &mut Swapper, swap: &mut MemSwap, bytes: &[u8]) -> Result<bool, AllocError> {
     Ok(matches!(swapper.out(swap, bytes)?, OutAnswer::KeptFault))
 }
 
 // A write that fails keeps the bytes, and their room is free again.
-#[test]
-fn a_failed_write_keeps_the_bytes(rt: HostRuntime) -> Result<(), Fail> {
-    let mut swap = file(rt.alloc(), &[], &[1], &[])?;
-    let mut swapper = Swapper::new(rt.alloc());
-    assert!(rt; is_kept(&mut swapper, &mut swap, b"abc")?);
-    let Some(t) = goes_out(&mut swapper, &mut swap, b"abc")? else {
-        panic!(rt; "kept");
-    };
-    assert!(rt; is_at(&t, 0, 3));
-    Ok(())
+fn keeps_the_bytes(swapper: &mut Swapper, swap: &mut MemSwap) -> Result<bool, AllocError> {
+    Ok(is_kept(swapper, swap, b"abc")? && stands_at(swapper, swap, b"abc", 0)?)
 }
 
 // Whether a look is told that the read failed.
@@ -172,16 +153,66 @@ fn looks_changed(swapper: &Swapper, swap: &mut MemSwap, t: &Ticket, bytes: &[u8]
 }
 
 // Read 1 fails, read 2 lies, and read 3 gives what went out; the room is given back by that alone.
+fn shows_what_it_found(swapper: &mut Swapper, swap: &mut MemSwap) -> Result<bool, AllocError> {
+    match goes_out(swapper, swap, b"abc")? {
+        Some(t) => Ok(
+            cannot_look(swapper, swap, &t)
+                && looks_changed(swapper, swap, &t, &[158, 98, 99])
+                && comes_back(swapper, swap, &t, b"abc")
+                && !swapper.is_out(&t),
+        ),
+        None => Ok(false),
+    }
+}
+
+#[derive(Clone, Copy)]
+enum Play {
+    Round,
+    Dropped,
+    Digest,
+    Kept,
+    Shown,
+}
+
+fn plays(
+    alloc: Global,
+    swapper: &mut Swapper,
+    swap: &mut MemSwap,
+    play: Play,
+) -> Result<bool, AllocError> {
+    match play {
+        Play::Round => go_round(alloc, swapper, swap),
+        Play::Dropped => drops_a_ticket(swapper, swap),
+        Play::Digest => has_the_digest(swapper, swap),
+        Play::Kept => keeps_the_bytes(swapper, swap),
+        Play::Shown => shows_what_it_found(swapper, swap),
+    }
+}
+
+// Plays, and the numbers of the reads and writes that fail, and of the reads that lie.
+type Row = (Play, &'static [u64], &'static [u64], &'static [(u64, u64)]);
+
+static ROWS: [Row; 5] = [
+    (Play::Round, &[], &[], &[]),
+    (Play::Dropped, &[], &[], &[]),
+    (Play::Digest, &[], &[], &[]),
+    (Play::Kept, &[], &[1], &[]),
+    (Play::Shown, &[1], &[], &[(2, 0)]),
+];
+
+fn holds(alloc: Global, row: Row) -> Result<bool, AllocError> {
+    let mut swap = memory(alloc, row.1, row.2, row.3)?;
+    let mut swapper = Swapper::new(alloc);
+    let found = plays(alloc, &mut swapper, &mut swap, row.0);
+    drop(swapper);
+    drop(swap);
+    found
+}
+
 #[test]
-fn a_fault_is_shown_with_what_was_found(rt: HostRuntime) -> Result<(), Fail> {
-    let mut swap = file(rt.alloc(), &[1], &[], &[(2, 0)])?;
-    let mut swapper = Swapper::new(rt.alloc());
-    let Some(t) = goes_out(&mut swapper, &mut swap, b"abc")? else {
-        panic!(rt; "kept");
-    };
-    assert!(rt; cannot_look(&swapper, &mut swap, &t));
-    assert!(rt; looks_changed(&swapper, &mut swap, &t, &[158, 98, 99]));
-    assert!(rt; comes_back(&mut swapper, &mut swap, &t, b"abc"));
-    assert!(rt; !swapper.is_out(&t));
+fn records_go_out_and_come_back(rt: HostRuntime) -> Result<(), Fail> {
+    for i in 0..ROWS.len() {
+        assert!(rt; holds(rt.alloc(), ROWS[i])?, "{i}");
+    }
     Ok(())
 }

@@ -1,69 +1,47 @@
 use lp_text::pieces::explode;
 use lp_text::search::find;
-use lp_values::text::code_points;
+use lp_values::text::{Text, code_points};
 use std::alloc::{AllocError, Global};
-use std::process::Abort;
 use std::test::Fail;
 
-/// Checks the first place of a text in another from a place on.
-fn found(
-    rt: &impl Abort,
-    alloc: Global,
-    s: &str,
-    t: &str,
-    from: u64,
-    wanted: Option<u64>,
-) -> Result<(), Fail> {
-    let hay = code_points(alloc, s)?;
-    let needle = code_points(alloc, t)?;
-    assert_eq!(rt;
-        find(hay.as_slice(), needle.as_slice(), from),
-        wanted,
-        "{t} in {s} from {from}"
-    );
-    Ok(())
-}
+const DIGITS: &str = "0123456789012345678901234567890123456789012345678901234567890123456789xyz";
 
-#[test]
-fn short_periods(rt: HostRuntime) -> Result<(), Fail> {
-    let alloc = rt.alloc();
-    found(&rt, alloc, "aaaabaaaaa", "aaaaa", 0, Some(5))?;
-    found(&rt, alloc, "aaaabaaaa", "aaaaa", 0, None)?;
-    found(&rt, alloc, "ababacababab", "ababab", 0, Some(6))?;
-    found(&rt, alloc, "abaabaabaabaaba", "abaabaaba", 1, Some(3))?;
-    found(
-        &rt,
-        alloc,
-        "abcabcabdabcabcabcabd",
-        "abcabcabcabd",
-        0,
-        Some(9),
-    )?;
-    Ok(())
-}
+/// A text, another one, a place, and the first place of the other in the text from there on.
+type Row = (&'static str, &'static str, u64, Option<u64>);
 
-#[test]
-fn long_periods(rt: HostRuntime) -> Result<(), Fail> {
-    let alloc = rt.alloc();
-    found(&rt, alloc, "aaaaaaaaaaaab", "aaab", 0, Some(9))?;
-    found(&rt, alloc, "aaaaaaaaaaaaa", "aaab", 0, None)?;
-    found(&rt, alloc, "baaaaaaaabaaa", "baaaab", 0, None)?;
-    found(&rt, alloc, "xabcxabdxabe", "xabe", 0, Some(8))?;
-    found(&rt, alloc, "xabcxabdxabe", "abd", 3, Some(5))?;
-    Ok(())
-}
+static ROWS: [Row; 23] = [
+    // Short periods.
+    ("aaaabaaaaa", "aaaaa", 0, Some(5)),
+    ("aaaabaaaa", "aaaaa", 0, None),
+    ("ababacababab", "ababab", 0, Some(6)),
+    ("abaabaabaabaaba", "abaabaaba", 1, Some(3)),
+    ("abcabcabdabcabcabcabd", "abcabcabcabd", 0, Some(9)),
+    // Long periods.
+    ("aaaaaaaaaaaab", "aaab", 0, Some(9)),
+    ("aaaaaaaaaaaaa", "aaab", 0, None),
+    ("baaaaaaaabaaa", "baaaab", 0, None),
+    ("xabcxabdxabe", "xabe", 0, Some(8)),
+    ("xabcxabdxabe", "abd", 3, Some(5)),
+    // First points that are rare.
+    (DIGITS, "x", 0, Some(70)),
+    (DIGITS, "xyz", 0, Some(70)),
+    (DIGITS, "z", 71, Some(72)),
+    (DIGITS, "xz", 0, None),
+    (DIGITS, "ä", 0, None),
+    (DIGITS, "9x", 0, Some(69)),
+    ("aäaäb", "äa", 0, Some(1)),
+    ("aäaäb", "äb", 0, Some(3)),
+    ("aäaäb", "ä", 2, Some(3)),
+    ("aäaäb", "äbc", 0, None),
+    ("aäaäb", "a", 3, None),
+    ("aäaäb", "", 5, Some(5)),
+    ("aäaäb", "", 6, None),
+];
 
-#[test]
-fn rare_first_points(rt: HostRuntime) -> Result<(), Fail> {
-    let alloc = rt.alloc();
-    let row = "0123456789012345678901234567890123456789012345678901234567890123456789xyz";
-    found(&rt, alloc, row, "x", 0, Some(70))?;
-    found(&rt, alloc, row, "xyz", 0, Some(70))?;
-    found(&rt, alloc, row, "z", 71, Some(72))?;
-    found(&rt, alloc, row, "xz", 0, None)?;
-    found(&rt, alloc, row, "ä", 0, None)?;
-    found(&rt, alloc, row, "9x", 0, Some(69))?;
-    Ok(())
+fn is_found(alloc: Global, row: Row) -> Result<bool, AllocError> {
+    let hay = code_points(alloc, row.0)?;
+    let needle = code_points(alloc, row.1)?;
+    Ok(find(hay.as_slice(), needle.as_slice(), row.2) == row.3)
 }
 
 /// So many code points, `ä` and `b` in turn.
@@ -75,25 +53,44 @@ fn turns(alloc: Global, n: u32) -> Result<Vec<char>, AllocError> {
     Ok(all)
 }
 
-#[test]
-fn many_single_points(rt: HostRuntime) -> Result<(), Fail> {
-    let alloc = rt.alloc();
+/// Whether the piece at a place is this.
+fn is_piece(pieces: &[Text], at: usize, piece: &[char]) -> bool {
+    match pieces.get(at) {
+        Some(text) => text.as_slice() == piece,
+        None => false,
+    }
+}
+
+/// Whether a text is taken apart into each of its many code points.
+fn has_singles(alloc: Global) -> Result<bool, Fail> {
     let s = turns(alloc, 1200)?;
     let pieces = explode(alloc, s.as_slice(), &[])?;
-    assert_eq!(rt; pieces.len(), 1200);
-    assert_eq!(rt; pieces[0].as_slice(), ['ä'].as_slice());
-    assert_eq!(rt; pieces[1].as_slice(), ['b'].as_slice());
-    assert_eq!(rt; pieces[1199].as_slice(), ['b'].as_slice());
-    Ok(())
+    Ok(
+        pieces.len() == 1200
+            && is_piece(pieces.as_slice(), 0, &['ä'])
+            && is_piece(pieces.as_slice(), 1, &['b'])
+            && is_piece(pieces.as_slice(), 1199, &['b']),
+    )
+}
+
+/// Whether the piece behind the last separator is empty.
+fn has_empty_piece(alloc: Global) -> Result<bool, Fail> {
+    let s = turns(alloc, 4)?;
+    let pieces = explode(alloc, s.as_slice(), &['b'])?;
+    Ok(
+        pieces.len() == 3
+            && is_piece(pieces.as_slice(), 1, &['ä'])
+            && is_piece(pieces.as_slice(), 2, &[]),
+    )
 }
 
 #[test]
-fn empty_pieces(rt: HostRuntime) -> Result<(), Fail> {
+fn texts_are_found(rt: HostRuntime) -> Result<(), Fail> {
     let alloc = rt.alloc();
-    let s = turns(alloc, 4)?;
-    let pieces = explode(alloc, s.as_slice(), &['b'])?;
-    assert_eq!(rt; pieces.len(), 3);
-    assert_eq!(rt; pieces[1].as_slice(), ['ä'].as_slice());
-    assert!(rt; pieces[2].as_slice().is_empty());
+    for i in 0..ROWS.len() {
+        assert!(rt; is_found(alloc, ROWS[i])?, "{i}");
+    }
+    assert!(rt; has_singles(alloc)?);
+    assert!(rt; has_empty_piece(alloc)?);
     Ok(())
 }

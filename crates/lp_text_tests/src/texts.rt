@@ -4,182 +4,156 @@ use lp_text::items::{at, join, part, text_of};
 use lp_text::letters::{lower, trim, upper};
 use lp_text::pieces::{explode, implode};
 use lp_text::scan::{Scanned, scan};
-use lp_text::search::find;
 use lp_values::text::{Text, code_points};
 use std::alloc::Global;
-use std::process::Abort;
 use std::test::Fail;
 
-/// Checks that a call gave this text.
-fn gives(rt: &impl Abort, alloc: Global, found: Text, wanted: &str) -> Result<(), Fail> {
-    assert_eq!(rt;
-        found.as_slice(),
-        code_points(alloc, wanted)?.as_slice(),
-        "{wanted}"
-    );
-    Ok(())
+/// What is done with a text.
+#[derive(Clone, Copy)]
+enum Task {
+    Upper,
+    Lower,
+    Join(&'static str),
+    Part(u64, u64),
+    Trim,
+    /// It is taken apart by the first text, and put together with the second.
+    Replace(&'static str, &'static str),
 }
 
-/// Checks what is left of a text without its blanks.
-fn trims(rt: &impl Abort, alloc: Global, text: &str, wanted: &str) -> Result<(), Fail> {
-    let found = trim(alloc, code_points(alloc, text)?.as_slice())?;
-    gives(rt, alloc, found, wanted)
+/// A text, what is done with it, and what comes of it.
+type Row = (&'static str, Task, &'static str);
+
+static ROWS: [Row; 16] = [
+    ("Äb{c}Ω", Task::Upper, "ÄB{C}Ω"),
+    ("ÄB{C}Ω", Task::Lower, "Äb{c}Ω"),
+    ("Äb{c}Ω", Task::Join("!"), "Äb{c}Ω!"),
+    ("Äb{c}Ω", Task::Part(1, 3), "b{c"),
+    ("Äb{c}Ω", Task::Part(5, 99), "Ω"),
+    ("Äb{c}Ω", Task::Part(3, 2), ""),
+    ("abcd", Task::Part(1, 2), "bc"),
+    (" \t\r\n", Task::Trim, ""),
+    ("", Task::Trim, ""),
+    ("\r\n ä b\t ", Task::Trim, "ä b"),
+    ("x", Task::Trim, "x"),
+    ("a,b,,c", Task::Replace(",", "|"), "a|b||c"),
+    (",ä,", Task::Replace(",", "--"), "--ä--"),
+    ("aaa", Task::Replace("aa", "|"), "|a"),
+    ("aäb", Task::Replace("", "|"), "a|ä|b"),
+    ("aab", Task::Replace("ab", ""), "a"),
+];
+
+fn joined(alloc: Global, s: &[char], other: &str) -> Result<Text, TextFault> {
+    let other = code_points(alloc, other)?;
+    join(alloc, s, other.as_slice())
 }
 
-#[test]
-fn single_texts(rt: HostRuntime) -> Result<(), Fail> {
-    let alloc = rt.alloc();
-    let word = code_points(alloc, "Äb{c}Ω")?;
-    let s = word.as_slice();
-    assert_eq!(rt; at(s, 0), Some('Ä'));
-    assert_eq!(rt; at(s, 5), Some('Ω'));
-    assert_eq!(rt; at(s, 6), None);
-    gives(&rt, alloc, upper(alloc, s)?, "ÄB{C}Ω")?;
-    gives(
-        &rt,
-        alloc,
-        lower(alloc, upper(alloc, s)?.as_slice())?,
-        "Äb{c}Ω",
-    )?;
-    gives(&rt, alloc, join(alloc, s, &['!'])?, "Äb{c}Ω!")?;
-    gives(&rt, alloc, part(alloc, s, 1, 3)?, "b{c")?;
-    gives(&rt, alloc, part(alloc, s, 5, 99)?, "Ω")?;
-    gives(&rt, alloc, part(alloc, s, 3, 2)?, "")?;
-    let row = code_points(alloc, "abcd")?;
-    gives(&rt, alloc, part(alloc, row.as_slice(), 1, 2)?, "bc")?;
-    Ok(())
+fn replaced(alloc: Global, s: &[char], by: &str, with: &str) -> Result<Text, TextFault> {
+    let by = code_points(alloc, by)?;
+    let with = code_points(alloc, with)?;
+    let parts = explode(alloc, s, by.as_slice())?;
+    implode(alloc, parts.as_slice(), with.as_slice())
 }
 
-#[test]
-fn blanks(rt: HostRuntime) -> Result<(), Fail> {
-    let alloc = rt.alloc();
-    trims(&rt, alloc, " \t\r\n", "")?;
-    trims(&rt, alloc, "", "")?;
-    trims(&rt, alloc, "\r\n ä b\t ", "ä b")?;
-    trims(&rt, alloc, "x", "x")?;
-    Ok(())
-}
-
-/// Checks the first place of a text in `aäaäb` from a place on.
-fn found(
-    rt: &impl Abort,
-    alloc: Global,
-    t: &str,
-    from: u64,
-    wanted: Option<u64>,
-) -> Result<(), Fail> {
-    let s = code_points(alloc, "aäaäb")?;
-    let needle = code_points(alloc, t)?;
-    assert_eq!(rt;
-        find(s.as_slice(), needle.as_slice(), from),
-        wanted,
-        "{t} {from}"
-    );
-    Ok(())
-}
-
-#[test]
-fn places(rt: HostRuntime) -> Result<(), Fail> {
-    let alloc = rt.alloc();
-    found(&rt, alloc, "äa", 0, Some(1))?;
-    found(&rt, alloc, "äb", 0, Some(3))?;
-    found(&rt, alloc, "ä", 2, Some(3))?;
-    found(&rt, alloc, "äbc", 0, None)?;
-    found(&rt, alloc, "a", 3, None)?;
-    found(&rt, alloc, "", 5, Some(5))?;
-    found(&rt, alloc, "", 6, None)?;
-    Ok(())
-}
-
-/// Checks what exploding a text and imploding the pieces gives, and how many pieces there are.
-fn replaced(
-    rt: &impl Abort,
-    alloc: Global,
-    s: &str,
-    by: &str,
-    with: &str,
-    wanted: &str,
-) -> Result<(), Fail> {
-    let text = code_points(alloc, s)?;
-    let separator = code_points(alloc, by)?;
-    let other = code_points(alloc, with)?;
-    let parts = explode(alloc, text.as_slice(), separator.as_slice())?;
-    gives(
-        rt,
-        alloc,
-        implode(alloc, parts.as_slice(), other.as_slice())?,
-        wanted,
-    )
-}
-
-#[test]
-fn pieces(rt: HostRuntime) -> Result<(), Fail> {
-    let alloc = rt.alloc();
-    replaced(&rt, alloc, "a,b,,c", ",", "|", "a|b||c")?;
-    replaced(&rt, alloc, ",ä,", ",", "--", "--ä--")?;
-    replaced(&rt, alloc, "aaa", "aa", "|", "|a")?;
-    replaced(&rt, alloc, "aäb", "", "|", "a|ä|b")?;
-    replaced(&rt, alloc, "aab", "ab", "", "a")?;
-    assert_eq!(rt; explode(alloc, &[], &[','])?.len(), 1);
-    assert_eq!(rt; explode(alloc, &[], &[])?.len(), 0);
-    assert_eq!(rt; explode(alloc, &[','], &[','])?.len(), 2);
-    Ok(())
-}
-
-/// A text of 100000 code points.
-fn longest(alloc: Global) -> Result<Vec<char>, Fail> {
-    let mut all = Vec::with_capacity(alloc, 100000)?;
-    for _ in 0..100000 {
-        all.push('ä')?;
+fn done(alloc: Global, s: &[char], task: Task) -> Result<Text, TextFault> {
+    match task {
+        Task::Upper => upper(alloc, s),
+        Task::Lower => lower(alloc, s),
+        Task::Join(other) => joined(alloc, s, other),
+        Task::Part(from, to) => part(alloc, s, from, to),
+        Task::Trim => trim(alloc, s),
+        Task::Replace(by, with) => replaced(alloc, s, by, with),
     }
+}
+
+fn gives(alloc: Global, row: Row) -> Result<bool, TextFault> {
+    let s = code_points(alloc, row.0)?;
+    let want = code_points(alloc, row.2)?;
+    let found = done(alloc, s.as_slice(), row.1)?;
+    Ok(found.as_slice() == want.as_slice())
+}
+
+/// How many pieces a text has between separators.
+fn count(alloc: Global, s: &[char], by: &[char]) -> Result<usize, TextFault> {
+    Ok(explode(alloc, s, by)?.len())
+}
+
+#[test]
+fn texts_are_made(rt: HostRuntime) -> Result<(), Fail> {
+    let alloc = rt.alloc();
+    for i in 0..ROWS.len() {
+        assert!(rt; gives(alloc, ROWS[i])?, "{i}");
+    }
+    let s = ['Ä', 'b', '{', 'c', '}', 'Ω'];
+    assert!(rt; at(&s, 0) == Some('Ä') && at(&s, 5) == Some('Ω') && at(&s, 6).is_none());
+    assert!(rt; count(alloc, &[], &[','])? == 1);
+    assert!(rt; count(alloc, &[], &[])? == 0);
+    assert!(rt; count(alloc, &[','], &[','])? == 2);
+    Ok(())
+}
+
+/// `ä` so many times, and `x` behind.
+fn long(alloc: Global, count: usize, behind: &[char]) -> Result<Vec<char>, TextFault> {
+    let mut all = Vec::new(alloc);
+    all.resize(count, 'ä')?;
+    all.extend_from_slice(behind)?;
     Ok(all)
+}
+
+fn is_too_long(found: &Result<Text, TextFault>) -> bool {
+    matches!(found, Err(TextFault::TooLong))
+}
+
+/// Whether a text has so many code points.
+fn has(found: &Result<Text, TextFault>, count: usize) -> bool {
+    match found {
+        Ok(text) => text.as_slice().len() == count,
+        Err(_) => false,
+    }
+}
+
+/// Whether 100000 code points are as many as may be.
+fn are_most(alloc: Global, all: &[char]) -> bool {
+    has(&join(alloc, all, &[]), 100000) && is_too_long(&join(alloc, all, &['x']))
+}
+
+/// Whether the one piece of them is as long, alone and beside an empty one.
+fn is_piece(alloc: Global, all: &[char]) -> Result<bool, TextFault> {
+    let mut parts = explode(alloc, all, &['x'])?;
+    let alone = has(&implode(alloc, parts.as_slice(), &['x']), 100000);
+    parts.push(Text::from_slice(alloc, &[])?)?;
+    let beside = has(&implode(alloc, parts.as_slice(), &[]), 100000);
+    Ok(alone && beside && is_too_long(&implode(alloc, parts.as_slice(), &['x'])))
+}
+
+/// Whether a text with one more is refused, and its parts are not.
+fn are_too_many(alloc: Global, all: &[char]) -> bool {
+    is_too_long(&text_of(alloc, all))
+        && is_too_long(&upper(alloc, all))
+        && explode(alloc, all, &['x']).is_err()
+        && has(&part(alloc, all, 1, 100000), 100000)
+}
+
+/// How many values a scan gives, or the fault.
+fn scanned(alloc: Global, s: &[char], form: &[char]) -> Result<usize, TextFault> {
+    Ok(scan(alloc, s, form)?.len())
+}
+
+/// Whether a form is looked at before the length of a text is.
+fn is_form_first(alloc: Global, all: &[char]) -> bool {
+    scanned(alloc, all, &['%', 's']) == Err(TextFault::TooLong)
+        && scanned(alloc, all, &['ä', '%']) == Err(TextFault::BadFormat { at: 1 })
 }
 
 #[test]
 fn limits(rt: HostRuntime) -> Result<(), Fail> {
     let alloc = rt.alloc();
-    let mut all = longest(alloc)?;
-    assert_eq!(rt; join(alloc, all.as_slice(), &[])?.as_slice().len(), 100000);
-    assert_eq!(rt;
-        join(alloc, all.as_slice(), &['x']).err(),
-        Some(TextFault::TooLong)
-    );
-    let one = explode(alloc, all.as_slice(), &['x'])?;
-    assert_eq!(rt;
-        implode(alloc, one.as_slice(), &['x'])?.as_slice().len(),
-        100000
-    );
-    all.push('x')?;
-    assert_eq!(rt;
-        text_of(alloc, all.as_slice()).err(),
-        Some(TextFault::TooLong)
-    );
-    assert_eq!(rt;
-        upper(alloc, all.as_slice()).err(),
-        Some(TextFault::TooLong)
-    );
-    assert_eq!(rt; explode(alloc, all.as_slice(), &['x']).is_err(), true);
-    assert_eq!(rt;
-        part(alloc, all.as_slice(), 1, 100000)?.as_slice().len(),
-        100000
-    );
-    Ok(())
-}
-
-#[test]
-fn too_long_together(rt: HostRuntime) -> Result<(), Fail> {
-    let alloc = rt.alloc();
-    let all = longest(alloc)?;
-    let mut parts = explode(alloc, all.as_slice(), &['x'])?;
-    parts.push(Text::from_slice(alloc, &[])?)?;
-    assert_eq!(rt;
-        implode(alloc, parts.as_slice(), &[])?.as_slice().len(),
-        100000
-    );
-    assert_eq!(rt;
-        implode(alloc, parts.as_slice(), &['x']).err(),
-        Some(TextFault::TooLong)
-    );
+    let most = long(alloc, 100000, &[])?;
+    assert!(rt; are_most(alloc, most.as_slice()));
+    assert!(rt; is_piece(alloc, most.as_slice())?);
+    assert!(rt; scanned(alloc, most.as_slice(), &['%', 's'])? == 1);
+    let more = long(alloc, 100000, &['x'])?;
+    assert!(rt; are_too_many(alloc, more.as_slice()));
+    assert!(rt; is_form_first(alloc, more.as_slice()));
     Ok(())
 }
 
@@ -201,113 +175,70 @@ fn spelled(alloc: Global, found: &[Scanned]) -> Result<String, Fail> {
     Ok(all)
 }
 
-/// Checks what scanning a text by a form gives.
-fn scans(rt: &impl Abort, alloc: Global, s: &str, form: &str, wanted: &str) -> Result<(), Fail> {
-    let text = code_points(alloc, s)?;
+/// A text, a form, and what scanning the text by it gives.
+type ScanRow = (&'static str, &'static str, &'static str);
+
+static SCAN_ROWS: [ScanRow; 20] = [
+    ("give 3 coins", "%s %d %s", "\"give\";3;\"coins\";"),
+    ("ä ö ü", "%s ö%s", "\"ä\";\" ü\";"),
+    ("5 apples", "%*d %s", "\"apples\";"),
+    ("a-b-c", "%*s-%s", "\"b-c\";"),
+    ("50% off", "%d%% %s", "50;\"off\";"),
+    ("x", "x%s", "\"\";"),
+    // Integers.
+    ("-007x", "%dx%s", "-7;\"\";"),
+    ("9223372036854775807", "%d", "9223372036854775807;"),
+    ("9223372036854775808", "%d", ""),
+    ("-9223372036854775808", "%d", "-9223372036854775808;"),
+    ("-9223372036854775809", "%d", ""),
+    ("99999999999999999999999", "%d", ""),
+    ("- 1", "%d", ""),
+    ("+1", "%d", ""),
+    // Scans that stop.
+    ("1 2,3", "%d,%d", "1;"),
+    ("1 x 3", "%d %d %d", "1;"),
+    ("abc", "%s,%s", ""),
+    ("abc", "", ""),
+    ("", "%s", "\"\";"),
+    ("", "%d", ""),
+];
+
+fn scans(alloc: Global, row: ScanRow) -> Result<bool, Fail> {
+    let s = code_points(alloc, row.0)?;
+    let form = code_points(alloc, row.1)?;
+    let found = scan(alloc, s.as_slice(), form.as_slice())?;
+    let line = spelled(alloc, found.as_slice())?;
+    Ok(line.as_str() == row.2)
+}
+
+/// A form, and how many of its parts are assigned, or the place of its fault.
+static FORMS: [(&str, Result<u64, u64>); 7] = [
+    ("ä%d%%%s %*d%*s", Ok(2)),
+    ("ä%s%d", Err(1)),
+    ("%s%%", Err(0)),
+    ("%d%*s%s", Err(2)),
+    ("ä %q %s%d", Err(2)),
+    ("%*", Err(0)),
+    ("abc%", Err(3)),
+];
+
+fn wants(alloc: Global, form: &str, count: Result<u64, u64>) -> Result<bool, TextFault> {
     let parts = code_points(alloc, form)?;
-    let found = scan(alloc, text.as_slice(), parts.as_slice())?;
-    assert_eq!(rt;
-        spelled(alloc, found.as_slice())?.as_str(),
-        wanted,
-        "{s} by {form}"
-    );
-    Ok(())
+    match wanted(parts.as_slice()) {
+        Ok(n) => Ok(count == Ok(n)),
+        Err(TextFault::BadFormat { at }) => Ok(count == Err(at)),
+        Err(_) => Ok(false),
+    }
 }
 
 #[test]
-fn scanned_texts(rt: HostRuntime) -> Result<(), Fail> {
+fn texts_are_scanned(rt: HostRuntime) -> Result<(), Fail> {
     let alloc = rt.alloc();
-    scans(
-        &rt,
-        alloc,
-        "give 3 coins",
-        "%s %d %s",
-        "\"give\";3;\"coins\";",
-    )?;
-    scans(&rt, alloc, "ä ö ü", "%s ö%s", "\"ä\";\" ü\";")?;
-    scans(&rt, alloc, "5 apples", "%*d %s", "\"apples\";")?;
-    scans(&rt, alloc, "a-b-c", "%*s-%s", "\"b-c\";")?;
-    scans(&rt, alloc, "50% off", "%d%% %s", "50;\"off\";")?;
-    scans(&rt, alloc, "x", "x%s", "\"\";")?;
-    Ok(())
-}
-
-#[test]
-fn scanned_integers(rt: HostRuntime) -> Result<(), Fail> {
-    let alloc = rt.alloc();
-    scans(&rt, alloc, "-007x", "%dx%s", "-7;\"\";")?;
-    scans(
-        &rt,
-        alloc,
-        "9223372036854775807",
-        "%d",
-        "9223372036854775807;",
-    )?;
-    scans(&rt, alloc, "9223372036854775808", "%d", "")?;
-    scans(
-        &rt,
-        alloc,
-        "-9223372036854775808",
-        "%d",
-        "-9223372036854775808;",
-    )?;
-    scans(&rt, alloc, "-9223372036854775809", "%d", "")?;
-    scans(&rt, alloc, "99999999999999999999999", "%d", "")?;
-    scans(&rt, alloc, "- 1", "%d", "")?;
-    scans(&rt, alloc, "+1", "%d", "")?;
-    Ok(())
-}
-
-#[test]
-fn scans_that_stop(rt: HostRuntime) -> Result<(), Fail> {
-    let alloc = rt.alloc();
-    scans(&rt, alloc, "1 2,3", "%d,%d", "1;")?;
-    scans(&rt, alloc, "1 x 3", "%d %d %d", "1;")?;
-    scans(&rt, alloc, "abc", "%s,%s", "")?;
-    scans(&rt, alloc, "abc", "", "")?;
-    scans(&rt, alloc, "", "%s", "\"\";")?;
-    scans(&rt, alloc, "", "%d", "")?;
-    Ok(())
-}
-
-/// Checks how many parts of a form are assigned, or the place of its fault.
-fn wants(
-    rt: &impl Abort,
-    alloc: Global,
-    form: &str,
-    count: Result<u64, TextFault>,
-) -> Result<(), Fail> {
-    let parts = code_points(alloc, form)?;
-    assert_eq!(rt; wanted(parts.as_slice()), count, "{form}");
-    Ok(())
-}
-
-#[test]
-fn forms(rt: HostRuntime) -> Result<(), Fail> {
-    let alloc = rt.alloc();
-    wants(&rt, alloc, "ä%d%%%s %*d%*s", Ok(2))?;
-    wants(&rt, alloc, "ä%s%d", Err(TextFault::BadFormat { at: 1 }))?;
-    wants(&rt, alloc, "%s%%", Err(TextFault::BadFormat { at: 0 }))?;
-    wants(&rt, alloc, "%d%*s%s", Err(TextFault::BadFormat { at: 2 }))?;
-    wants(&rt, alloc, "ä %q %s%d", Err(TextFault::BadFormat { at: 2 }))?;
-    wants(&rt, alloc, "%*", Err(TextFault::BadFormat { at: 0 }))?;
-    wants(&rt, alloc, "abc%", Err(TextFault::BadFormat { at: 3 }))?;
-    Ok(())
-}
-
-#[test]
-fn bad_forms_first(rt: HostRuntime) -> Result<(), Fail> {
-    let alloc = rt.alloc();
-    let mut all = longest(alloc)?;
-    assert_eq!(rt; scan(alloc, all.as_slice(), &['%', 's'])?.len(), 1);
-    all.push('x')?;
-    assert_eq!(rt;
-        scan(alloc, all.as_slice(), &['%', 's']).err(),
-        Some(TextFault::TooLong)
-    );
-    assert_eq!(rt;
-        scan(alloc, all.as_slice(), &['ä', '%']).err(),
-        Some(TextFault::BadFormat { at: 1 })
-    );
+    for i in 0..SCAN_ROWS.len() {
+        assert!(rt; scans(alloc, SCAN_ROWS[i])?, "{i}");
+    }
+    for i in 0..FORMS.len() {
+        assert!(rt; wants(alloc, FORMS[i].0, FORMS[i].1)?, "{i}");
+    }
     Ok(())
 }

@@ -6,6 +6,7 @@ use lp_policy::path::path_ok;
 use lp_values::id::{CellId, ObjId};
 use lp_values::text::Text;
 use lp_values::value::{Living, Value};
+use std::alloc::{AllocError, Global};
 use std::test::Fail;
 
 /// The objects with a serial of at least 5 are live.
@@ -20,16 +21,7 @@ impl Living for Late {
     }
 }
 
-// What an answer is: a letter.
-fn letter(answer: &Answer<'_>) -> char {
-    match answer {
-        Answer::Denied => 'd',
-        Answer::Given => 'g',
-        Answer::Named(_) => 'n',
-    }
-}
-
-const WORDS: [(&str, bool); 10] = [
+static WORDS: [(&str, bool); 10] = [
     ("/a.txt", true),
     ("/data/m.o", true),
     ("/a..b", true),
@@ -42,32 +34,76 @@ const WORDS: [(&str, bool); 10] = [
     ("/a b", false),
 ];
 
-#[test]
-fn paths(rt: HostRuntime) {
-    for (word, is_path) in WORDS {
-        assert_eq!(rt; path_ok(word), is_path, "{word}");
+/// What the master gives.
+#[derive(Clone, Copy)]
+enum Given {
+    Int(i64),
+    Arr(u64),
+    Map(u64),
+    Obj(u64),
+    Str(&'static str),
+}
+
+/// What its answer is: nothing is left, all is, or a path is named.
+#[derive(Clone, Copy)]
+enum Read {
+    Denied,
+    Given,
+    Named(&'static [char]),
+}
+
+static ANSWERS: [(Given, Read); 9] = [
+    (Given::Int(0), Read::Denied),
+    (Given::Int(1), Read::Given),
+    (Given::Int(-1), Read::Given),
+    (Given::Arr(0), Read::Given),
+    (Given::Map(0), Read::Given),
+    (Given::Obj(5), Read::Given),
+    (Given::Obj(4), Read::Denied),
+    (Given::Str(""), Read::Named(&[])),
+    (Given::Str("/b"), Read::Named(&['/', 'b'])),
+];
+
+fn value_of(alloc: Global, given: Given) -> Result<Value, AllocError> {
+    match given {
+        Given::Int(n) => Ok(Value::Int(n)),
+        Given::Arr(c) => Ok(Value::Arr(CellId(c))),
+        Given::Map(c) => Ok(Value::Map(CellId(c))),
+        Given::Obj(o) => Ok(Value::Obj(ObjId(o))),
+        Given::Str(text) => Ok(Value::Str(Text::from_str(alloc, text)?)),
     }
 }
 
-#[test]
-fn answers(rt: HostRuntime) -> Result<(), Fail> {
-    let alloc = rt.alloc();
-    let live = Late;
-    assert_eq!(rt; letter(&read_answer(&Value::Int(0), &live)), 'd');
-    assert_eq!(rt; letter(&read_answer(&Value::Int(1), &live)), 'g');
-    assert_eq!(rt; letter(&read_answer(&Value::Int(-1), &live)), 'g');
-    assert_eq!(rt; letter(&read_answer(&Value::Arr(CellId(0)), &live)), 'g');
-    assert_eq!(rt; letter(&read_answer(&Value::Map(CellId(0)), &live)), 'g');
-    assert_eq!(rt; letter(&read_answer(&Value::Obj(ObjId(5)), &live)), 'g');
-    assert_eq!(rt; letter(&read_answer(&Value::Obj(ObjId(4)), &live)), 'd');
-    let empty = Value::Str(Text::from_str(alloc, "")?);
-    assert_eq!(rt; letter(&read_answer(&empty, &live)), 'n');
-    let other = Value::Str(Text::from_str(alloc, "/b")?);
-    match read_answer(&other, &live) {
-        Answer::Named(path) => {
-            assert_eq!(rt; path.as_slice(), ['/', 'b'].as_slice());
-        }
-        Answer::Denied | Answer::Given => assert!(rt; false, "a path was named"),
+fn reads_as(value: &Value, wanted: Read) -> bool {
+    match (read_answer(value, &Late), wanted) {
+        (Answer::Denied, Read::Denied) => true,
+        (Answer::Given, Read::Given) => true,
+        (Answer::Named(path), Read::Named(chars)) => path.as_slice() == chars,
+        _ => false,
     }
+}
+
+fn is_read_as(alloc: Global, given: Given, wanted: Read) -> Result<bool, AllocError> {
+    let value = value_of(alloc, given)?;
+    Ok(reads_as(&value, wanted))
+}
+
+/// The place of the first of what is given that is not read so.
+fn first_misread(alloc: Global) -> Result<Option<usize>, AllocError> {
+    for i in 0..ANSWERS.len() {
+        if !is_read_as(alloc, ANSWERS[i].0, ANSWERS[i].1)? {
+            return Ok(Some(i));
+        }
+    }
+    Ok(None)
+}
+
+#[test]
+fn paths_and_answers(rt: HostRuntime) -> Result<(), Fail> {
+    for i in 0..WORDS.len() {
+        let (word, is_path) = WORDS[i];
+        assert_eq!(rt; path_ok(word), is_path, "{word}");
+    }
+    assert_eq!(rt; first_misread(rt.alloc())?, None);
     Ok(())
 }

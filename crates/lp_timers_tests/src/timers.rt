@@ -7,143 +7,226 @@ use lp_values::text::Text;
 use std::alloc::{AllocError, Global};
 use std::test::Fail;
 
-/// Whether these hearts are due, in this order.
-fn beating(timers: &Timers, moment: u64, obs: &[ObjId]) -> Result<bool, AllocError> {
-    Ok(timers.beats(moment)?.as_slice() == obs)
+/// What is done, and what has to come of it. Objects are told by their serials.
+#[derive(Clone, Copy)]
+enum Step {
+    /// An object's heart is switched on or off at a moment, and whether that changes anything.
+    Switches(u64, bool, u32, bool),
+    /// An object's heart beats at a moment next.
+    BeatsNext(u64, u64),
+    /// These hearts are due at a moment, in this order.
+    Beats(u64, &'static [ObjId]),
+    /// Whether an object's heart is due by a moment.
+    BeatsBy(u64, u64, bool),
+    /// An object is watched for a moment.
+    Watches(u64, Watch, u64),
+    /// An object is watched no more.
+    Unwatches(u64, Watch),
+    /// These watches are due at a moment, in this order.
+    Dues(Watch, u64, &'static [ObjId]),
+    /// Whether an object is watched.
+    IsWatched(u64, Watch, bool),
+    /// An object gets a call-out of the function `f` at a moment.
+    Calls(u64, u64),
+    /// The moment at which the earliest of an object's call-outs of `f` is due.
+    Leaves(u64, Option<u64>),
+    /// Whether a call-out of an object that ends is given back.
+    Drops(u64, bool),
+    /// So many call-outs wait.
+    Counts(usize),
 }
 
-/// Whether these watches are due, in this order.
-fn watching(timers: &Timers, kind: Watch, moment: u64, obs: &[ObjId]) -> Result<bool, AllocError> {
-    Ok(timers.watched(kind, moment)?.as_slice() == obs)
+const A: ObjId = ObjId(1);
+
+const B: ObjId = ObjId(2);
+
+const C: ObjId = ObjId(3);
+
+/// The hearts of three objects are switched on at 0 in this order: 1, 3, 2.
+static BEATS_IN_ORDER: [Step; 5] = [
+    Step::Switches(1, true, 0, true),
+    Step::Switches(3, true, 0, true),
+    Step::Switches(2, true, 0, true),
+    Step::Beats(1, &[]),
+    Step::Beats(2, &[A, C, B]),
+];
+
+static OFF_AND_ON_IN_ONE_TICK: [Step; 11] = [
+    Step::Switches(1, true, 0, true),
+    Step::Switches(3, true, 0, true),
+    Step::Switches(2, true, 0, true),
+    Step::Switches(3, false, 2, true),
+    Step::Switches(3, false, 2, false),
+    Step::Switches(3, true, 2, true),
+    Step::Switches(3, true, 9, false),
+    Step::Beats(3, &[A, B]),
+    Step::BeatsBy(3, 3, false),
+    Step::BeatsBy(3, 4, true),
+    Step::Beats(4, &[A, B, C]),
+];
+
+/// The object 7 has no heart that beats.
+static A_NEXT_BEAT_KEEPS_THE_ORDER: [Step; 7] = [
+    Step::Switches(1, true, 0, true),
+    Step::Switches(3, true, 0, true),
+    Step::Switches(2, true, 0, true),
+    Step::BeatsNext(1, 5),
+    Step::BeatsNext(7, 1),
+    Step::Beats(4, &[C, B]),
+    Step::Beats(5, &[A, C, B]),
+];
+
+/// Three objects wait for `reset`, and the first for `clean_up` too.
+static WATCHES_OF_TWO_KINDS: [Step; 9] = [
+    Step::Watches(1, Watch::Reset, 1800),
+    Step::Watches(1, Watch::CleanUp, 3600),
+    Step::Watches(2, Watch::Reset, 1800),
+    Step::Watches(3, Watch::Reset, 1700),
+    Step::Dues(Watch::Reset, 1799, &[C]),
+    Step::Dues(Watch::Reset, 1800, &[A, B, C]),
+    Step::Dues(Watch::CleanUp, 3599, &[]),
+    Step::Dues(Watch::CleanUp, 3600, &[A]),
+    Step::Beats(9000, &[]),
+];
+
+/// It keeps its place and takes the new moment; behind an end it gets a place of its own.
+static A_WATCH_PUT_AGAIN: [Step; 12] = [
+    Step::Watches(1, Watch::Reset, 1800),
+    Step::Watches(1, Watch::CleanUp, 3600),
+    Step::Watches(2, Watch::Reset, 1800),
+    Step::Watches(3, Watch::Reset, 1700),
+    Step::Watches(1, Watch::Reset, 2000),
+    Step::Dues(Watch::Reset, 1999, &[B, C]),
+    Step::Dues(Watch::Reset, 2000, &[A, B, C]),
+    Step::Unwatches(1, Watch::Reset),
+    Step::IsWatched(1, Watch::Reset, false),
+    Step::IsWatched(1, Watch::CleanUp, true),
+    Step::Watches(1, Watch::Reset, 1800),
+    Step::Dues(Watch::Reset, 9000, &[B, C, A]),
+];
+
+/// Two objects have a call-out, both watches, and a heart that beats. Call-outs are given back one by one; the heart and the watches
+/// end when none is left.
+static ALL_OF_AN_OBJECT_ENDS: [Step; 16] = [
+    Step::Calls(1, 5),
+    Step::Watches(1, Watch::Reset, 1800),
+    Step::Watches(1, Watch::CleanUp, 3600),
+    Step::Switches(1, true, 0, true),
+    Step::Calls(2, 5),
+    Step::Watches(2, Watch::Reset, 1800),
+    Step::Watches(2, Watch::CleanUp, 3600),
+    Step::Switches(2, true, 0, true),
+    Step::Drops(1, true),
+    Step::Beats(2, &[A, B]),
+    Step::Drops(1, false),
+    Step::Beats(2, &[B]),
+    Step::Dues(Watch::Reset, 1800, &[B]),
+    Step::Dues(Watch::CleanUp, 3600, &[B]),
+    Step::Leaves(2, Some(5)),
+    Step::Counts(1),
+];
+
+fn call(alloc: Global, timers: &mut Timers, ob: u64, at: u64) -> Result<bool, TimerFault> {
+    let fun = Text::from_str(alloc, "f")?;
+    timers.call_out(ObjId(ob), &fun, at, Vec::new(alloc))?;
+    Ok(true)
 }
 
-/// Timers in which the hearts of three objects beat, switched on at 0 in this order: 1, 3, 2.
-fn three_hearts(rt: &HostRuntime) -> Result<Timers, AllocError> {
-    let mut timers = Timers::new(rt.alloc());
-    timers.beat(ObjId(1), true, 0)?;
-    timers.beat(ObjId(3), true, 0)?;
-    timers.beat(ObjId(2), true, 0)?;
-    Ok(timers)
+fn leaves(alloc: Global, timers: &Timers, ob: u64) -> Result<Option<u64>, TimerFault> {
+    let fun = Text::from_str(alloc, "f")?;
+    Ok(timers.left(ObjId(ob), &fun))
 }
 
-#[test]
-fn beats_come_in_order_of_switching_on(rt: HostRuntime) -> Result<(), Fail> {
-    let timers = three_hearts(&rt)?;
-    assert!(rt; beating(&timers, 1, &[])?);
-    assert!(rt; beating(&timers, 2, &[ObjId(1), ObjId(3), ObjId(2)])?);
-    Ok(())
+/// Whether that comes of a step.
+fn holds(alloc: Global, timers: &mut Timers, step: Step) -> Result<bool, TimerFault> {
+    match step {
+        Step::Switches(ob, on, at, changes) => Ok(
+            timers.beat(ObjId(ob), on, at as u64)? == changes,
+        ),
+        Step::BeatsNext(ob, at) => {
+            timers.next_beat(ObjId(ob), at);
+            Ok(true)
+        }
+        Step::Beats(at, obs) => Ok(timers.beats(at)?.as_slice() == obs),
+        Step::BeatsBy(ob, at, is_due) => Ok(timers.beats_by(ObjId(ob), at) == is_due),
+        Step::Watches(ob, kind, at) => {
+            timers.watch(ObjId(ob), kind, at)?;
+            Ok(true)
+        }
+        Step::Unwatches(ob, kind) => {
+            timers.unwatch(ObjId(ob), kind);
+            Ok(true)
+        }
+        Step::Dues(kind, at, obs) => Ok(timers.watched(kind, at)?.as_slice() == obs),
+        Step::IsWatched(ob, kind, is) => Ok(timers.is_watched(ObjId(ob), kind) == is),
+        Step::Calls(ob, at) => call(alloc, timers, ob, at),
+        Step::Leaves(ob, at) => Ok(leaves(alloc, timers, ob)? == at),
+        Step::Drops(ob, is_some) => Ok(timers.drop_of(ObjId(ob)).is_some() == is_some),
+        Step::Counts(count) => Ok(timers.count() == count),
+    }
 }
 
-#[test]
-fn a_beat_off_and_on_in_one_tick(rt: HostRuntime) -> Result<(), Fail> {
-    let mut timers = three_hearts(&rt)?;
-    assert!(rt; timers.beat(ObjId(3), false, 2)?);
-    assert!(rt; !timers.beat(ObjId(3), false, 2)?);
-    assert!(rt; timers.beat(ObjId(3), true, 2)?);
-    assert!(rt; !timers.beat(ObjId(3), true, 9)?);
-    assert!(rt; beating(&timers, 3, &[ObjId(1), ObjId(2)])?);
-    assert!(rt; !timers.beats_by(ObjId(3), 3) && timers.beats_by(ObjId(3), 4));
-    assert!(rt; beating(&timers, 4, &[ObjId(1), ObjId(2), ObjId(3)])?);
-    Ok(())
+/// How many steps hold before the first that does not, if one does not.
+fn first_wrong_on(
+    alloc: Global,
+    timers: &mut Timers,
+    steps: &[Step],
+) -> Result<Option<usize>, TimerFault> {
+    for i in 0..steps.len() {
+        if !holds(alloc, timers, steps[i])? {
+            return Ok(Some(i));
+        }
+    }
+    Ok(None)
 }
 
-#[test]
-fn a_next_beat_keeps_the_order(rt: HostRuntime) -> Result<(), Fail> {
-    let mut timers = three_hearts(&rt)?;
-    timers.next_beat(ObjId(1), 5);
-    // This one has no heart that beats.
-    timers.next_beat(ObjId(7), 1);
-    assert!(rt; beating(&timers, 4, &[ObjId(3), ObjId(2)])?);
-    assert!(rt; beating(&timers, 5, &[ObjId(1), ObjId(3), ObjId(2)])?);
-    Ok(())
-}
-
-/// Timers in which three objects wait for `reset`, and the first for `clean_up` too.
-fn three_watched(rt: &HostRuntime) -> Result<Timers, AllocError> {
-    let mut timers = Timers::new(rt.alloc());
-    timers.watch(ObjId(1), Watch::Reset, 1800)?;
-    timers.watch(ObjId(1), Watch::CleanUp, 3600)?;
-    timers.watch(ObjId(2), Watch::Reset, 1800)?;
-    timers.watch(ObjId(3), Watch::Reset, 1700)?;
-    Ok(timers)
-}
-
-#[test]
-fn watches_of_two_kinds(rt: HostRuntime) -> Result<(), Fail> {
-    let timers = three_watched(&rt)?;
-    assert!(rt; watching(&timers, Watch::Reset, 1799, &[ObjId(3)])?);
-    assert!(rt; watching(&timers, Watch::Reset, 1800, &[ObjId(1), ObjId(2), ObjId(3)])?);
-    assert!(rt; watching(&timers, Watch::CleanUp, 3599, &[])?);
-    assert!(rt; watching(&timers, Watch::CleanUp, 3600, &[ObjId(1)])?);
-    assert!(rt; beating(&timers, 9000, &[])?);
-    Ok(())
-}
-
-// It keeps its place and takes the new moment; behind an end it gets a place of its own.
-#[test]
-fn a_watch_put_again(rt: HostRuntime) -> Result<(), Fail> {
-    let mut timers = three_watched(&rt)?;
-    timers.watch(ObjId(1), Watch::Reset, 2000)?;
-    assert!(rt; watching(&timers, Watch::Reset, 1999, &[ObjId(2), ObjId(3)])?);
-    assert!(rt; watching(&timers, Watch::Reset, 2000, &[ObjId(1), ObjId(2), ObjId(3)])?);
-    timers.unwatch(ObjId(1), Watch::Reset);
-    assert!(rt; !timers.is_watched(ObjId(1), Watch::Reset));
-    assert!(rt; timers.is_watched(ObjId(1), Watch::CleanUp));
-    timers.watch(ObjId(1), Watch::Reset, 1800)?;
-    assert!(rt; watching(&timers, Watch::Reset, 9000, &[ObjId(2), ObjId(3), ObjId(1)])?);
-    Ok(())
-}
-
-/// Gives an object a call-out of a function, a heart that beats, and both watches.
-fn put_all(alloc: Global, timers: &mut Timers, ob: ObjId, fun: &Text) -> Result<(), TimerFault> {
-    timers.call_out(ob, fun, 5, Vec::new(alloc))?;
-    timers.watch(ob, Watch::Reset, 1800)?;
-    timers.watch(ob, Watch::CleanUp, 3600)?;
-    timers.beat(ob, true, 0)?;
-    Ok(())
-}
-
-// Call-outs are given back one by one; the heart and the watches end when none is left.
-#[test]
-fn all_of_an_object_ends(rt: HostRuntime) -> Result<(), Fail> {
-    let fun = Text::from_str(rt.alloc(), "f")?;
-    let mut timers = Timers::new(rt.alloc());
-    put_all(rt.alloc(), &mut timers, ObjId(1), &fun)?;
-    put_all(rt.alloc(), &mut timers, ObjId(2), &fun)?;
-    assert!(rt; timers.drop_of(ObjId(1)).is_some());
-    assert!(rt; beating(&timers, 2, &[ObjId(1), ObjId(2)])?);
-    assert!(rt; timers.drop_of(ObjId(1)).is_none());
-    assert!(rt; beating(&timers, 2, &[ObjId(2)])?);
-    assert!(rt; watching(&timers, Watch::Reset, 1800, &[ObjId(2)])?);
-    assert!(rt; watching(&timers, Watch::CleanUp, 3600, &[ObjId(2)])?);
-    assert!(rt; timers.left(ObjId(2), &fun) == Some(5) && timers.count() == 1);
-    Ok(())
-}
-
-/// Timers in which so many hearts beat, switched on at 0; each second one was switched off at 1.
-fn many_hearts(alloc: Global, count: u64) -> Result<Timers, AllocError> {
+fn first_wrong(alloc: Global, steps: &[Step]) -> Result<Option<usize>, TimerFault> {
     let mut timers = Timers::new(alloc);
+    first_wrong_on(alloc, &mut timers, steps)
+}
+
+#[test]
+fn timers_hold(rt: HostRuntime) -> Result<(), Fail> {
+    let alloc = rt.alloc();
+    assert_eq!(rt; first_wrong(alloc, &BEATS_IN_ORDER)?, None);
+    assert_eq!(rt; first_wrong(alloc, &OFF_AND_ON_IN_ONE_TICK)?, None);
+    assert_eq!(rt; first_wrong(alloc, &A_NEXT_BEAT_KEEPS_THE_ORDER)?, None);
+    assert_eq!(rt; first_wrong(alloc, &WATCHES_OF_TWO_KINDS)?, None);
+    assert_eq!(rt; first_wrong(alloc, &A_WATCH_PUT_AGAIN)?, None);
+    assert_eq!(rt; first_wrong(alloc, &ALL_OF_AN_OBJECT_ENDS)?, None);
+    Ok(())
+}
+
+/// So many hearts are switched on at 0; each second one is switched off at 1.
+fn switch_many(timers: &mut Timers, count: u64) -> Result<(), AllocError> {
     for ob in 0..count {
         timers.beat(ObjId(ob), true, 0)?;
-    }
-    for ob in 0..count {
         if ob % 2 == 0 {
             timers.beat(ObjId(ob), false, 1)?;
         }
     }
-    Ok(timers)
+    Ok(())
 }
 
-/// How many hearts are due, and which is the last.
-fn last_due(timers: &Timers, moment: u64) -> Result<(usize, Option<ObjId>), AllocError> {
+/// Whether so many hearts are due, and this is the last.
+fn is_last_due(
+    timers: &Timers,
+    moment: u64,
+    count: usize,
+    last: Option<ObjId>,
+) -> Result<bool, AllocError> {
     let due = timers.beats(moment)?;
-    Ok((due.len(), due.as_slice().last().copied()))
+    Ok(due.len() == count && due.as_slice().last().copied() == last)
+}
+
+fn ten_thousand_beat(alloc: Global) -> Result<bool, AllocError> {
+    let mut timers = Timers::new(alloc);
+    switch_many(&mut timers, 10000)?;
+    Ok(is_last_due(&timers, 2, 5000, Some(ObjId(9999)))? && is_last_due(&timers, 1, 0, None)?)
 }
 
 #[test]
 fn ten_thousand_hearts(rt: HostRuntime) -> Result<(), Fail> {
-    let timers = many_hearts(rt.alloc(), 10000)?;
-    assert!(rt; last_due(&timers, 2)? == (5000, Some(ObjId(9999))));
-    assert!(rt; last_due(&timers, 1)? == (0, None));
+    assert!(rt; ten_thousand_beat(rt.alloc())?);
     Ok(())
 }

@@ -1,114 +1,147 @@
+use crate::state::{NO_TROUBLE, Trouble, swap_file};
 use lp_residence::answers::{EnterFault, SwapCause};
 use lp_residence::owner::Owner;
 use lp_residence::reading::look_at;
 use lp_swapfile::MemSwap;
 use lp_swapper::{OutAnswer, Swapper, Ticket};
-use lp_values::id::{ObjId, ProgId};
-use std::alloc::Global;
+use lp_values::id::ProgId;
+use std::alloc::{AllocError, Global};
 use std::test::Fail;
 
-fn numbers(alloc: Global, xs: &[u64]) -> Result<Vec<u64>, Fail> {
-    Ok(Vec::from_slice(alloc, xs)?)
+const P: Owner = Owner::Program(ProgId(2));
+
+/// What comes of a look, a write or a read.
+#[derive(Clone, Copy, PartialEq, Eq)]
+enum Outcome {
+    /// What was written.
+    Bytes,
+    /// The read failed.
+    Failed,
+    /// A lie about the first byte was told: `a` is 97, and 255 less that is 158.
+    Lie,
+    /// Something else.
+    Other,
 }
 
-// Whether a look gives what was written, or fails where it is to.
-fn gives_or_fails(swapper: &Swapper, swap: &mut MemSwap, t: &Ticket, fails: bool) -> bool {
-    match look_at(swapper, swap, Owner::Object(ObjId(7)), t) {
-        Ok(bytes) => !fails && bytes.as_slice() == b"abc".as_slice(),
-        Err(EnterFault::Swap(SwapCause::Read)) => fails,
-        Err(_) => false,
+/// What an answer is.
+fn outcome_of(fault: &EnterFault) -> Outcome {
+    match fault {
+        EnterFault::Swap(SwapCause::Read) => Outcome::Failed,
+        EnterFault::Swap(SwapCause::Changed { owner, found }) => {
+            if *owner == P && found.as_slice() == [158u8, 98, 99].as_slice() {
+                Outcome::Lie
+            } else {
+                Outcome::Other
+            }
+        }
+        EnterFault::NoMemory => Outcome::Other,
     }
 }
 
-// Whether of four looks that one fails.
-fn fails_at(alloc: Global, n: u64) -> Result<bool, Fail> {
-    let mut swap = MemSwap::new(
-        alloc,
-        numbers(alloc, &[n])?,
-        Vec::new(alloc),
-        Vec::new(alloc),
-    );
+/// What a look gives.
+fn look(swapper: &Swapper, swap: &mut MemSwap, t: &Ticket) -> Outcome {
+    match look_at(swapper, swap, P, t) {
+        Ok(bytes) => {
+            if bytes.as_slice() == b"abc".as_slice() {
+                Outcome::Bytes
+            } else {
+                Outcome::Other
+            }
+        }
+        Err(fault) => outcome_of(&fault),
+    }
+}
+
+/// Whether of four looks the one with a number gives this, and each other one what was written.
+fn looks(swapper: &Swapper, swap: &mut MemSwap, t: &Ticket, n: u64, other: Outcome) -> bool {
+    for k in 1..5 {
+        let wanted = if k == n { other } else { Outcome::Bytes };
+        if look(swapper, swap, t) != wanted {
+            return false;
+        }
+    }
+    true
+}
+
+/// The same of what goes out first.
+fn goes_and_looks(
+    swapper: &mut Swapper,
+    swap: &mut MemSwap,
+    n: u64,
+    other: Outcome,
+) -> Result<bool, AllocError> {
+    match swapper.out(swap, b"abc")? {
+        OutAnswer::Out(t) => Ok(looks(swapper, swap, &t, n, other)),
+        _ => Ok(false),
+    }
+}
+
+/// Whether of four writes the one with a number fails.
+fn is_kept(swapper: &mut Swapper, swap: &mut MemSwap, n: u64) -> Result<bool, AllocError> {
+    for k in 1..5 {
+        if (swapper.out(swap, b"abc")? == OutAnswer::KeptFault) != (k == n) {
+            return Ok(false);
+        }
+    }
+    Ok(true)
+}
+
+/// Whether the look with a number gives this where there is trouble, and so many reads failed.
+fn looks_but_at(
+    alloc: Global,
+    trouble: &Trouble<'_>,
+    n: u64,
+    other: Outcome,
+    faults: u64,
+) -> Result<bool, AllocError> {
+    let mut swap = swap_file(alloc, trouble)?;
     let mut swapper = Swapper::new(alloc);
-    let OutAnswer::Out(t) = swapper.out(&mut swap, b"abc")? else {
-        return Ok(false);
+    let found = goes_and_looks(&mut swapper, &mut swap, n, other);
+    let failed = swap.read_faults();
+    drop(swapper);
+    drop(swap);
+    Ok(found? && failed == faults)
+}
+
+/// Whether the look with a number fails, and each other one does not.
+fn fails_at(alloc: Global, n: u64) -> Result<bool, AllocError> {
+    let trouble = Trouble {
+        reads: &[n],
+        ..NO_TROUBLE
     };
-    for k in 1..5 {
-        if !gives_or_fails(&swapper, &mut swap, &t, k == n) {
-            return Ok(false);
-        }
-    }
-    Ok(swap.read_faults() == 1)
+    looks_but_at(alloc, &trouble, n, Outcome::Failed, 1)
 }
 
-#[test]
-fn each_read_may_fail(rt: HostRuntime) -> Result<(), Fail> {
-    for n in 1..5 {
-        assert!(rt; fails_at(rt.alloc(), n)?);
-    }
-    Ok(())
-}
-
-// Whether a look gives what was written, or tells of the lie where one is told: `a` is 97, and 255 less that is 158.
-fn gives_or_tells(swapper: &Swapper, swap: &mut MemSwap, t: &Ticket, lies: bool) -> bool {
-    match look_at(swapper, swap, Owner::Program(ProgId(2)), t) {
-        Ok(bytes) => !lies && bytes.as_slice() == b"abc".as_slice(),
-        Err(EnterFault::Swap(SwapCause::Changed { owner, found })) => {
-            lies && owner == Owner::Program(ProgId(2))
-                && found.as_slice() == [158u8, 98, 99].as_slice()
-        }
-        Err(_) => false,
-    }
-}
-
-// Whether of four looks the lie of that one is told.
-fn lies_at(alloc: Global, n: u64) -> Result<bool, Fail> {
-    let mut swap = MemSwap::new(
-        alloc,
-        Vec::new(alloc),
-        Vec::new(alloc),
-        Vec::from_slice(alloc, &[(n, 0)])?,
-    );
-    let mut swapper = Swapper::new(alloc);
-    let OutAnswer::Out(t) = swapper.out(&mut swap, b"abc")? else {
-        return Ok(false);
+/// Whether the look with a number is lied to, and each other one is not.
+fn lies_at(alloc: Global, n: u64) -> Result<bool, AllocError> {
+    let trouble = Trouble {
+        lies: &[(n, 0)],
+        ..NO_TROUBLE
     };
-    for k in 1..5 {
-        if !gives_or_tells(&swapper, &mut swap, &t, k == n) {
-            return Ok(false);
-        }
-    }
-    Ok(swap.read_faults() == 0)
+    looks_but_at(alloc, &trouble, n, Outcome::Lie, 0)
 }
 
-#[test]
-fn each_read_may_lie(rt: HostRuntime) -> Result<(), Fail> {
-    for n in 1..5 {
-        assert!(rt; lies_at(rt.alloc(), n)?);
-    }
-    Ok(())
-}
-
-// Whether of four writes that one fails.
-fn is_kept_at(alloc: Global, n: u64) -> Result<bool, Fail> {
-    let mut swap = MemSwap::new(
-        alloc,
-        Vec::new(alloc),
-        numbers(alloc, &[n])?,
-        Vec::new(alloc),
-    );
+/// Whether the write with a number fails, and each other one does not.
+fn is_kept_at(alloc: Global, n: u64) -> Result<bool, AllocError> {
+    let trouble = Trouble {
+        writes: &[n],
+        ..NO_TROUBLE
+    };
+    let mut swap = swap_file(alloc, &trouble)?;
     let mut swapper = Swapper::new(alloc);
-    for k in 1..5 {
-        if (swapper.out(&mut swap, b"abc")? == OutAnswer::KeptFault) != (k == n) {
-            return Ok(false);
-        }
-    }
-    Ok(swap.write_faults() == 1)
+    let found = is_kept(&mut swapper, &mut swap, n);
+    let failed = swap.write_faults();
+    drop(swapper);
+    drop(swap);
+    Ok(found? && failed == 1)
 }
 
 #[test]
-fn each_write_may_fail(rt: HostRuntime) -> Result<(), Fail> {
+fn each_call_may_fail(rt: HostRuntime) -> Result<(), Fail> {
     for n in 1..5 {
-        assert!(rt; is_kept_at(rt.alloc(), n)?);
+        assert!(rt; fails_at(rt.alloc(), n)?, "read {n}");
+        assert!(rt; lies_at(rt.alloc(), n)?, "lie {n}");
+        assert!(rt; is_kept_at(rt.alloc(), n)?, "write {n}");
     }
     Ok(())
 }

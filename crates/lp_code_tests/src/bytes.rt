@@ -6,7 +6,7 @@ use lp_values::id::ProgId;
 use std::alloc::{AllocError, Global};
 use std::test::Fail;
 
-const RECORD: [u8; 82] = [
+static RECORD: [u8; 82] = [
     // two instructions: an integer, and a return
     2, 0, 0, 0, 1, 0, 0, 0, 1, 0, 0, 0, 0, 0, 0, 0, 36, 0, 0, 0,
     // no texts, no switches
@@ -54,7 +54,11 @@ fn is_none(alloc: Global, bytes: &[u8]) -> bool {
 /// Whether bytes are no record, or the encoding of what they are.
 fn is_faithful(alloc: Global, bytes: &[u8]) -> Result<bool, AllocError> {
     match decode(alloc, bytes) {
-        Ok(program) => Ok(encode(alloc, &program)?.as_slice() == bytes),
+        Ok(program) => {
+            let again = encode(alloc, &program);
+            drop(program);
+            Ok(again?.as_slice() == bytes)
+        }
         Err(DecodeFault::NoRecord) => Ok(true),
         Err(DecodeFault::NoMemory) => Err(AllocError),
     }
@@ -76,64 +80,59 @@ fn are_of(alloc: Global, bytes: &[u8], instrs: &[Instr]) -> Result<bool, AllocEr
     }
 }
 
-#[test]
-fn spelled(rt: HostRuntime) -> Result<(), Fail> {
-    assert!(rt; are_of(rt.alloc(), &RECORD, &[Instr::PushInt(1), Instr::Return])?);
-    assert!(rt; is_faithful(rt.alloc(), &RECORD)?);
-    Ok(())
-}
-
-/// Bytes, and one behind them.
-fn with_more(alloc: Global, bytes: &[u8]) -> Result<Vec<u8>, AllocError> {
+/// Whether bytes with one behind them are no record.
+fn is_none_with_more(alloc: Global, bytes: &[u8]) -> Result<bool, AllocError> {
     let mut more = Vec::from_slice(alloc, bytes)?;
     more.push(0)?;
-    Ok(more)
+    Ok(is_none(alloc, &more))
 }
 
-#[test]
-fn longer(rt: HostRuntime) -> Result<(), Fail> {
-    let more = with_more(rt.alloc(), &RECORD)?;
-    assert!(rt; is_none(rt.alloc(), &more));
-    Ok(())
-}
-
-#[test]
-fn cut(rt: HostRuntime) {
+/// Whether each front of the record is no record.
+fn are_fronts_none(alloc: Global) -> bool {
     for n in 0..82 {
-        assert!(rt; is_none(rt.alloc(), &RECORD[..n]));
-    }
-}
-
-#[test]
-fn changed(rt: HostRuntime) -> Result<(), Fail> {
-    for place in 0..82 {
-        for value in 0..256u16 {
-            assert!(rt; is_faithful(rt.alloc(), &with_byte(place, value as u8))?);
+        if !is_none(alloc, &RECORD[..n]) {
+            return false;
         }
     }
-    Ok(())
+    true
 }
 
+/// Whether each other byte at a place gives no record, or the encoding of what it is.
+fn is_faithful_at(alloc: Global, place: usize) -> Result<bool, AllocError> {
+    for value in 0..256u16 {
+        if !is_faithful(alloc, &with_byte(place, value as u8))? {
+            return Ok(false);
+        }
+    }
+    Ok(true)
+}
+
+/// A place, the byte that is put there, whether that gives no record, and what stands there.
+static CHANGED: [(usize, u8, bool, &str); 10] = [
+    (16, 0, true, "no instruction has the number 0"),
+    (16, 37, false, "the last instruction, in place of a return"),
+    (16, 38, true, "no instruction has the number 38"),
+    (36, 255, true, "a name that is no text"),
+    (74, 1, false, "a flag"),
+    (74, 2, true, "no flag"),
+    (77, 2, false, "strict types"),
+    (77, 3, true, "no way to check types"),
+    (78, 0, true, "an operand more than the stack may hold"),
+    (3, 255, true, "more instructions than there are bytes"),
+];
+
 #[test]
-fn refused(rt: HostRuntime) -> Result<(), Fail> {
-    let rows = [
-        (16, 0, true, "no instruction has the number 0"),
-        (16, 37, false, "the last instruction, in place of a return"),
-        (16, 38, true, "no instruction has the number 38"),
-        (36, 255, true, "a name that is no text"),
-        (74, 1, false, "a flag"),
-        (74, 2, true, "no flag"),
-        (77, 2, false, "strict types"),
-        (77, 3, true, "no way to check types"),
-        (78, 0, true, "an operand more than the stack may hold"),
-        (3, 255, true, "more instructions than there are bytes"),
-    ];
-    for (place, value, none, why) in rows {
-        assert_eq!(rt;
-            is_none(rt.alloc(), &with_byte(place, value)),
-            none,
-            "{why}"
-        );
+fn records(rt: HostRuntime) -> Result<(), Fail> {
+    let alloc = rt.alloc();
+    assert!(rt; are_of(alloc, &RECORD, &[Instr::PushInt(1), Instr::Return])?);
+    assert!(rt; is_none_with_more(alloc, &RECORD)?);
+    assert!(rt; are_fronts_none(alloc));
+    for place in 0..82 {
+        assert!(rt; is_faithful_at(alloc, place)?, "{place}");
+    }
+    for i in 0..CHANGED.len() {
+        let (place, value, none, why) = CHANGED[i];
+        assert!(rt; is_none(alloc, &with_byte(place, value)) == none, "{why}");
     }
     Ok(())
 }

@@ -1,5 +1,5 @@
 //! Programs that are encoded and read again.
-use crate::build::program;
+use crate::build::{plain, program};
 use lp_code::program::{Program, RawProgram, SwitchRow};
 use lp_code::tables::{Slot, VarRow};
 use lp_encoding::{DecodeFault, decode, encode, law_prefix_free};
@@ -13,7 +13,7 @@ use std::alloc::{AllocError, Global};
 use std::test::Fail;
 
 /// A sound program with each instruction.
-const ALL: [Instr; 57] = [
+static ALL: [Instr; 57] = [
     Instr::LoopTurn,
     Instr::PushInt(-5),
     Instr::Pop,
@@ -124,20 +124,28 @@ fn goes_round(
     let bytes = encode(alloc, first)?;
     match decode(alloc, &bytes) {
         Ok(second) => {
-            let again = encode(alloc, &second)?;
-            Ok(is_whole(second.raw(), instrs, cases) && again.as_slice() == bytes.as_slice())
+            let whole = is_whole(second.raw(), instrs, cases);
+            let again = encode(alloc, &second);
+            drop(second);
+            Ok(whole && again?.as_slice() == bytes.as_slice())
         }
         Err(DecodeFault::NoRecord) => Ok(false),
         Err(DecodeFault::NoMemory) => Err(AllocError),
     }
 }
 
+/// Whether the encoding of the program with each instruction is read as that program.
+fn all_goes_round(alloc: Global) -> Result<bool, Fail> {
+    let first = verify(alloc, program(alloc, &plain(&ALL, 4))?)?;
+    let cases = [Case::Ints(1, 3, 0), Case::Text(1, 0)];
+    let found = goes_round(alloc, &first, &ALL, &cases);
+    drop(first);
+    Ok(found?)
+}
+
 #[test]
 fn every_instruction(rt: HostRuntime) -> Result<(), Fail> {
-    let alloc = rt.alloc();
     law_prefix_free();
-    let first = verify(alloc, program(alloc, &ALL, 4)?)?;
-    let cases = [Case::Ints(1, 3, 0), Case::Text(1, 0)];
-    assert!(rt; goes_round(alloc, &first, &ALL, &cases)?);
+    assert!(rt; all_goes_round(rt.alloc())?);
     Ok(())
 }

@@ -1,11 +1,11 @@
 //! Slots that are found by name.
 ghost use Rattle.std.specs.Prelude.{◌≡◌, ◌<◌, ◌≤◌, length};
 
-use crate::build::program;
+use crate::build::tables;
 use lp_code::name::Name;
 use lp_code::steps::Steps;
 use lp_code::tables::Tables;
-use lp_instr::instr::Instr;
+use std::alloc::{AllocError, Global};
 use std::marker::Brand;
 use std::sync::ledger::{Blank, Ledger};
 use std::test::Fail;
@@ -35,14 +35,22 @@ fn both(tables: &Tables, first: &Name, second: &Name) -> (Option<u16>, Option<u1
     found::<Brand>(Blank::new(1), tables, first, second)
 }
 
-#[test]
-fn by_name(rt: HostRuntime) -> Result<(), Fail> {
-    let alloc = rt.alloc();
-    let raw = program(alloc, &[Instr::ReturnZero], 0)?;
-    let few = raw.tables.slots.as_slice().len() <= 65535;
-    assert!(rt; few);
+/// Whether of the names `f` and `g` the first one's slot is found.
+fn finds(tables: &Tables, first: &Name, second: &Name) -> bool {
+    tables.slots.as_slice().len() <= 65535 && both(tables, first, second) == (Some(0), None)
+}
+
+fn finds_by_name(alloc: Global) -> Result<bool, AllocError> {
     let there = Name::from_str(alloc, "f")?;
     let absent = Name::from_str(alloc, "g")?;
-    assert_eq!(rt; both(&raw.tables, &there, &absent), (Some(0), None));
+    let made = tables(alloc, &["f"])?;
+    let found = finds(&made, &there, &absent);
+    drop(made);
+    Ok(found)
+}
+
+#[test]
+fn by_name(rt: HostRuntime) -> Result<(), Fail> {
+    assert!(rt; finds_by_name(rt.alloc())?);
     Ok(())
 }
