@@ -8,6 +8,7 @@ use Rattle.lp_language.specs.World.{World}
 use Rattle.lp_world.specs.Stands.{Stands}
 use Rattle.lp_world.specs.declared.live.Live.{Live}
 use Rattle.lp_making.proofs.Reloaded.{closed_with_store}
+use Rattle.lp_driver.specs.Driving.{IsAtRest}
 use Rattle.lp_state.specs.States.{GoesOn}
 use Rattle.lp_state.specs.declared.state.State.{State}
 
@@ -34,6 +35,14 @@ stored told programs live w s h f = record {
     generator = h.rest.generator;
     next_clone = h.rest.next_clone;
   };
+}
+
+-- and at rest as before
+pub rests_stored : (told : Option Bytes) (live : Live) (w : World) (s : Store) → ((q : List ℕ) → file_at s q ≡ file_at live.store q) → IsAtRest told live w → IsAtRest told (record live { store = s }) w
+rests_stored told live w s f h = record {
+  programs = h.programs;
+  world = record { stands = stored told h.programs live w s h.world.stands f; compiled = h.world.compiled; shadows = h.world.shadows };
+  outputs = h.outputs;
 }
 
 pub goes_stored : (told : Option Bytes) (old : State) (s : Store) → ((q : List ℕ) → file_at s q ≡ file_at old.live.store q) → GoesOn told old → GoesOn told (record old { live = record old.live { store = s } })

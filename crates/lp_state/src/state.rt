@@ -4,11 +4,11 @@ ghost use Rattle.std.specs.Option.{option_map};
 ghost use Rattle.lp_files.specs.Paths.{without_path};
 ghost use Rattle.lp_files.specs.Store.{changed_in, file_at};
 ghost use Rattle.lp_first.specs.First.{HasFiles};
-ghost use Rattle.lp_language.specs.World.{File};
+ghost use Rattle.lp_language.specs.World.{File, World};
 ghost use Rattle.lp_swapfile.specs.Device.{Bytes};
 ghost use Rattle.lp_report.specs.Report.{Reports};
 ghost use Rattle.lp_residence.specs.Idling.{none_yet};
-ghost use Rattle.lp_driver.specs.Driving.{HasNoMasterIf, StartTells, StartsAs, TurnsAs, start_answer};
+ghost use Rattle.lp_driver.specs.Driving.{HasNoMasterIf, IsAtRest, StartTells, StartsAs, TurnsAs, start_answer};
 ghost use Rattle.lp_driver.specs.Tidying.{HasTidied, TurnTells};
 ghost use Rattle.lp_driver.specs.Turning.{IsSwap, MayCome, NamesNobody};
 ghost use Rattle.lp_state.specs.Faults.{reads_of};
@@ -144,6 +144,7 @@ impl State {
         ensures changed { changed_in (live_in self.new).store ≡ without_path path.now (changed_in (live_in self.old).store) }
         ensures others { IsAsBefore self.old self.new }
         ensures goes { (told : Option Bytes) → GoesOn told self.old → GoesOn told self.new }
+        ensures rest { (told : Option Bytes) (w : World) → IsAtRest told (live_in self.old) w → IsAtRest told (live_in self.new) w }
     {
         self.live.store.written(path);
     }

@@ -8,9 +8,11 @@ ghost use Rattle.lp_top.specs.Ends.{number_of};
 
 mod kept_source;
 mod no_swap;
+mod serving;
 
 use crate::kept_source::KeptSource;
 use crate::no_swap::NoSwap;
+use crate::serving::{is_serve, serve};
 use lp_asking::truth::Truthful;
 use lp_explain::{USAGE, explain};
 use lp_io::{Sink, Source, StdSink, StdSource};
@@ -132,7 +134,11 @@ fn tell_status(rt: &HostRuntime, status: &Status, script: Option<&[u8]>) {
         Status::BadWords => tell_usage(rt),
         _ => {}
     }
-    let number = code(status);
+    tell_number(rt, code(status));
+}
+
+/// Tells on standard error the number with which the program ends, where it is not 0.
+fn tell_number(rt: &HostRuntime, number: u8) {
     if number != 0 {
         let _ = eprintln!(rt; "mud: status {number}");
     }
@@ -147,21 +153,42 @@ fn exit_code(status: &Status) -> ExitCode
 
 /// Carries out the command over this input. A replay puts what is idle into a swap file in memory, which
 /// tells what it holds. The other commands have none.
-fn status<S: Source>(rt: &HostRuntime, input: &mut S) -> Status {
-    let words = match words(rt) {
-        Ok(words) => words,
-        Err(status) => return status,
-    };
-    if is_replay(words.as_slice()) {
+fn status<S: Source>(rt: &HostRuntime, words: &[String], input: &mut S) -> Status {
+    if is_replay(words) {
         let mut swap = MemoryFile::new(rt.alloc());
-        return carried_out(rt, words.as_slice(), input, &mut swap);
+        return carried_out(rt, words, input, &mut swap);
     }
-    carried_out(rt, words.as_slice(), input, &mut NoSwap::new())
+    carried_out(rt, words, input, &mut NoSwap::new())
+}
+
+/// Carries out the command over standard input.
+fn command(rt: &HostRuntime, words: &[String]) -> ExitCode {
+    let mut input = KeptSource::new(rt.alloc(), StdSource::new(rt.stdin()));
+    let status = status(rt, words, &mut input);
+    tell_status(rt, &status, input.kept());
+    exit_code(&status)
+}
+
+/// Serves players.
+fn served(rt: &HostRuntime, words: &[String]) -> ExitCode {
+    let number = serve(rt, words);
+    if number == 1 {
+        tell_usage(rt);
+    }
+    tell_number(rt, number);
+    ExitCode::from(number)
 }
 
 fn main(rt: HostRuntime) -> ExitCode {
-    let mut input = KeptSource::new(rt.alloc(), StdSource::new(rt.stdin()));
-    let status = status(&rt, &mut input);
-    tell_status(&rt, &status, input.kept());
-    exit_code(&status)
+    let words = match words(&rt) {
+        Ok(words) => words,
+        Err(status) => {
+            tell_status(&rt, &status, None);
+            return exit_code(&status);
+        }
+    };
+    if is_serve(words.as_slice()) {
+        return served(&rt, words.as_slice());
+    }
+    command(&rt, words.as_slice())
 }

@@ -1,0 +1,2 @@
+pub mod HostedRuns
+pub mod Played

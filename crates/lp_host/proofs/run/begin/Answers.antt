@@ -1,0 +1,28 @@
+use Rattle.std.proofs.Common.{[], ap, subst, sym, ◌∙◌}
+use Rattle.lp_io.specs.Told.{after_adding}
+use Rattle.lp_core.specs.Turning.{Origin}
+use Rattle.lp_driver.specs.Driving.{StartsAs}
+use Rattle.lp_recording.specs.Recorded.{files_in}
+use Rattle.lp_state.specs.States.{live_in}
+use Rattle.lp_host.specs.Hosting.{opening_written}
+use Rattle.lp_host.specs.Playing.{IsPlayed, world_files}
+use Rattle.lp_host.proofs.HostedRuns.{before_as, has_files, hosted_as}
+use Rattle.lp_host.proofs.Played.{played_begun}
+use Rattle.lp_host.proofs.run.begin.Goals as goal
+
+pub start-started-requires-clause-files :
+    goal.start-started-requires-clause-files
+start-started-requires-clause-files g c = (world_files (files_in c.args.loaded.items), has_files c.args.loaded.items c.args.store c.requires.stored)
+
+pub returns-in-Ok-written : goal.returns-in-Ok-written
+returns-in-Ok-written g c = record {
+  run =
+      let first = g.N.Wire.first c.args.wire.now in
+      let files = c.args.loaded.items in
+      let outs = c.in-Ok.both.1 in
+      let origin : Origin = record { seed = c.args.hosting.now.seed; moment = first; files = files_in files; outputs = outs } in
+      let began = subst (λ n. StartsAs c.args.store c.args.hosting.now.seed n (g.W.SwapFile.content c.start-started.new.swap) (live_in c.in-Ok.both.0) outs) c.opening-moment.ensures.moment c.in-Ok.ensures.starts in
+      let wrote = c.in-Ok-written.ensures.whole ∙ ap (λ fs. after_adding (g.K.Sink.written c.args.out.now) (opening_written c.args.hosting.now.keeps c.args.hosting.now.seed c.opening-moment.result fs outs)) c.as_slice.ensures.value ∙ ap (λ n. after_adding (g.K.Sink.written c.args.out.now) (opening_written c.args.hosting.now.keeps c.args.hosting.now.seed n files outs)) c.opening-moment.ensures.moment in
+      hosted_as c.play.result _ _ _ _ (λ e b p r. (outs, subst (λ o. IsPlayed first origin c.args.hosting.now.keeps o (g.K.Sink.written c.play.new.out) e b p (g.N.Wire.calls c.args.wire.now) (g.N.Wire.calls c.play.new.wire)) wrote r))
+      (c.play.ensures.run origin (played_begun origin c.args.store _ _ (has_files files c.args.store c.requires.stored) began));
+}

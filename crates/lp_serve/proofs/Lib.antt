@@ -1,0 +1,4 @@
+pub mod Doing
+pub mod Ordering
+pub mod RoundsHeard
+pub mod Running

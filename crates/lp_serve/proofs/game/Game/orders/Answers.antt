@@ -1,0 +1,30 @@
+use Rattle.std.proofs.Common.{◌≡◌, true, false, rules, refl, ap, ◌∙◌}
+use Rattle.std.proofs.lemmas.List.{take_all}
+use Rattle.lp_wire.specs.Heard.{order_of}
+use Rattle.lp_serve.proofs.Doing.{does_keeps, does_stops}
+use Rattle.lp_serve.proofs.Ordering.{last_order, more_orders, no_orders, order_on, orders_on}
+use Rattle.lp_serve.proofs.game.Game.orders.Goals as goal
+
+pub loop-line-init : goal.loop-line-init
+loop-line-init g c = record { running = c.requires.running; does = λ origin from. no_orders _ _ _; keeps = refl; faults = refl; first = refl }
+
+pub returns-then-branch-clause-does : goal.returns-then-branch-clause-does
+returns-then-branch-clause-does g c = λ origin from.
+    let stops : c.in_ok-order.field-0 ≡ true = search rules in
+    last_order c.args.lines.now _ _ _ _ _ _ _ (more_orders c.args.lines.now c.loop-line.line-index c.line-item.result c.line-item.result _ _ _ _ _ _ true _ _ _ c.loop-line-test.true c.line-item.is (c.loop-line.invariant.does origin from)
+    (does_keeps _ _ _ _ _ _ _ _ _ _ _ _ _ c.loop-line.invariant.keeps (order_on _ _ _ _ _ _ _ _ _ (ap order_of c.as_slice.ensures) (does_stops _ _ _ _ _ _ _ _ _ stops (c.in_ok-order.ensures.does origin from)))))
+
+pub loop-line-preserved : goal.loop-line-preserved
+loop-line-preserved g c =
+    let stops : c.in_ok-order.field-0 ≡ false = search rules in
+    record {
+      running = c.in_ok-order.ensures.running;
+      does = λ origin from. more_orders c.args.lines.now c.loop-line.line-index c.line-item.result c.line-item.result _ _ _ _ _ _ false _ _ _ c.loop-line-test.true c.line-item.is (c.loop-line.invariant.does origin from)
+          (does_keeps _ _ _ _ _ _ _ _ _ _ _ _ _ c.loop-line.invariant.keeps (order_on _ _ _ _ _ _ _ _ _ (ap order_of c.as_slice.ensures) (does_stops _ _ _ _ _ _ _ _ _ stops (c.in_ok-order.ensures.does origin from))));
+      keeps = c.in_ok-order.ensures.keeps ∙ c.loop-line.invariant.keeps;
+      faults = c.in_ok-order.ensures.faults ∙ c.loop-line.invariant.faults;
+      first = c.in_ok-order.ensures.first ∙ c.loop-line.invariant.first;
+    }
+
+pub returns-clause-does : goal.returns-clause-does
+returns-clause-does g c = λ origin from. orders_on _ _ _ _ _ _ _ _ _ (take_all c.loop-line.line-index c.args.lines.now c.loop-line-test.false) (c.loop-line.invariant.does origin from)

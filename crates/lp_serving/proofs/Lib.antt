@@ -1,0 +1,4 @@
+pub mod EventsRecorded
+pub mod Going
+pub mod Happening
+pub mod LinesHeard

@@ -1,0 +1,20 @@
+use Rattle.std.proofs.Common.{refl, ◌∙◌}
+use Rattle.std.proofs.lemmas.List.{take_all}
+use Rattle.lp_serving.proofs.LinesHeard.{no_lines, lines_on, more_lines, line_on, happens_keeps}
+use Rattle.lp_serving.proofs.server.Server.lines.Goals as goal
+
+pub loop-line-init : goal.loop-line-init
+loop-line-init g c = record { running = c.requires.running; goes = λ origin from. no_lines c.args.k _ _ _ _ _; keeps = refl; faults = refl; first = refl }
+
+pub loop-line-preserved : goal.loop-line-preserved
+loop-line-preserved g c = record {
+  running = c.in_ok-line.ensures.running;
+  goes = λ origin from. more_lines c.args.k c.args.lines.now c.loop-line.line-index c.line-item.result c.line-item.result _ _ _ _ _ _ _ _ _ _ _ _ _ _ _ c.loop-line-test.true c.line-item.is (c.loop-line.invariant.goes origin from)
+      (happens_keeps _ _ _ _ _ _ _ _ _ _ _ _ _ _ _ _ c.loop-line.invariant.keeps (line_on c.args.k _ _ _ _ _ _ _ _ _ _ _ _ c.as_slice.ensures (c.in_ok-line.ensures.goes origin from)));
+  keeps = c.in_ok-line.ensures.keeps ∙ c.loop-line.invariant.keeps;
+  faults = c.in_ok-line.ensures.faults ∙ c.loop-line.invariant.faults;
+  first = c.in_ok-line.ensures.first ∙ c.loop-line.invariant.first;
+}
+
+pub returns-clause-goes : goal.returns-clause-goes
+returns-clause-goes g c = λ origin from. lines_on c.args.k _ _ _ _ _ _ _ _ _ _ _ _ (take_all c.loop-line.line-index c.args.lines.now c.loop-line-test.false) (c.loop-line.invariant.goes origin from)
