@@ -38,7 +38,7 @@ def free_ports(count):
 class Server:
     """`mud serve` over a copy of the harbour, in a folder of its own, or over a folder that is there."""
 
-    def __init__(self, program, lib=None, record=True, patience=120):
+    def __init__(self, program, lib=None, record=True, patience=120, more=()):
         self.program = os.path.abspath(program)
         self.folder = tempfile.mkdtemp(prefix="mud-served-")
         self.lib = lib or shutil.copytree(GAME, os.path.join(self.folder, "lib"))
@@ -50,6 +50,7 @@ class Server:
                  "--control", str(self.control)]
         if record:
             words += ["--record", self.record]
+        words += more
         self.process = subprocess.Popen(words, cwd=self.folder, stdin=subprocess.DEVNULL,
                                         stdout=self.log, stderr=self.said)
         self.wait_until_it_listens(patience)
