@@ -1,5 +1,5 @@
 -- What the devices did in a hosted game, by how it ended: only a device whose count rose is blamed, or the swap file where it gave other bytes.
-use Rattle.std.specs.Prelude.{◌≡◌, ⊤, ⊥, ℕ, List, Bool, true, false, Option, Some, None, string_bytes, codes, ◌⊎◌}
+use Rattle.std.specs.Prelude.{◌≡◌, ⊤, ℕ, List, Bool, true, false, Option, Some, None, string_bytes, codes, ◌⊎◌}
 use Rattle.lp_io.specs.Counts.{Rose}
 use Rattle.lp_tree.specs.declared.fault.Fault.{Fault}
 use Rattle.lp_swapfile.specs.Counts as swap

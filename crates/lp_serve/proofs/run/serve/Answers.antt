@@ -1,5 +1,6 @@
 use Rattle.std.proofs.Common.{◌≡◌, ◌≤◌, ◌<◌, ◌+◌, ℕ, [], true, false, rules, refl, ap, sym, subst, ◌∙◌, arith}
 use Rattle.lp_recording.specs.Recorded.{ending}
+use Rattle.lp_serving.proofs.Causes.{output_then}
 use Rattle.lp_serve.specs.declared.run.Served.{Served}
 use Rattle.lp_serve.specs.Served.{AsEnded}
 use Rattle.lp_serve.proofs.Running.{early_as, has_run, round_keeps, runs_begin, runs_more, runs_stops, runs_vain, stop_ends, written_none}
@@ -12,6 +13,9 @@ loop-polls-init g c = record {
   keeps = c.new-game.ensures.keeps;
   faults = refl;
   first = refl;
+  output = (refl, refl);
+  files = omega arith;
+  swap = λ from q. q;
 }
 
 pub loop-polls-preserved : goal.loop-polls-preserved
@@ -22,6 +26,9 @@ loop-polls-preserved g c = record {
   keeps = c.round.ensures.keeps ∙ c.loop-polls.invariant.keeps;
   faults = c.in-Ok-false.ensures.faults ∙ c.loop-polls.invariant.faults;
   first = c.round.ensures.first ∙ c.loop-polls.invariant.first;
+  output = output_then false _ _ _ _ _ _ c.loop-polls.invariant.output c.in-Ok-false.ensures.output;
+  files = omega (arith, c.loop-polls.invariant.files, c.round.ensures.files);
+  swap = λ from q. c.in-Ok-false.ensures.swap from (c.loop-polls.invariant.swap from q);
 }
 
 pub returns-in-Ok-true-clause-run : goal.returns-in-Ok-true-clause-run
