@@ -1,13 +1,22 @@
 -- Which device an end of a hosted game blames.
 use Rattle.std.proofs.Common.{subst, ◌≡◌, ℕ, List, [], Bool, true, false, Option, Some, None, Result, Ok, Err, String, IfErr, refl, sym, ◌∙◌, ◌⊎◌, inl, inr}
 use Rattle.std.specs.Global.{Global}
+use Rattle.lp_files.specs.declared.store.Store.{Store}
+use Rattle.lp_first.specs.First.{HasFiles}
+use Rattle.lp_front_end.specs.FrontEnds.{IsFrontEnd}
 use Rattle.lp_io.specs.Counts.{Counts, Rose}
+use Rattle.lp_io.specs.Told.{is_failed, is_zero_taken}
+use Rattle.lp_io.specs.declared.put.PutFault.{PutFault}
+use Rattle.lp_io.specs.declared.put.PutFault.TheVariants as put
+use Rattle.lp_language.specs.World.{File}
+use Rattle.lp_meaning.specs.Closing.{MakesNoMaster}
+use Rattle.lp_meaning.specs.FrontEnd.{FrontEnd}
 use Rattle.lp_tree.specs.declared.fault.Fault.{Fault}
 use Rattle.lp_swapfile.specs.Counts as swap
 use Rattle.lp_swapfile.specs.Device.{Bytes, Last}
 use Rattle.lp_core.specs.declared.driver.Stop.{Stop}
 use Rattle.lp_core.specs.declared.driver.Stop.TheVariants as stops
-use Rattle.lp_driver.specs.Driving.{StartTells, start_answer}
+use Rattle.lp_driver.specs.Driving.{HasNoMasterIf, StartTells, start_answer}
 use Rattle.lp_driver.specs.Tidying.{TurnTells}
 use Rattle.lp_driver.specs.VmFault.TheVariants as driver
 use Rattle.lp_driver.specs.declared.driver.StartFault.{StartFault}
@@ -23,7 +32,7 @@ use Rattle.lp_state.specs.declared.fault.TurnFault.{TurnFault}
 use Rattle.lp_state.specs.declared.fault.TurnFault.TheVariants as faults
 use Rattle.lp_world.specs.declared.live.Live.{Live}
 use Rattle.lp_host.specs.Causes.{BlamesFiles, IsInOrder, IsNoMaster, IsQuiet, NothingFailed, SwapTells, is_output_end, is_read_end, is_wire_end}
-use Rattle.lp_host.specs.Hosting.{ended_of, hosted_of, stopped_of, unstarted_of}
+use Rattle.lp_host.specs.Hosting.{IsUnloaded, ended_of, hosted_of, stopped_of, unstarted_of}
 use Rattle.lp_host.specs.declared.run.Hosted.{Hosted}
 use Rattle.lp_host.specs.declared.run.Hosted.TheVariants.{Done, NoMaster, OutputFault, SwapFault, FilesFault, WireFault, TurnsSpent, NotYet, NoMemory}
 
@@ -199,3 +208,38 @@ in_order (FilesFault path) told last f0 f1 z0 z1 i0 i1 n0 n1 r0 r1 t0 t1 h0 h1 o
 in_order WireFault told last f0 f1 z0 z1 i0 i1 n0 n1 r0 r1 t0 t1 h0 h1 o f w s none = none.wire w
 in_order (SwapFault Read) told last f0 f1 z0 z1 i0 i1 n0 n1 r0 r1 t0 t1 h0 h1 o f w s none = none.reads s.faults
 in_order (SwapFault (Changed owner found)) told last f0 f1 z0 z1 i0 i1 n0 n1 r0 r1 t0 t1 h0 h1 o f w s none = (s.honest none.honest).1 none.truthful
+
+-- No master, as it was found on the store of the files
+
+pub no_master_of : (f : StartFault) (store : Store) (seed moment first : ℕ) (files : List File) → moment ≡ first → HasFiles store files → HasNoMasterIf store seed moment f → IfNoMaster f (λ fs. (front : FrontEnd) → IsFrontEnd front → MakesNoMaster front files seed first fs)
+no_master_of (start.NoMaster fs) store seed moment first files at has none = λ front real. subst (λ (n : ℕ). MakesNoMaster front files seed n fs.items) at (none front files real has)
+no_master_of (start.Stopped e) store seed moment first files at has none = tt
+
+-- A write that failed
+
+pub put_err : (e : PutFault) (f0 f1 z0 z1 : ℕ) → Counts (is_failed (Err e)) f0 f1 → Counts (is_zero_taken (Err e)) z0 z1 → OutputTells true f0 f1 z0 z1
+put_err put.Failed f0 f1 z0 z1 f z = inl f
+put_err put.ZeroTaken f0 f1 z0 z1 f z = inr z
+
+-- The files could not be loaded
+
+pub unloaded_so : (P : Hosted → Type 0) (s : Hosted) → IsUnloaded s → ((path : String Global) → P (FilesFault path)) → P NoMemory → P s
+unloaded_so P (FilesFault path) u f m = f path
+unloaded_so P NoMemory u f m = m
+unloaded_so P Done u f m = absurd u
+unloaded_so P TurnsSpent u f m = absurd u
+unloaded_so P WireFault u f m = absurd u
+unloaded_so P OutputFault u f m = absurd u
+unloaded_so P (NoMaster faults) u f m = absurd u
+unloaded_so P (SwapFault cause) u f m = absurd u
+unloaded_so P NotYet u f m = absurd u
+
+pub still_swap : (told : Option Bytes) (last : Last) (reads : ℕ) (truthful honest : Type 0) (path : String Global) → SwapTells (FilesFault path) told last reads reads truthful truthful honest honest
+still_swap told last reads truthful honest path = record { cause = tt; faults = refl; truthful = λ y. y; honest = λ y. (y, λ z. tt) }
+
+pub still_memory : (told : Option Bytes) (last : Last) (reads : ℕ) (truthful honest : Type 0) → SwapTells NoMemory told last reads reads truthful truthful honest honest
+still_memory told last reads truthful honest = record { cause = tt; faults = refl; truthful = λ y. y; honest = λ y. (y, λ z. tt) }
+
+-- the count of the files did not change before
+pub files_from : (s : Hosted) (a b c : ℕ) → b ≡ a → BlamesFiles s b c → BlamesFiles s a c
+files_from s a b c same t = subst (λ (n : ℕ). BlamesFiles s n c) same t
