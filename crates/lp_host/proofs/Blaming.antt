@@ -5,9 +5,6 @@ use Rattle.lp_files.specs.declared.store.Store.{Store}
 use Rattle.lp_first.specs.First.{HasFiles}
 use Rattle.lp_front_end.specs.FrontEnds.{IsFrontEnd}
 use Rattle.lp_io.specs.Counts.{Counts, Rose}
-use Rattle.lp_io.specs.Told.{is_failed, is_zero_taken}
-use Rattle.lp_io.specs.declared.put.PutFault.{PutFault}
-use Rattle.lp_io.specs.declared.put.PutFault.TheVariants as put
 use Rattle.lp_language.specs.World.{File}
 use Rattle.lp_meaning.specs.Closing.{MakesNoMaster}
 use Rattle.lp_meaning.specs.FrontEnd.{FrontEnd}
@@ -214,12 +211,6 @@ in_order (SwapFault (Changed owner found)) told last f0 f1 z0 z1 i0 i1 n0 n1 r0 
 pub no_master_of : (f : StartFault) (store : Store) (seed moment first : ℕ) (files : List File) → moment ≡ first → HasFiles store files → HasNoMasterIf store seed moment f → IfNoMaster f (λ fs. (front : FrontEnd) → IsFrontEnd front → MakesNoMaster front files seed first fs)
 no_master_of (start.NoMaster fs) store seed moment first files at has none = λ front real. subst (λ (n : ℕ). MakesNoMaster front files seed n fs.items) at (none front files real has)
 no_master_of (start.Stopped e) store seed moment first files at has none = tt
-
--- A write that failed
-
-pub put_err : (e : PutFault) (f0 f1 z0 z1 : ℕ) → Counts (is_failed (Err e)) f0 f1 → Counts (is_zero_taken (Err e)) z0 z1 → OutputTells true f0 f1 z0 z1
-put_err put.Failed f0 f1 z0 z1 f z = inl f
-put_err put.ZeroTaken f0 f1 z0 z1 f z = inr z
 
 -- The files could not be loaded
 

@@ -2,6 +2,9 @@
 use Rattle.std.proofs.Common.{subst, ◌≡◌, ℕ, ◌<◌, ◌≤◌, ◌+◌, List, [], ◌∷◌, length, take, Bool, true, false, Option, Some, None, Result, Ok, Err, IfOk, OnErr, String, refl, sym, ◌⊎◌, inl, inr, arith}
 use Rattle.std.specs.Global.{Global}
 use Rattle.lp_io.specs.Counts.{Counts, Rose}
+use Rattle.lp_io.specs.Told.{is_failed, is_zero_taken}
+use Rattle.lp_io.specs.declared.put.PutFault.{PutFault}
+use Rattle.lp_io.specs.declared.put.PutFault.TheVariants as put
 use Rattle.lp_core.specs.declared.driver.Stop.{Stop}
 use Rattle.lp_folder.specs.Held.{Held}
 use Rattle.lp_flush.specs.Flushing.{IsCutShort, StopsAt}
@@ -14,7 +17,7 @@ use Rattle.lp_serve.specs.declared.run.Early.TheVariants as early
 use Rattle.lp_serve.specs.declared.run.Served.{Served}
 use Rattle.lp_serve.specs.declared.run.Served.TheVariants.{Done, OutputFault, FilesFault, WireFault, TurnsSpent, Stopped, NoMemory}
 use Rattle.lp_serve.specs.Causes.{EarlyTells, FilesTell, HasNotRisen, IsBlameless, SwapTells, TriedLast, is_early_output, is_output_fault, is_wire_fault}
-use Rattle.lp_serve.specs.Served.{early_served}
+use Rattle.lp_serve.specs.Served.{early_served, is_vain}
 
 -- an end before the end of a round
 
@@ -92,3 +95,31 @@ blameless NoMemory f0 f1 z0 z1 i0 i1 n0 n1 tried o f w a b c d = tt
 blameless OutputFault f0 f1 z0 z1 i0 i1 n0 n1 tried o f w a b c d = elim o [ inl rose ↦ a rose | inr rose ↦ b rose ]
 blameless (FilesFault path) f0 f1 z0 z1 i0 i1 n0 n1 tried o f w a b c d = c f.1
 blameless WireFault f0 f1 z0 z1 i0 i1 n0 n1 tried o f w a b c d = d w
+
+early_wire : (e : Early) (n0 n1 : ℕ) → Counts (is_vain (Err e)) n0 n1 → Counts (is_wire_fault (early_served e)) n0 n1
+early_wire early.Wire n0 n1 t = t
+early_wire (early.At ends.Output) n0 n1 t = t
+early_wire (early.At (ends.Stopped why)) n0 n1 t = t
+early_wire (early.At ends.NoMemory) n0 n1 t = t
+
+pub early_wire_as : (s : Served) (e : Early) (n0 n1 n2 : ℕ) → s ≡ early_served e → n1 ≡ n0 → Counts (is_vain (Err e)) n1 n2 → Counts (is_wire_fault s) n0 n2
+early_wire_as s e n0 n1 n2 is same t = subst (λ (x : Served). Counts (is_wire_fault x) n0 n2) (sym is) (subst (λ (n : ℕ). Counts (is_wire_fault (early_served e)) n n2) same (early_wire e n1 n2 t))
+
+pub still_wire : (s : Served) (n0 n1 : ℕ) → is_wire_fault s ≡ false → n1 ≡ n0 → Counts (is_wire_fault s) n0 n1
+still_wire s n0 n1 none same = subst (λ (b : Bool). Counts b n0 n1) (sym none) same
+
+pub put_err : (e : PutFault) (f0 f1 z0 z1 : ℕ) → Counts (is_failed (Err e)) f0 f1 → Counts (is_zero_taken (Err e)) z0 z1 → OutputTells true f0 f1 z0 z1
+put_err put.Failed f0 f1 z0 z1 f z = inl f
+put_err put.ZeroTaken f0 f1 z0 z1 f z = inr z
+
+-- the same, of an answer as it was matched
+
+pub tried_last_as : (shown failed : Option (String Global)) (file0 file1 : List ℕ → Option (List ℕ)) (held : Option Held) (faults : ℕ) (listed changed : List (List ℕ)) (now : Option Held) (count : ℕ) → shown ≡ failed → ((q : List ℕ) → file1 q ≡ file0 q)
+    → StopsAt shown file0 held faults listed changed now count → TriedLast failed file1 faults changed now count
+tried_last_as shown failed file0 file1 held faults listed changed now count is same s =
+    tried_last failed file0 file1 held faults listed changed now count same (subst (λ (x : Option (String Global)). StopsAt x file0 held faults listed changed now count) is s)
+
+pub stops_rose_as : (shown : Option (String Global)) (path : String Global) (file : List ℕ → Option (List ℕ)) (held : Option Held) (faults : ℕ) (listed changed : List (List ℕ)) (now : Option Held) (count : ℕ) → shown ≡ Some path
+    → StopsAt shown file held faults listed changed now count → Rose faults count
+stops_rose_as shown path file held faults listed changed now count is s =
+    stops_rose path file held faults listed changed now count (subst (λ (x : Option (String Global)). StopsAt x file held faults listed changed now count) is s)

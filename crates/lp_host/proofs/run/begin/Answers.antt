@@ -3,11 +3,12 @@ use Rattle.lp_io.specs.Told.{after_adding}
 use Rattle.lp_core.specs.Turning.{Origin}
 use Rattle.lp_driver.specs.Driving.{StartsAs}
 use Rattle.lp_recording.specs.Recorded.{files_in}
+use Rattle.lp_serve.proofs.Blaming.{put_err}
 use Rattle.lp_serving.proofs.Causes.{output_then}
 use Rattle.lp_state.specs.States.{live_in}
 use Rattle.lp_host.specs.Hosting.{opening_written}
 use Rattle.lp_host.specs.Playing.{IsPlayed, world_files}
-use Rattle.lp_host.proofs.Blaming.{master_as, no_master_of, put_err, quiet_output, start_blames, start_quiet, unstarted_files, unstarted_master, unstarted_output, unstarted_wire}
+use Rattle.lp_host.proofs.Blaming.{master_as, no_master_of, quiet_output, start_blames, start_quiet, unstarted_files, unstarted_master, unstarted_output, unstarted_wire}
 use Rattle.lp_host.proofs.HostedRuns.{has_files, hosted_as, unstarted_as}
 use Rattle.lp_host.proofs.Played.{played_begun}
 use Rattle.lp_host.proofs.run.begin.Goals as goal
