@@ -1,4 +1,4 @@
-use Rattle.std.proofs.Common.{[], ap, absurd, refl, subst, sym, ◌∙◌}
+use Rattle.std.proofs.Common.{[], ap, refl, subst, sym, ◌∙◌}
 use Rattle.lp_io.specs.Told.{after_adding}
 use Rattle.lp_core.specs.Turning.{Origin}
 use Rattle.lp_driver.specs.Driving.{StartsAs}
