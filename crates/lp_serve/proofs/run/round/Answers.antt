@@ -1,5 +1,5 @@
 use Rattle.lp_serve.proofs.Running.{round_goes, round_written}
-use Rattle.std.proofs.Common.{◌≤◌, arith}
+use Rattle.std.proofs.Common.{arith}
 use Rattle.lp_serving.proofs.Causes.{flush_no_fall}
 use Rattle.lp_serve.proofs.run.round.Goals as goal
 
