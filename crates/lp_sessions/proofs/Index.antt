@@ -1,6 +1,11 @@
 -- An index of a table: those that it leaves out are idle, so nothing is offered for them.
-use Rattle.std.proofs.Common.{subst, ◌≡◌, ℕ, zero, suc, ◌<◌, ◌≤◌, ◌+◌, ◌-◌, List, [], ◌∷◌, ◌++◌, length, take, drop, get_or, slice_set, nat_eq, nat_lt, Bool, true, false, ◌||◌, Option, Some, refl, sym, ap, ◌∙◌, append_assoc, arith, inl, inr}
-use Rattle.std.specs.List.{list_any, remove, insert}
+use Rattle.std.proofs.Common.{rules, Err, subst, ◌≡◌, ℕ, zero, suc, ◌<◌, ◌≤◌, ◌+◌, ◌-◌, List, [], ◌∷◌, ◌++◌, length, take, drop, get_or, slice_set, nat_eq, nat_lt, Bool, true, false, ◌||◌, Option, Some, refl, sym, ap, ◌∙◌, append_assoc, arith, inl, inr}
+use Rattle.std.specs.List.{list_any, remove}
+use Rattle.std.specs.declared.cmp.Ordering.TheVariants.{Less, Greater}
+use Rattle.std.specs.Ordering.{nat_cmp, ordering_index, is_lt}
+use Rattle.std.specs.List.Sorted.{IsBinarySearchResult, IsNonDecreasingBy}
+use Rattle.std.proofs.lemmas.Cmp.{nat_cmp_total}
+use Rattle.std.proofs.lemmas.List.Sorted.{searchable_from_sorted}
 use Rattle.std.proofs.lemmas.Bool.{cases_Bool, true≢false}
 use Rattle.std.proofs.lemmas.List.{drop-drop, get_or-drop, length-drop, take_all, take_more}
 use Rattle.lp_telnet.specs.Lines.{Place}
@@ -14,6 +19,7 @@ use Rattle.lp_sessions.specs.Tied.{OffersOne, PhaseOffers, TellsOne, new_session
 use Rattle.lp_sessions.specs.All.{AreAbove, AreOther, OffersAll, TellsAll, numbers, one_more}
 use Rattle.lp_sessions.specs.Index.{AreIdle, AreIdleAt, AreIdleBut, IsIdle, IsIndex}
 use Rattle.lp_sessions.specs.Serving.{AreQuick, IsSlowest}
+use Rattle.lp_sessions.proofs.Finding.{not_less}
 use Rattle.lp_sessions.proofs.Outputs.{above_at}
 use Rattle.lp_sessions.proofs.Serving.{above_lower, any_in, quick_more, same_number}
 use Rattle.lp_sessions.proofs.SoFar.{SoFar, so_far_all, so_far_next, so_far_none}
@@ -90,6 +96,31 @@ any_removed j (k ∷ ks) (suc i) d lt apart none = elim (cases_Bool (nat_eq j k)
   | inr n ↦ let rest : list_any (nat_eq j) (remove ks i) ≡ false = rw n at none in rw n (any_removed j ks i d (omega (arith, lt)) apart rest)
 ]
 
+-- Where a binary search finds a gap
+
+each_more : (low : ℕ) (ks : List ℕ) → AreAbove low ks → (k d : ℕ) → suc k < length ks → is_lt (nat_cmp (get_or ks (suc k) d) (get_or ks k d)) ≡ false
+each_more low [] above k d lt = absurd (omega (arith, lt))
+each_more low (x ∷ []) above k d lt = absurd (omega (arith, lt))
+each_more low (x ∷ y ∷ ks) above zero d lt = not_less x y above.1.0
+each_more low (x ∷ y ∷ ks) above (suc k) d lt = each_more x (y ∷ ks) above.1 k d (omega (arith, lt))
+
+rises : (n : ℕ) (ks : List ℕ) → AreAbove 0 ks → IsNonDecreasingBy (λ (k : ℕ). ordering_index (nat_cmp k n)) ks
+rises n ks above = searchable_from_sorted nat_cmp_total (λ (k : ℕ). k) ks n (λ k d low high.
+    let next : k + 1 ≡ suc k = omega arith in
+    rw next (each_more 0 ks above k d (omega (arith, low, high))))
+
+less_is : (a b : ℕ) → nat_cmp a b ≡ Less → a < b
+less_is a b e = search rules
+
+greater_is : (a b : ℕ) → nat_cmp a b ≡ Greater → b < a
+greater_is a b e = search rules
+
+pub gap_below : (n : ℕ) (ks : List ℕ) (i : ℕ) → AreAbove 0 ks → IsBinarySearchResult (λ (k : ℕ). nat_cmp k n) ks (Err i) → (j d : ℕ) → j < i → get_or ks j d < n
+gap_below n ks i above parted j d less = less_is (get_or ks j d) n ((parted (rises n ks above)).0 j d (omega arith) less)
+
+pub gap_over : (n : ℕ) (ks : List ℕ) (i : ℕ) → AreAbove 0 ks → IsBinarySearchResult (λ (k : ℕ). nat_cmp k n) ks (Err i) → (j d : ℕ) → i ≤ j → j < length ks → n < get_or ks j d
+gap_over n ks i above parted j d from less = greater_is (get_or ks j d) n ((parted (rises n ks above)).1 j d from less)
+
 -- Indexes are kept
 
 idle_set : (listed : List ℕ) (i : ℕ) (ss : List Session) (s1 : Session) → list_any (nat_eq s1.number) listed ≡ true → AreIdleBut listed ss → AreIdleBut listed (slice_set ss i s1)
@@ -144,11 +175,13 @@ inserted listed i k = any_in k (take i listed) (drop i listed)
 -- one number less, whose connection is idle or not there
 idle_removed : (listed : List ℕ) (i d : ℕ) (ss : List Session) → i < length listed → AreIdleAt (get_or listed i d) ss → AreIdleBut listed ss → AreIdleBut (remove listed i) ss
 idle_removed listed i d [] lt own idle = tt
-idle_removed listed i d (s ∷ ss) lt own idle =
-    (λ un. elim (cases_Bool (nat_eq s.number (get_or listed i d))) [
-      | inl y ↦ own.0 y
-      | inr n ↦ idle.0 (any_removed s.number listed i d lt n un)
-    ], idle_removed listed i d ss lt own.1 idle.1)
+idle_removed listed i d (s ∷ ss) lt own idle = (
+  λ un. elim (cases_Bool (nat_eq s.number (get_or listed i d))) [
+    | inl y ↦ own.0 y
+    | inr n ↦ idle.0 (any_removed s.number listed i d lt n un)
+  ],
+  idle_removed listed i d ss lt own.1 idle.1,
+)
 
 pub index_removed : (listed : List ℕ) (i k d : ℕ) (ss : List Session) → i < length listed → k ≡ get_or listed i d → AreIdleAt k ss → IsIndex listed ss → IsIndex (remove listed i) ss
 index_removed listed i k d ss lt is own x =

@@ -60,9 +60,12 @@ pub(crate) fn offer_listed<N: Wire>(sessions: &mut Vec<Session>, listed: &[u32],
 {
     let mut done = 0;
     for at in 0..listed.len() {
-        if let Some(i) = place_behind(sessions.as_slice(), done, listed[at]) {
-            sessions[i].offer(wire);
-            done = i + 1;
+        match place_behind(sessions.as_slice(), done, listed[at]) {
+            Some(i) => {
+                sessions[i].offer(wire);
+                done = i + 1;
+            }
+            None => {}
         }
     }
 }
@@ -153,11 +156,7 @@ fn take_at(
 }
 
 // Takes one output in. Where memory is wanting no connection changes.
-fn take_one(
-    sessions: &mut Vec<Session>,
-    listed: &mut Vec<u32>,
-    out: &Out,
-) -> Result<(), AllocError>
+fn take_one(sessions: &mut Vec<Session>, listed: &mut Vec<u32>, out: &Out) -> Result<(), AllocError>
     requires table { AreAbove 0 (numbers sessions.now.items) }
     requires index { IsIndex listed.now.items sessions.now.items }
     ensures ok { OnOk result (TakesOut out.now sessions.old.items sessions.new.items) }
@@ -211,11 +210,14 @@ pub(crate) fn slowest_listed(sessions: &[Session], listed: &[u32]) -> Option<usi
 {
     let mut done = 0;
     for at in 0..listed.len() {
-        if let Some(i) = place_behind(sessions, done, listed[at]) {
-            if is_slow(&sessions[i]) {
-                return Some(i);
+        match place_behind(sessions, done, listed[at]) {
+            Some(i) => {
+                if is_slow(&sessions[i]) {
+                    return Some(i);
+                }
+                done = i + 1;
             }
-            done = i + 1;
+            None => {}
         }
     }
     None
