@@ -1,4 +1,4 @@
-use Rattle.std.proofs.Common.{◌≡◌, ◌<◌, length, drop, nat_lt, true, false, ℕ, rules, sym, subst, ◌∙◌}
+use Rattle.std.proofs.Common.{◌≡◌, ◌<◌, length, drop, get_or, nat_lt, true, false, rules, sym, subst, ◌∙◌}
 use Rattle.std.proofs.lemmas.Bool.{ltb-true}
 use Rattle.std.proofs.lemmas.List.{drop_all, drop_more}
 use Rattle.lp_wire.specs.Heard.{most_pending}
@@ -16,9 +16,16 @@ returns-then-is_slow-clause-some c =
 
 pub loop-at-preserved : goal.loop-at-preserved
 loop-at-preserved c =
+    let ss = c.args.sessions.now in
+    let v = c.loop-at.invariant in
+    let split = drop_more c.args.listed.now c.loop-at.at 0 c.loop-at-test.true in
     elim c.match-place_behind.branch [
-      | in-Some+else-is_slow w ↦ ?
-      | in-None w ↦ ?
+      | in-Some+else-is_slow w ↦
+          let s = w.index-sessions-i.result in
+          let small : nat_lt most_pending (length (get_or ss w.in-Some.i s).outbox) ≡ false =
+          subst (λ (x : Session). nat_lt most_pending (length x.outbox) ≡ false) w.index-sessions-i.is (sym w.is_slow.ensures ∙ w.if-is_slow.false) in
+          rw w.done-is (looks_found ss _ _ _ c.loop-at.done w.in-Some.i s split c.requires.table w.in-Some.ensures.behind w.in-Some.ensures.within (w.in-Some.ensures.found s) small v)
+      | in-None w ↦ rw w.done-is (looks_none ss _ _ _ c.loop-at.done split w.in-None.ensures.none v)
     ]
 
 pub returns-clause-none : goal.returns-clause-none
