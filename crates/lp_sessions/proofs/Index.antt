@@ -1,5 +1,5 @@
 -- An index of a table: those that it leaves out are idle, so nothing is offered for them.
-use Rattle.std.proofs.Common.{rules, Err, subst, ◌≡◌, ℕ, zero, suc, ◌<◌, ◌≤◌, ◌+◌, ◌-◌, List, [], ◌∷◌, ◌++◌, length, take, drop, get_or, slice_set, nat_eq, nat_lt, Bool, true, false, ◌||◌, Option, Some, refl, sym, ap, ◌∙◌, append_assoc, arith, inl, inr}
+use Rattle.std.proofs.Common.{rules, Err, subst, ◌≡◌, ℕ, zero, suc, ◌<◌, ◌≤◌, ◌+◌, ◌-◌, List, [], ◌∷◌, ◌++◌, length, take, drop, get_or, slice_set, nat_eq, nat_lt, Bool, true, false, ◌||◌, Option, refl, sym, ap, ◌∙◌, append_assoc, arith, inl, inr}
 use Rattle.std.specs.List.{list_any, remove}
 use Rattle.std.specs.declared.cmp.Ordering.TheVariants.{Less, Greater}
 use Rattle.std.specs.Ordering.{nat_cmp, ordering_index, is_lt}
@@ -7,7 +7,7 @@ use Rattle.std.specs.List.Sorted.{IsBinarySearchResult, IsNonDecreasingBy}
 use Rattle.std.proofs.lemmas.Cmp.{nat_cmp_total}
 use Rattle.std.proofs.lemmas.List.Sorted.{searchable_from_sorted}
 use Rattle.std.proofs.lemmas.Bool.{cases_Bool, true≢false}
-use Rattle.std.proofs.lemmas.List.{drop-drop, get_or-drop, length-drop, take_all, take_more}
+use Rattle.std.proofs.lemmas.List.{drop-drop, get_or-drop, length-drop, take_all}
 use Rattle.lp_telnet.specs.Lines.{Place}
 use Rattle.lp_wire.specs.Heard.{most_pending}
 use Rattle.lp_wire.specs.Wires.{nothing}
@@ -21,9 +21,9 @@ use Rattle.lp_sessions.specs.Index.{AreIdle, AreIdleAt, AreIdleBut, IsIdle, IsIn
 use Rattle.lp_sessions.specs.Serving.{AreQuick, IsSlowest}
 use Rattle.lp_sessions.proofs.Finding.{not_less}
 use Rattle.lp_sessions.proofs.Outputs.{above_at}
-use Rattle.lp_sessions.proofs.Serving.{above_lower, any_in, quick_more, same_number}
+use Rattle.lp_sessions.proofs.Serving.{above_lower, any_in, quick_more}
 use Rattle.lp_sessions.proofs.SoFar.{SoFar, so_far_all, so_far_next, so_far_none}
-use Rattle.lp_sessions.proofs.Taking.{above_other, below_other, eq_self, turned}
+use Rattle.lp_sessions.proofs.Taking.{above_other, below_other, eq_self}
 use Rattle.lp_sessions.proofs.Tables.{any_default}
 
 -- Lists

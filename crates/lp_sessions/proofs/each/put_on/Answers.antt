@@ -1,9 +1,8 @@
-use Rattle.std.proofs.Common.{◌≡◌, ◌≤◌, ◌<◌, length, get_or, ℕ, List, nat_eq, true, arith, sym, ap, subst}
-use Rattle.std.specs.List.{list_any}
+use Rattle.std.proofs.Common.{◌≤◌, ◌<◌, length, get_or, ℕ, List, sym, subst}
 use Rattle.std.specs.FinMap.{nat_cmp-IsAntisymmetric}
 use Rattle.lp_sessions.specs.Index.{IsListed}
 use Rattle.lp_sessions.specs.All.{AreAbove}
-use Rattle.lp_sessions.proofs.Index.{gap_below, gap_over, index_insert, inserted, listed_found}
+use Rattle.lp_sessions.proofs.Index.{gap_below, gap_over, index_insert, listed_found}
 use Rattle.lp_sessions.proofs.each.put_on.Goals as goal
 
 pub returns-in-Ok-clause-listed : goal.returns-in-Ok-clause-listed

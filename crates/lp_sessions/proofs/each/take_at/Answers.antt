@@ -1,4 +1,4 @@
-use Rattle.std.proofs.Common.{◌≡◌, ◌<◌, length, refl, sym, ap, subst, ◌∙◌}
+use Rattle.std.proofs.Common.{◌≡◌, ◌<◌, refl, sym, ap, subst, ◌∙◌}
 use Rattle.lp_sessions.specs.declared.session.Session.{Session}
 use Rattle.lp_sessions.proofs.Index.{index_set}
 use Rattle.lp_sessions.proofs.Outputs.{above_at, numbers_at, ok_takes, takes_at}
