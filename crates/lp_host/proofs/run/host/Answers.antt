@@ -5,7 +5,7 @@ use Rattle.lp_serving.specs.Causes.{OutputTells}
 use Rattle.lp_host.specs.Causes.{BlamesFiles, IsNoMaster, SwapTells, is_output_end, is_wire_end}
 use Rattle.lp_host.specs.Hosting.{AsHosted, IsHosted, LeavesFiles}
 use Rattle.lp_host.specs.declared.run.Hosted.{Hosted}
-use Rattle.lp_host.proofs.Blaming.{files_from, in_order, master_as, still_memory, still_swap, unloaded_so}
+use Rattle.lp_host.proofs.Blaming.{failed_rose, files_from, in_order, master_as, still_memory, still_swap, unloaded_so}
 use Rattle.lp_host.proofs.HostedRuns.{hosted_as, unloaded_as}
 use Rattle.lp_host.proofs.run.host.Goals as goal
 
@@ -22,7 +22,7 @@ returns-in-Err-Failed g c =
     let s = c.no_files.result in
     let u = c.no_files.ensures in
     let output = unloaded_so (λ (e : Hosted). OutputTells (is_output_end e) f f z z) s u (λ p. (refl, refl)) (refl, refl) in
-    let files = unloaded_so (λ (e : Hosted). BlamesFiles e (g.F.Files.faults c.args.files.now) (g.F.Files.faults c.load_all.new.self)) s u (λ p. c.in-Err-Failed.ensures.faults) tt in
+    let files = unloaded_so (λ (e : Hosted). BlamesFiles e (g.F.Files.faults c.args.files.now) (g.F.Files.faults c.load_all.new.self)) s u (λ p. failed_rose c.in-Err-Failed.field-0 _ _ c.in-Err-Failed.field-0-is c.in-Err-Failed.ensures.faults) tt in
     let wire = unloaded_so (λ (e : Hosted). Counts (is_wire_end e) n n) s u (λ p. refl) refl in
     let swap = unloaded_so (λ (e : Hosted). SwapTells e told last reads reads truthful truthful honest honest) s u (λ p. still_swap told last reads truthful honest p) (still_memory told last reads truthful honest) in
     record {
