@@ -67,12 +67,12 @@ module _ {told : Option Bytes} {last : Last} {r0 r1 : ℕ} {t0 t1 h0 h1 : Type 0
   pub start_quiet : {w0 w1 : ℕ} → StartTells told last r0 r1 w0 w1 t0 t1 h0 h1 (Ok tt) → IsQuiet r0 r1 t0 t1 h0 h1
   start_quiet s = record { faults = s.1.faults; truthful = s.1.truthful; honest = λ y. (s.1.honest y).0 }
 
-  pub start_blames : (A : Type 0) {w0 w1 : ℕ} (f : StartFault) → StartTells told last r0 r1 w0 w1 t0 t1 h0 h1 (start_answer {A = A} (Err f)) → SwapTells (unstarted_of f) told last r0 r1 t0 t1 h0 h1
-  start_blames A (start.NoMaster fs) s = record { cause = tt; faults = s.1.faults; truthful = s.1.truthful; honest = λ y. ((s.1.honest y).0, λ z. tt) }
-  start_blames A (start.Stopped driver.NoMemory) s = record { cause = tt; faults = s.1.faults; truthful = s.1.truthful; honest = λ y. ((s.1.honest y).0, λ z. tt) }
-  start_blames A (start.Stopped driver.NotYet) s = record { cause = tt; faults = s.1.faults; truthful = s.1.truthful; honest = λ y. ((s.1.honest y).0, λ z. tt) }
-  start_blames A (start.Stopped (driver.Swap Read)) s = record { cause = (s.0, s.1.cause); faults = s.1.faults; truthful = s.1.truthful; honest = s.1.honest }
-  start_blames A (start.Stopped (driver.Swap (Changed owner found))) s = record { cause = (s.0, s.1.cause); faults = s.1.faults; truthful = s.1.truthful; honest = s.1.honest }
+  pub start_blames : {w0 w1 : ℕ} (f : StartFault) → StartTells told last r0 r1 w0 w1 t0 t1 h0 h1 (start_answer {A = Unit {0}} (Err f)) → SwapTells (unstarted_of f) told last r0 r1 t0 t1 h0 h1
+  start_blames (start.NoMaster fs) s = record { cause = tt; faults = s.1.faults; truthful = s.1.truthful; honest = λ y. ((s.1.honest y).0, λ z. tt) }
+  start_blames (start.Stopped driver.NoMemory) s = record { cause = tt; faults = s.1.faults; truthful = s.1.truthful; honest = λ y. ((s.1.honest y).0, λ z. tt) }
+  start_blames (start.Stopped driver.NotYet) s = record { cause = tt; faults = s.1.faults; truthful = s.1.truthful; honest = λ y. ((s.1.honest y).0, λ z. tt) }
+  start_blames (start.Stopped (driver.Swap Read)) s = record { cause = (s.0, s.1.cause); faults = s.1.faults; truthful = s.1.truthful; honest = s.1.honest }
+  start_blames (start.Stopped (driver.Swap (Changed owner found))) s = record { cause = (s.0, s.1.cause); faults = s.1.faults; truthful = s.1.truthful; honest = s.1.honest }
 
   -- an end at which no turn was stopped
   quiet_done : IsQuiet r0 r1 t0 t1 h0 h1 → SwapTells Done told last r0 r1 t0 t1 h0 h1
@@ -238,5 +238,5 @@ still_memory told last reads truthful honest = record { cause = tt; faults = ref
 pub files_from : (s : Hosted) (a b c : ℕ) → b ≡ a → BlamesFiles s b c → BlamesFiles s a c
 files_from s a b c same t = subst (λ (n : ℕ). BlamesFiles s n c) same t
 
-pub failed_rose : (A : Type 0) (e : FilesError) (a b : ℕ) → e ≡ errors.Failed → Counts (held.is_failed {A = A} (Err e)) a b → Rose a b
-failed_rose A e a b is t = subst (λ (x : FilesError). Counts (held.is_failed {A = A} (Err x)) a b) is t
+pub failed_rose : (e : FilesError) (a b : ℕ) → e ≡ errors.Failed → Counts (held.is_failed {A = Unit {0}} (Err e)) a b → Rose a b
+failed_rose e a b is t = subst (λ (x : FilesError). Counts (held.is_failed {A = Unit {0}} (Err x)) a b) is t

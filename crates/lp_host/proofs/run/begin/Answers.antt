@@ -22,7 +22,7 @@ returns-in-Err g c = record {
   output = rw c.not_started.ensures (unstarted_output c.in-Err.fault _ _);
   files = rw c.not_started.ensures (unstarted_files c.in-Err.fault _ _);
   wire = rw c.not_started.ensures (unstarted_wire c.in-Err.fault _);
-  swap = rw c.not_started.ensures (start_blames _ c.in-Err.fault c.in-Err.ensures.tells);
+  swap = rw c.not_started.ensures (start_blames c.in-Err.fault c.in-Err.ensures.tells);
   master = rw c.not_started.ensures (unstarted_master c.in-Err.fault _ _
       (no_master_of c.in-Err.fault c.args.store c.args.hosting.now.seed c.opening-moment.result (g.N.Wire.first c.args.wire.now) (world_files (files_in c.args.loaded.items)) c.opening-moment.ensures.moment (has_files c.args.loaded.items c.args.store c.requires.stored) c.in-Err.ensures.none) (refl, refl));
 }

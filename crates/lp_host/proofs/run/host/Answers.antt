@@ -20,7 +20,7 @@ returns-in-Err-Failed g c =
     let s = c.no_files.result in
     let u = c.no_files.ensures in
     let output = unloaded_so (λ (e : Hosted). OutputTells (is_output_end e) f f z z) s u (λ p. (refl, refl)) (refl, refl) in
-    let files = unloaded_so (λ (e : Hosted). BlamesFiles e (g.F.Files.faults c.args.files.now) (g.F.Files.faults c.load_all.new.self)) s u (λ p. failed_rose _ c.in-Err-Failed.field-0 _ _ c.in-Err-Failed.field-0-is c.in-Err-Failed.ensures.faults) tt in
+    let files = unloaded_so (λ (e : Hosted). BlamesFiles e (g.F.Files.faults c.args.files.now) (g.F.Files.faults c.load_all.new.self)) s u (λ p. failed_rose c.in-Err-Failed.field-0 _ _ c.in-Err-Failed.field-0-is c.in-Err-Failed.ensures.faults) tt in
     let wire = unloaded_so (λ (e : Hosted). Counts (is_wire_end e) n n) s u (λ p. refl) refl in
     let swap = unloaded_so (λ (e : Hosted). SwapTells e told last reads reads truthful truthful honest honest) s u (λ p. still_swap told last reads truthful honest p) (still_memory told last reads truthful honest) in
     record {
