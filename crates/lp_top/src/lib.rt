@@ -7,11 +7,14 @@ mod conclude;
 mod finish;
 mod items;
 mod make;
-mod number;
 pub mod opening;
 pub mod replay;
+mod serve;
 pub mod status;
+mod wants;
 pub mod words;
 
 pub use command::run;
+pub use lp_serve_words::WordsFault;
 pub use status::{Faults, Status, code};
+pub use wants::{Wants, wants};

@@ -1,7 +1,7 @@
 use Rattle.std.proofs.Common.{◌∙◌, ap, sym, Some}
 use Rattle.lp_top.specs.Words.{command_named}
 use Rattle.lp_top.proofs.Naming.{by_first, named_command, refused_command, with_refused}
-use Rattle.lp_top.proofs.words.command_of.Goals as goal
+use Rattle.lp_top.proofs.words.named_of.Goals as goal
 
 pub returns-then-not-may_all_stand-clause-refused :
     goal.returns-then-not-may_all_stand-clause-refused
