@@ -12,6 +12,7 @@ use Rattle.lp_top.specs.declared.status.Status.TheVariants as ends
 use Rattle.lp_top.specs.Make.{IsMakeEnd, Makes}
 use Rattle.lp_folder.specs.Held.{Held}
 use Rattle.lp_wire.specs.declared.happening.WireCall.{WireCall}
+use Rattle.lp_host.specs.declared.run.Hosted.TheVariants as hosted
 use Rattle.lp_top.specs.Replay.{IsFrontOf, Replays}
 use Rattle.lp_top.specs.Serves.{Serves}
 
@@ -104,12 +105,9 @@ not_none o count seed e f = let h = sym e ∙ f in absurd cc
 pub serve_not_make : (o : Option Command) (serving : Serving) (count seed : ℕ) → o ≡ Some (Serve serving) → o ≡ Some (Make count seed) → ⊥
 serve_not_make o serving count seed e f = let h = ap is_make (some_same (sym e ∙ f)) in absurd cc
 
--- words that name another command, or none, name no game to serve
+-- words that name another command name no game to serve
 pub not_serve : (o : Option Command) (c : Command) (serving : Serving) → is_serve c ≡ false → o ≡ Some c → o ≡ Some (Serve serving) → ⊥
 not_serve o c serving n e f = let h = ap is_serve (some_same (sym e ∙ f)) in absurd cc
-
-pub none_not_serve : (o : Option Command) (serving : Serving) → o ≡ None → o ≡ Some (Serve serving) → ⊥
-none_not_serve o serving e f = let h = sym e ∙ f in absurd cc
 
 same_serving : {a b : Serving} → Serve a ≡ Serve b → a ≡ b
 same_serving e = cc
@@ -118,3 +116,7 @@ same_serving e = cc
 pub serves_named : (o : Option Command) (a b : Serving) (held : Option Held) (opening : ℕ) (before now : Option (List ℕ)) (told0 told1 : Option (List WireCall)) (s : Status) → o ≡ Some (Serve a) → o ≡ Some (Serve b)
     → Serves a held opening before now told0 told1 s → Serves b held opening before now told0 told1 s
 serves_named o a b held opening before now told0 told1 s e f h = subst (λ x. Serves x held opening before now told0 told1 s) (same_serving (some_same (sym e ∙ f))) h
+
+-- nothing was served
+pub serves_nothing : (serving : Serving) (held : Option Held) (opening : ℕ) (told : Option (List ℕ)) (calls : Option (List WireCall)) → Serves serving held opening told told calls calls ends.NoMemory
+serves_nothing serving held opening told calls = record { end = hosted.NoMemory; is = refl; hosted = tt }
