@@ -8,3 +8,4 @@ pub mod Swapping
 pub mod Making
 pub mod Checking
 pub mod Naming
+pub mod Serving

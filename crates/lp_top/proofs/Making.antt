@@ -1,5 +1,7 @@
 -- Making the script of a workload.
-use Rattle.std.proofs.Common.{subst, ◌≡◌, ◌∙◌, ℕ, List, [], ◌++◌, take, drop, Bool, true, false, Option, Some, None, refl, sym, ap, inl, inr, ◌⊎◌}
+use Rattle.std.proofs.Common.{subst, ◌≡◌, ◌∙◌, ℕ, List, [], ◌++◌, take, drop, Bool, true, false, Option, Some, None, refl, sym, ap, inl, inr, ◌⊎◌, String}
+use Rattle.std.specs.declared.alloc.Global.{Global}
+use Rattle.lp_files.specs.declared.store.Store.{Store}
 use Rattle.std.proofs.lemmas.List.{append-nil, take-append-drop}
 use Rattle.lp_io.specs.Told.{after_adding, IsCut}
 use Rattle.lp_events.specs.Script.{spellings}
@@ -113,10 +115,10 @@ same_serving : {a b : Serving} → Serve a ≡ Serve b → a ≡ b
 same_serving e = cc
 
 -- words name one game at most
-pub serves_named : (o : Option Command) (a b : Serving) (held : Option Held) (opening : ℕ) (before now : Option (List ℕ)) (told0 told1 : Option (List WireCall)) (s : Status) → o ≡ Some (Serve a) → o ≡ Some (Serve b)
-    → Serves a held opening before now told0 told1 s → Serves b held opening before now told0 told1 s
-serves_named o a b held opening before now told0 told1 s e f h = subst (λ x. Serves x held opening before now told0 told1 s) (same_serving (some_same (sym e ∙ f))) h
+pub serves_named : (o : Option Command) (a b : Serving) (P : Serving → Type 0) → o ≡ Some (Serve a) → o ≡ Some (Serve b) → P a → P b
+serves_named o a b P e f h = subst P (same_serving (some_same (sym e ∙ f))) h
 
 -- nothing was served
-pub serves_nothing : (serving : Serving) (held : Option Held) (opening : ℕ) (told : Option (List ℕ)) (calls : Option (List WireCall)) → Serves serving held opening told told calls calls ends.NoMemory
-serves_nothing serving held opening told calls = record { end = hosted.NoMemory; is = refl; hosted = tt }
+pub serves_nothing : (serving : Serving) (held : Option Held) (opening : ℕ) (told : Option (List ℕ)) (calls : Option (List WireCall)) (left : Option (String Global) → Store → Type 0) (unserved : Type 0)
+    → Serves serving held opening told told calls calls left unserved ends.NoMemory
+serves_nothing serving held opening told calls left unserved = record { end = hosted.NoMemory; is = refl; hosted = tt; no_master = tt }

@@ -1,19 +1,21 @@
 //! The call that carries out a command.
 ghost use Rattle.std.specs.Prelude.{◌≡◌, ℕ, ◌≤◌, Bool, List, [], Option, None, ◌⊎◌, length, map, string_bytes};
 ghost use Rattle.std.specs.Option.{option_copied};
-ghost use Rattle.lp_io.specs.Counts.{Rose};
+ghost use Rattle.lp_io.specs.Counts.{Counts, Rose};
 ghost use Rattle.lp_io.specs.Told.{IsPassedOn};
 ghost use Rattle.lp_events.specs.declared.item.Item.{Item as I};
 ghost use Rattle.lp_events.specs.Script.{IsScript, longest_input};
 ghost use Rattle.lp_script.specs.Reader.{GoneAtMost};
-ghost use Rattle.lp_top.specs.Causes.{BlamesInput, BlamesOutput, SwapTells};
+ghost use Rattle.lp_host.specs.Causes.{NothingFailed};
+ghost use Rattle.lp_host.specs.Hosting.{LeavesFiles};
+ghost use Rattle.lp_top.specs.Causes.{BlamesFiles, BlamesInput, BlamesOutput, SwapTells, is_wire_fault};
 ghost use Rattle.lp_top.specs.Check.{Checks};
 ghost use Rattle.lp_top.specs.Make.{Makes};
 ghost use Rattle.lp_swapfile.specs.Counts.{Rose as SwapRose};
 ghost use Rattle.lp_top.specs.Items.{HasMaster};
 ghost use Rattle.lp_top.specs.Replay.{IsCarriedOut, Replays};
 ghost use Rattle.lp_serve_words.specs.declared.words.Serving.{Serving};
-ghost use Rattle.lp_top.specs.Serves.{Serves};
+ghost use Rattle.lp_top.specs.Serves.{IsServedInOrder, Serves};
 ghost use Rattle.lp_top.specs.Words.{Name, NameMake, NameServe, command_in};
 
 use crate::check::check;
@@ -130,7 +132,8 @@ pub fn run<S: Source, K: Sink, F: Files, W: Truthful, N: Wire>(
     ensures replays { (swap_time : ℕ) (report : Bool) → Name words.now (Command.Replay swap_time report) → (b : List ℕ) → S.remaining input.old ≡ Some b → Replays swap_time report b result (K.written out.old) (K.written out.new) }
     ensures checks { (simul : Option (List ℕ)) → Name words.now (Command.Check simul) → (b : List ℕ) → S.remaining input.old ≡ Some b → Checks simul b result (K.written out.old) (K.written out.new) }
     ensures makes { (count seed : ℕ) → Name words.now (Command.Make count seed) → Makes count seed result (K.written out.old) (K.written out.new) }
-    ensures serves { (serving : Serving) → Name words.now (Command.Serve serving) → Serves serving (F.held files.old) (N.first wire.old) (K.written out.old) (K.written out.new) (N.calls wire.old) (N.calls wire.new) result }
+    ensures serves { (serving : Serving) → Name words.now (Command.Serve serving) → Serves serving (F.held files.old) (N.first wire.old) (K.written out.old) (K.written out.new) (N.calls wire.old) (N.calls wire.new)
+        (LeavesFiles (F.faults files.old) (F.held files.new) (F.faults files.new)) ((wire.new ≡ wire.old) × (out.new ≡ out.old)) result }
     ensures unread { NameMake words.now → input.new ≡ input.old }
     ensures unread_serving { NameServe words.now → input.new ≡ input.old }
     // Only a game that is served uses files and a wire.
@@ -142,6 +145,8 @@ pub fn run<S: Source, K: Sink, F: Files, W: Truthful, N: Wire>(
     ensures output_fault { BlamesOutput result (K.faults out.old) (K.faults out.new) (K.zeros out.old) (K.zeros out.new) }
     ensures swap_fault { SwapTells result (W.content swap.new) (W.last swap.new) (W.read_faults swap.old) (W.read_faults swap.new)
         (W.is_truthful swap.old) (W.is_truthful swap.new) (W.is_honest swap.old) (W.is_honest swap.new) }
+    ensures files_fault { BlamesFiles result (F.faults files.old) (F.faults files.new) }
+    ensures wire_fault { Counts (is_wire_fault result) (N.faults wire.old) (N.faults wire.new) }
     // Only a replay and a game that is served use the swap file.
     ensures swapless { ((swap_time : ℕ) (report : Bool) → Name words.now (Command.Replay swap_time report) → ⊥) → (NameServe words.now → ⊥) → swap.new ≡ swap.old }
     // A script of whose files a master is made, over devices that do not fail and a swap file that is honest, is carried out to its end, or
@@ -157,6 +162,9 @@ pub fn run<S: Source, K: Sink, F: Files, W: Truthful, N: Wire>(
     // Each workload is made to its end over a sink that does not fail.
     ensures complete_make { NameMake words.now → (Rose (K.faults out.old) (K.faults out.new) → ⊥) → (Rose (K.zeros out.old) (K.zeros out.new) → ⊥)
         → (result ≡ Status.Done) ⊎ (result ≡ Status.NoMemory) }
+    // A game that is served over devices that do not fail and a swap file that is honest ends with none of their faults.
+    ensures complete_serving { NameServe words.now → NothingFailed (K.faults out.old) (K.faults out.new) (K.zeros out.old) (K.zeros out.new) (F.faults files.old) (F.faults files.new) (N.faults wire.old) (N.faults wire.new)
+        (W.read_faults swap.old) (W.read_faults swap.new) (W.is_truthful swap.new) (W.is_honest swap.new) → IsServedInOrder result }
 {
     one_spelling();
     one_end_of_the_start();

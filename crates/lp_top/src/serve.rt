@@ -1,8 +1,11 @@
 //! The command `serve`: serves players.
-ghost use Rattle.std.specs.Prelude.{◌≡◌};
+ghost use Rattle.std.specs.Prelude.{◌≡◌, ◌×◌};
+ghost use Rattle.lp_io.specs.Counts.{Counts};
 ghost use Rattle.lp_io.specs.Told.{IsPassedOn};
-ghost use Rattle.lp_top.specs.Causes.{BlamesOutput};
-ghost use Rattle.lp_top.specs.Serves.{IsServeEnd, Serves, keeps_with, status_of_end};
+ghost use Rattle.lp_host.specs.Causes.{NothingFailed};
+ghost use Rattle.lp_host.specs.Hosting.{LeavesFiles};
+ghost use Rattle.lp_top.specs.Causes.{BlamesFiles, BlamesOutput, SwapTells, is_wire_fault};
+ghost use Rattle.lp_top.specs.Serves.{HandsOn, IsServeEnd, IsServedInOrder, Serves, keeps_with, status_of_end};
 
 use crate::status::{Faults, Status};
 use lp_asking::truth::Truthful;
@@ -44,6 +47,18 @@ fn status_of(end: Hosted) -> Status
     }
 }
 
+// Has the sink pass on what it may hold back.
+fn hand_on<K: Sink>(out: &mut K) -> Status
+    ensures ends { HandsOn result (K.faults out.old) (K.faults out.new) }
+    ensures kept { K.written out.new ≡ K.written out.old }
+    ensures passed { result ≡ Status.Done → IsPassedOn (K.passed out.new) }
+{
+    match out.flush() {
+        Ok(()) => Status::Done,
+        Err(_) => Status::OutputFault,
+    }
+}
+
 /// Serves players: hosts the game of the files, over this wire, as the words say.
 pub(crate) fn serve<K: Sink, F: Files, W: Truthful, N: Wire>(
     alloc: Global,
@@ -53,8 +68,17 @@ pub(crate) fn serve<K: Sink, F: Files, W: Truthful, N: Wire>(
     swap: &mut W,
     wire: &mut N,
 ) -> Status
-    ensures serves { Serves serving.now (F.held files.old) (N.first wire.old) (K.written out.old) (K.written out.new) (N.calls wire.old) (N.calls wire.new) result }
+    ensures serves { Serves serving.now (F.held files.old) (N.first wire.old) (K.written out.old) (K.written out.new) (N.calls wire.old) (N.calls wire.new)
+        (LeavesFiles (F.faults files.old) (F.held files.new) (F.faults files.new)) ((wire.new ≡ wire.old) × (out.new ≡ out.old)) result }
     ensures kind { IsServeEnd result }
+    ensures passed { result ≡ Status.Done → IsPassedOn (K.passed out.new) }
+    ensures output_cause { BlamesOutput result (K.faults out.old) (K.faults out.new) (K.zeros out.old) (K.zeros out.new) }
+    ensures files_cause { BlamesFiles result (F.faults files.old) (F.faults files.new) }
+    ensures wire_cause { Counts (is_wire_fault result) (N.faults wire.old) (N.faults wire.new) }
+    ensures swap { SwapTells result (W.content swap.new) (W.last swap.new) (W.read_faults swap.old) (W.read_faults swap.new)
+        (W.is_truthful swap.old) (W.is_truthful swap.new) (W.is_honest swap.old) (W.is_honest swap.new) }
+    ensures complete { NothingFailed (K.faults out.old) (K.faults out.new) (K.zeros out.old) (K.zeros out.new) (F.faults files.old) (F.faults files.new) (N.faults wire.old) (N.faults wire.new)
+        (W.read_faults swap.old) (W.read_faults swap.new) (W.is_truthful swap.new) (W.is_honest swap.new) → IsServedInOrder result }
 {
     let hosting = Hosting {
         seed: serving.seed,
@@ -62,5 +86,8 @@ pub(crate) fn serve<K: Sink, F: Files, W: Truthful, N: Wire>(
         keeps: keeps_of(&serving.record_file),
         turns: serving.turns,
     };
-    status_of(host(alloc, &hosting, out, files, swap, wire))
+    match host(alloc, &hosting, out, files, swap, wire) {
+        Hosted::Done => hand_on(out),
+        end => status_of(end),
+    }
 }

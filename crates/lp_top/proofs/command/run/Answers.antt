@@ -3,7 +3,7 @@ use Rattle.lp_top.proofs.Completeness.{completes}
 use Rattle.lp_top.proofs.Swapping.{still-tells, never-blamed, check-calm, make-calm}
 use Rattle.lp_top.proofs.Checking.{completes_check, checks_unread, replays_unread}
 use Rattle.lp_top.specs.Make.{IsMakeEnd}
-use Rattle.lp_top.specs.Serves.{IsServeEnd}
+use Rattle.lp_top.specs.Serves.{IsServeEnd, Serves}
 use Rattle.lp_top.proofs.Making.{completes_make, makes_named, makes_nothing, not_check, not_none, not_replay, not_serve, replays_named, serve_not_make, serves_named, serves_nothing}
 use Rattle.lp_top.proofs.command.run.Goals as goal
 
@@ -80,13 +80,13 @@ pub returns-in-Ok-Check-clause-unread_serving : goal.returns-in-Ok-Check-clause-
 returns-in-Ok-Check-clause-unread_serving g c = λ m. absurd (not_serve _ _ m.0 refl (c.in-Ok-Check.ensures.named ∙ ap (λ x. Some x) c.in-Ok-Check.field-0-is) m.1)
 
 pub returns-in-Err-NoMemory-clause-serves : goal.returns-in-Err-NoMemory-clause-serves
-returns-in-Err-NoMemory-clause-serves g c = λ serving named. serves_nothing serving _ _ _ _
+returns-in-Err-NoMemory-clause-serves g c = λ serving named. serves_nothing serving _ _ _ _ _ _
 
 pub returns-in-Ok-Serve-clause-words : goal.returns-in-Ok-Serve-clause-words
 returns-in-Ok-Serve-clause-words g c = λ e. absurd (subst IsServeEnd e c.serve.ensures.kind)
 
 pub returns-in-Ok-Serve-clause-serves : goal.returns-in-Ok-Serve-clause-serves
-returns-in-Ok-Serve-clause-serves g c = λ serving e. serves_named _ _ serving _ _ _ _ _ _ c.serve.result (c.in-Ok-Serve.ensures.named ∙ ap (λ x. Some x) c.in-Ok-Serve.field-0-is) e c.serve.ensures.serves
+returns-in-Ok-Serve-clause-serves g c = λ serving e. serves_named _ _ serving (λ x. Serves x _ _ _ _ _ _ _ _ c.serve.result) (c.in-Ok-Serve.ensures.named ∙ ap (λ x. Some x) c.in-Ok-Serve.field-0-is) e c.serve.ensures.serves
 
 pub returns-in-Ok-Serve-clause-unserved : goal.returns-in-Ok-Serve-clause-unserved
 returns-in-Ok-Serve-clause-unserved g c = λ h. absurd (h (c.in-Ok-Serve.serving, (c.in-Ok-Serve.ensures.named ∙ ap (λ x. Some x) c.in-Ok-Serve.field-0-is)))
