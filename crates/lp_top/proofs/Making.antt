@@ -111,6 +111,9 @@ serve_not_make o serving count seed e f = let h = ap is_make (some_same (sym e �
 pub not_serve : (o : Option Command) (c : Command) (serving : Serving) → is_serve c ≡ false → o ≡ Some c → o ≡ Some (Serve serving) → ⊥
 not_serve o c serving n e f = let h = ap is_serve (some_same (sym e ∙ f)) in absurd cc
 
+pub none_not_serve : (o : Option Command) (serving : Serving) → o ≡ None → o ≡ Some (Serve serving) → ⊥
+none_not_serve o serving e f = let h = sym e ∙ f in absurd cc
+
 same_serving : {a b : Serving} → Serve a ≡ Serve b → a ≡ b
 same_serving e = cc
 

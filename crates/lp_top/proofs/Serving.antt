@@ -1,5 +1,5 @@
 -- What serving comes to, by how the game that was hosted ended.
-use Rattle.std.proofs.Common.{◌≡◌, ◌∙◌, ℕ, ◌×◌, ◌⊎◌, inl, inr, List, Bool, true, false, Option, refl, sym, ap, subst, String}
+use Rattle.std.proofs.Common.{◌≡◌, ◌∙◌, ℕ, ◌⊎◌, inl, inr, List, Bool, true, false, Option, refl, sym, ap, subst, String}
 use Rattle.std.specs.declared.alloc.Global.{Global}
 use Rattle.lp_io.specs.Counts.{Counts, Rose}
 use Rattle.lp_files.specs.declared.store.Store.{Store}
@@ -164,3 +164,32 @@ done-serves s f1 f2 serving k held opening before now now2 told0 told1 left othe
     ended-serves s hosted.Done serving k held opening before now2 told0 told1 left unserved h.0 keeps (subst (λ x. HostedSo serving k held opening before x told0 told1 left unserved hosted.Done) (sym e) a) tt
 done-serves s f1 f2 serving k held opening before now now2 told0 told1 left other unserved (inr h) e keeps a =
     record { end = hosted.OutputFault; is = h.0; hosted = tt; no_master = tt }
+
+-- an end that is no fault of the files or of the wire
+pub not-files : (s : Status) (m n : ℕ) → ((path : String Global) → s ≡ ends.FilesFault path → ⊥) → BlamesFiles s m n
+not-files ends.Done m n h = tt
+not-files ends.BadWords m n h = tt
+not-files (ends.BadScript at) m n h = tt
+not-files (ends.NoMaster faults) m n h = tt
+not-files ends.TooLarge m n h = tt
+not-files ends.InputFault m n h = tt
+not-files ends.OutputFault m n h = tt
+not-files (ends.SwapFault cause) m n h = tt
+not-files (ends.FilesFault path) m n h = absurd (h path refl)
+not-files ends.WireFault m n h = tt
+not-files ends.TurnsSpent m n h = tt
+not-files ends.NoMemory m n h = tt
+
+pub not-wire : (s : Status) (m : ℕ) → (s ≡ ends.WireFault → ⊥) → Counts (is_wire_fault s) m m
+not-wire ends.Done m h = refl
+not-wire ends.BadWords m h = refl
+not-wire (ends.BadScript at) m h = refl
+not-wire (ends.NoMaster faults) m h = refl
+not-wire ends.TooLarge m h = refl
+not-wire ends.InputFault m h = refl
+not-wire ends.OutputFault m h = refl
+not-wire (ends.SwapFault cause) m h = refl
+not-wire (ends.FilesFault path) m h = refl
+not-wire ends.WireFault m h = absurd (h refl)
+not-wire ends.TurnsSpent m h = refl
+not-wire ends.NoMemory m h = refl

@@ -4,6 +4,7 @@
 mod check;
 mod command;
 mod conclude;
+pub mod devices;
 mod finish;
 mod items;
 mod make;
@@ -11,10 +12,10 @@ pub mod opening;
 pub mod replay;
 mod serve;
 pub mod status;
-mod wants;
+mod wanting;
 pub mod words;
 
 pub use command::run;
 pub use lp_serve_words::WordsFault;
 pub use status::{Faults, Status, code};
-pub use wants::{Wants, wants};
+pub use wanting::wants;

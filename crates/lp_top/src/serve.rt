@@ -1,5 +1,5 @@
 //! The command `serve`: serves players.
-ghost use Rattle.std.specs.Prelude.{◌≡◌, ◌×◌};
+ghost use Rattle.std.specs.Prelude.{◌≡◌};
 ghost use Rattle.lp_io.specs.Counts.{Counts};
 ghost use Rattle.lp_io.specs.Told.{IsPassedOn};
 ghost use Rattle.lp_host.specs.Causes.{NothingFailed};

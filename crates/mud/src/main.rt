@@ -15,7 +15,7 @@ use crate::telling::tell_status;
 use lp_folder::NoFiles;
 use lp_io::{Sink, Source, StdSink, StdSource};
 use lp_memory_file::MemoryFile;
-use lp_top::{Status, Wants, WordsFault, code, run, wants};
+use lp_top::{Status, WordsFault, code, devices, run, wants};
 use lp_wire::NoWire;
 use std::env::{self, FillError};
 use std::io::{BufWriter, ErrorKind};
@@ -118,9 +118,9 @@ fn ended(rt: &HostRuntime, status: &Status) -> ExitCode {
 }
 
 /// Carries out the command, over the devices that its words want.
-fn carry_out(rt: &HostRuntime, words: &[String], wants: &Wants) -> ExitCode {
-    match &wants.lib {
-        Some(lib) => serve(rt, words, lib.as_str(), wants),
+fn carry_out(rt: &HostRuntime, words: &[String], wanted: &devices::Wants) -> ExitCode {
+    match &wanted.lib {
+        Some(lib) => serve(rt, words, lib.as_str(), wanted),
         None => command(rt, words),
     }
 }
@@ -131,7 +131,7 @@ fn main(rt: HostRuntime) -> ExitCode {
         Err(status) => return ended(&rt, &status),
     };
     match wants(rt.alloc(), words.as_slice()) {
-        Ok(wants) => carry_out(&rt, words.as_slice(), &wants),
+        Ok(wanted) => carry_out(&rt, words.as_slice(), &wanted),
         Err(fault) => ended(&rt, &status_of_fault(fault)),
     }
 }

@@ -2,9 +2,12 @@ use Rattle.std.proofs.Common.{◌≡◌, ◌∙◌, ◌⊎◌, inl, inr, refl, s
 use Rattle.lp_top.proofs.Completeness.{completes}
 use Rattle.lp_top.proofs.Swapping.{still-tells, never-blamed, check-calm, make-calm}
 use Rattle.lp_top.proofs.Checking.{completes_check, checks_unread, replays_unread}
+use Rattle.lp_top.specs.Check.{IsCheckEnd}
 use Rattle.lp_top.specs.Make.{IsMakeEnd}
+use Rattle.lp_top.specs.Replay.{IsReplayEnd}
 use Rattle.lp_top.specs.Serves.{IsServeEnd, Serves}
-use Rattle.lp_top.proofs.Making.{completes_make, makes_named, makes_nothing, not_check, not_none, not_replay, not_serve, replays_named, serve_not_make, serves_named, serves_nothing}
+use Rattle.lp_top.proofs.Making.{completes_make, makes_named, makes_nothing, none_not_serve, not_check, not_none, not_replay, not_serve, replays_named, serve_not_make, serves_named, serves_nothing}
+use Rattle.lp_top.proofs.Serving.{not-files, not-wire}
 use Rattle.lp_top.proofs.command.run.Goals as goal
 
 either_not : {A B : Type 0} → A ⊎ B → (A → ⊥) → (B → ⊥) → ⊥
@@ -102,3 +105,36 @@ returns-in-Ok-Serve-clause-swapless g c = λ h served. absurd (served (c.in-Ok-S
 
 pub returns-in-Ok-Serve-clause-complete_make : goal.returns-in-Ok-Serve-clause-complete_make
 returns-in-Ok-Serve-clause-complete_make g c = λ m sink zeros. absurd (serve_not_make _ c.in-Ok-Serve.serving m.0 m.1 (c.in-Ok-Serve.ensures.named ∙ ap (λ x. Some x) c.in-Ok-Serve.field-0-is) m.2)
+
+pub returns-in-Ok-Replay-clause-files_fault : goal.returns-in-Ok-Replay-clause-files_fault
+returns-in-Ok-Replay-clause-files_fault g c = not-files c.replay.result _ _ (λ path e. subst IsReplayEnd e c.replay.ensures.kind)
+
+pub returns-in-Ok-Replay-clause-wire_fault : goal.returns-in-Ok-Replay-clause-wire_fault
+returns-in-Ok-Replay-clause-wire_fault g c = not-wire c.replay.result _ (λ e. subst IsReplayEnd e c.replay.ensures.kind)
+
+pub returns-in-Ok-Replay-clause-complete_serving : goal.returns-in-Ok-Replay-clause-complete_serving
+returns-in-Ok-Replay-clause-complete_serving g c = λ m n. absurd (not_serve _ _ m.0 refl (c.in-Ok-Replay.ensures.named ∙ ap (λ x. Some x) c.in-Ok-Replay.field-0-is) m.1)
+
+pub returns-in-Ok-Check-clause-files_fault : goal.returns-in-Ok-Check-clause-files_fault
+returns-in-Ok-Check-clause-files_fault g c = not-files c.check.result _ _ (λ path e. subst IsCheckEnd e c.check.ensures.kind)
+
+pub returns-in-Ok-Check-clause-wire_fault : goal.returns-in-Ok-Check-clause-wire_fault
+returns-in-Ok-Check-clause-wire_fault g c = not-wire c.check.result _ (λ e. subst IsCheckEnd e c.check.ensures.kind)
+
+pub returns-in-Ok-Check-clause-complete_serving : goal.returns-in-Ok-Check-clause-complete_serving
+returns-in-Ok-Check-clause-complete_serving g c = λ m n. absurd (not_serve _ _ m.0 refl (c.in-Ok-Check.ensures.named ∙ ap (λ x. Some x) c.in-Ok-Check.field-0-is) m.1)
+
+pub returns-in-Ok-Make-clause-files_fault : goal.returns-in-Ok-Make-clause-files_fault
+returns-in-Ok-Make-clause-files_fault g c = not-files c.make.result _ _ (λ path e. subst IsMakeEnd e c.make.ensures.kind)
+
+pub returns-in-Ok-Make-clause-wire_fault : goal.returns-in-Ok-Make-clause-wire_fault
+returns-in-Ok-Make-clause-wire_fault g c = not-wire c.make.result _ (λ e. subst IsMakeEnd e c.make.ensures.kind)
+
+pub returns-in-Ok-Make-clause-complete_serving : goal.returns-in-Ok-Make-clause-complete_serving
+returns-in-Ok-Make-clause-complete_serving g c = λ m n. absurd (not_serve _ _ m.0 refl (c.in-Ok-Make.ensures.named ∙ ap (λ x. Some x) c.in-Ok-Make.field-0-is) m.1)
+
+pub returns-in-Err-BadWords-clause-complete_serving : goal.returns-in-Err-BadWords-clause-complete_serving
+returns-in-Err-BadWords-clause-complete_serving g c = λ m n. absurd (none_not_serve _ m.0 (c.command_of.ensures.refused (subst (λ f. c.command_of.result ≡ Err f) c.in-Err-BadWords.field-0-is c.in-Err-BadWords.is)) m.1)
+
+pub returns-in-Ok-Serve-clause-complete_serving : goal.returns-in-Ok-Serve-clause-complete_serving
+returns-in-Ok-Serve-clause-complete_serving g c = λ m n. c.serve.ensures.complete n

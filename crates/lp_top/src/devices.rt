@@ -1,14 +1,11 @@
-//! Which devices the words of the command line want.
-ghost use Rattle.std.specs.Prelude.{◌≡◌, Err, IfOk, None, map, string_bytes};
-ghost use Rattle.lp_serve_words.specs.declared.words.WordsFault.TheVariants as fault;
+//! Which devices a command wants.
+ghost use Rattle.std.specs.Prelude.{◌≡◌, None};
 ghost use Rattle.lp_top.specs.Wants.{control_of, lib_of, port_of, script_file_of};
-ghost use Rattle.lp_top.specs.Words.{Name, command_in};
 ghost use Rattle.lp_top.specs.declared.words.Command.{Command as C};
 
-use crate::words::{Command, command_of};
-use lp_serve_words::{Serving, WordsFault};
+use crate::words::Command;
+use lp_serve_words::Serving;
 use lp_tree::path::FilePath;
-use std::alloc::Global;
 
 /// Which devices a command wants beside the input, the output and the swap file.
 #[derive(Debug, Drop)]
@@ -53,8 +50,8 @@ fn no_wants() -> Wants
     }
 }
 
-// What a command wants. Takes no memory.
-fn wanted_by(command: Command) -> Wants
+/// What a command wants. Takes no memory.
+pub(crate) fn wanted_by(command: Command) -> Wants
     ensures lib { result.lib ≡ lib_of command }
     ensures script_file { result.script_file ≡ script_file_of command }
     ensures port { result.port ≡ port_of command }
@@ -65,24 +62,5 @@ fn wanted_by(command: Command) -> Wants
         Command::Replay { .. } => no_wants(),
         Command::Check { .. } => no_wants(),
         Command::Make { .. } => no_wants(),
-    }
-}
-
-/// Which devices the words want: the values of their options `--lib`, `--record`, `--port` and `--control`, and none or 0 where they
-/// have no such option.
-///
-/// # Errors
-/// `BadWords` exactly where the words name no command, as `run` answers it, or else `NoMemory`.
-pub fn wants(alloc: Global, words: &[String]) -> Result<Wants, WordsFault>
-    ensures named { IfOk result (λ w. (command : C) × Name words.now command) }
-    ensures refused { result ≡ Err fault.BadWords → command_in (map string_bytes words.now) ≡ None }
-    ensures lib { IfOk result (λ w. (command : C) → Name words.now command → w.lib ≡ lib_of command) }
-    ensures script_file { IfOk result (λ w. (command : C) → Name words.now command → w.script_file ≡ script_file_of command) }
-    ensures port { IfOk result (λ w. (command : C) → Name words.now command → w.port ≡ port_of command) }
-    ensures control { IfOk result (λ w. (command : C) → Name words.now command → w.control ≡ control_of command) }
-{
-    match command_of(alloc, words) {
-        Ok(command) => Ok(wanted_by(command)),
-        Err(fault) => Err(fault),
     }
 }
