@@ -1,5 +1,5 @@
 -- What serving players comes to.
-use Rattle.std.specs.Prelude.{◌≡◌, ⊤, ⊥, ℕ, ◌⊎◌, List, Option, Some, None, String}
+use Rattle.std.specs.Prelude.{◌≡◌, ℕ, ◌⊎◌, List, Option, Some, None, String}
 use Rattle.std.specs.declared.alloc.Global.{Global}
 use Rattle.lp_io.specs.Counts.{Rose}
 use Rattle.lp_files.specs.declared.store.Store.{Store}
