@@ -1,5 +1,5 @@
 //! The run of a server, from its files to its end.
-ghost use Rattle.std.specs.Prelude.{◌≡◌, ◌≤◌, ◌^◌, [], Err, IfErr, IfOk, List, OnOk, Option, ℕ, Bool, ⊥};
+ghost use Rattle.std.specs.Prelude.{◌≡◌, ◌≤◌, ◌^◌, [], Err, IfErr, IfOk, List, OnOk, Option, ℕ, Bool};
 ghost use Rattle.lp_core.specs.Turning.{Origin};
 ghost use Rattle.lp_driver.specs.Driving.{HasNoMasterIf, StartsAs};
 ghost use Rattle.lp_files.specs.Store.{file_at};
