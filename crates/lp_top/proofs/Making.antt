@@ -118,8 +118,9 @@ same_serving : {a b : Serving} → Serve a ≡ Serve b → a ≡ b
 same_serving e = cc
 
 -- words name one game at most
-pub serves_named : (o : Option Command) (a b : Serving) (P : Serving → Type 0) → o ≡ Some (Serve a) → o ≡ Some (Serve b) → P a → P b
-serves_named o a b P e f h = subst P (same_serving (some_same (sym e ∙ f))) h
+pub serves_named : (o : Option Command) (a b : Serving) (held : Option Held) (opening : ℕ) (before now : Option (List ℕ)) (told0 told1 : Option (List WireCall)) (left : Option (String Global) → Store → Type 0) (unserved : Type 0) (s : Status) → o ≡ Some (Serve a) → o ≡ Some (Serve b)
+    → Serves a held opening before now told0 told1 left unserved s → Serves b held opening before now told0 told1 left unserved s
+serves_named o a b held opening before now told0 told1 left unserved s e f h = subst (λ x. Serves x held opening before now told0 told1 left unserved s) (same_serving (some_same (sym e ∙ f))) h
 
 -- nothing was served
 pub serves_nothing : (serving : Serving) (held : Option Held) (opening : ℕ) (told : Option (List ℕ)) (calls : Option (List WireCall)) (left : Option (String Global) → Store → Type 0) (unserved : Type 0)

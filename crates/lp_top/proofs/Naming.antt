@@ -90,3 +90,11 @@ by_serve words e = ap (λ b. if b then serve_with (serving_in words) else named_
 
 pub by_another : (words : List (List ℕ)) → names_serve words ≡ false → command_in words ≡ named_in words
 by_another words e = ap (λ b. if b then serve_with (serving_in words) else named_in words) e
+
+pub serve_named : (ws : List (String Global)) (r : Result Command WordsFault) → names_serve (map string_bytes ws) ≡ true → IfOk r (λ c. serve_with (serving_in (map string_bytes ws)) ≡ Some c) → IfOk r (λ c. command_in (map string_bytes ws) ≡ Some c)
+serve_named ws (Ok c) e h = by_serve (map string_bytes ws) e ∙ h
+serve_named ws (Err f) e h = tt
+
+pub another_named : (ws : List (String Global)) (r : Result Command WordsFault) → names_serve (map string_bytes ws) ≡ false → IfOk r (λ c. named_in (map string_bytes ws) ≡ Some c) → IfOk r (λ c. command_in (map string_bytes ws) ≡ Some c)
+another_named ws (Ok c) e h = by_another (map string_bytes ws) e ∙ h
+another_named ws (Err f) e h = tt

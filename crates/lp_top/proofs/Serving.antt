@@ -137,33 +137,51 @@ pub done-kind : (s : Status) (m n : ℕ) → HandsOn s m n → IsServeEnd s
 done-kind s m n (inl h) = subst IsServeEnd (sym h.0) tt
 done-kind s m n (inr h) = subst IsServeEnd (sym h.0) tt
 
-pub done-output : (s : Status) (f0 f1 f2 z0 z1 z2 : ℕ) → OutputTells false f0 f1 z0 z1 → HandsOn s f1 f2 → BlamesOutput s f0 f2 z0 z2
-done-output s f0 f1 f2 z0 z1 z2 e (inl h) o = let k : false ≡ true = ap is_output (sym h.0 ∙ o) in absurd cc
-done-output s f0 f1 f2 z0 z1 z2 e (inr h) o = inl (subst (λ n. Rose n f2) e.0 h.1)
+stopped-output : (s : Status) (f0 f1 f2 z0 z1 z2 : ℕ) → OutputTells false f0 f1 z0 z1 → HandsOn s f1 f2 → BlamesOutput s f0 f2 z0 z2
+stopped-output s f0 f1 f2 z0 z1 z2 e (inl h) o = let k : false ≡ true = ap is_output (sym h.0 ∙ o) in absurd cc
+stopped-output s f0 f1 f2 z0 z1 z2 e (inr h) o = inl (subst (λ n. Rose n f2) e.0 h.1)
+
+pub done-output : (s : Status) (e : Hosted) (f0 f1 f2 z0 z1 z2 : ℕ) → e ≡ hosted.Done → OutputTells (is_output_end e) f0 f1 z0 z1 → HandsOn s f1 f2 → BlamesOutput s f0 f2 z0 z2
+done-output s e f0 f1 f2 z0 z1 z2 is t h = stopped-output s f0 f1 f2 z0 z1 z2 (subst (λ x. OutputTells (is_output_end x) f0 f1 z0 z1) is t) h
 
 pub done-files : (s : Status) (f1 f2 m n : ℕ) → HandsOn s f1 f2 → BlamesFiles s m n
 done-files s f1 f2 m n (inl h) = subst (λ x. BlamesFiles x m n) (sym h.0) tt
 done-files s f1 f2 m n (inr h) = subst (λ x. BlamesFiles x m n) (sym h.0) tt
 
-pub done-wire : (s : Status) (f1 f2 m n : ℕ) → n ≡ m → HandsOn s f1 f2 → Counts (is_wire_fault s) m n
-done-wire s f1 f2 m n e (inl h) = subst (λ x. Counts (is_wire_fault x) m n) (sym h.0) e
-done-wire s f1 f2 m n e (inr h) = subst (λ x. Counts (is_wire_fault x) m n) (sym h.0) e
+stopped-wire : (s : Status) (f1 f2 m n : ℕ) → n ≡ m → HandsOn s f1 f2 → Counts (is_wire_fault s) m n
+stopped-wire s f1 f2 m n e (inl h) = subst (λ x. Counts (is_wire_fault x) m n) (sym h.0) e
+stopped-wire s f1 f2 m n e (inr h) = subst (λ x. Counts (is_wire_fault x) m n) (sym h.0) e
 
-pub done-swap : (s : Status) (f1 f2 : ℕ) (told : Option Bytes) (last : Last) (r0 r1 : ℕ) (t0 t1 h0 h1 : Type 0) → HandsOn s f1 f2 → HostTells hosted.Done told last r0 r1 t0 t1 h0 h1 → SwapTells s told last r0 r1 t0 t1 h0 h1
-done-swap s f1 f2 told last r0 r1 t0 t1 h0 h1 (inl h) a = ended-swap s hosted.Done told last r0 r1 t0 t1 h0 h1 h.0 a
-done-swap s f1 f2 told last r0 r1 t0 t1 h0 h1 (inr h) a = ended-swap s hosted.OutputFault told last r0 r1 t0 t1 h0 h1 h.0 (record { cause = tt; faults = a.faults; truthful = a.truthful; honest = a.honest })
+pub done-wire : (s : Status) (e : Hosted) (f1 f2 m n : ℕ) → e ≡ hosted.Done → Counts (is_wire_end e) m n → HandsOn s f1 f2 → Counts (is_wire_fault s) m n
+done-wire s e f1 f2 m n is t h = stopped-wire s f1 f2 m n (subst (λ x. Counts (is_wire_end x) m n) is t) h
 
-pub done-order : (s : Status) (f0 f1 f2 z0 z1 : ℕ) → OutputTells false f0 f1 z0 z1 → HandsOn s f1 f2 → (Rose f0 f2 → ⊥) → IsServedInOrder s
-done-order s f0 f1 f2 z0 z1 e (inl h) n = subst IsServedInOrder (sym h.0) tt
-done-order s f0 f1 f2 z0 z1 e (inr h) n = absurd (n (subst (λ x. Rose x f2) e.0 h.1))
+stopped-swap : (s : Status) (f1 f2 : ℕ) (told : Option Bytes) (last : Last) (r0 r1 : ℕ) (t0 t1 h0 h1 : Type 0) → HandsOn s f1 f2 → HostTells hosted.Done told last r0 r1 t0 t1 h0 h1 → SwapTells s told last r0 r1 t0 t1 h0 h1
+stopped-swap s f1 f2 told last r0 r1 t0 t1 h0 h1 (inl h) a = ended-swap s hosted.Done told last r0 r1 t0 t1 h0 h1 h.0 a
+stopped-swap s f1 f2 told last r0 r1 t0 t1 h0 h1 (inr h) a = ended-swap s hosted.OutputFault told last r0 r1 t0 t1 h0 h1 h.0 (record { cause = tt; faults = a.faults; truthful = a.truthful; honest = a.honest })
 
-pub done-serves : (s : Status) (f1 f2 : ℕ) (serving : Serving) (k : Keeps) (held : Option Held) (opening : ℕ) (before now now2 : Option (List ℕ)) (told0 told1 : Option (List WireCall)) (left : Option (String Global) → Store → Type 0) (other unserved : Type 0)
+pub done-swap : (s : Status) (e : Hosted) (f1 f2 : ℕ) (told : Option Bytes) (last : Last) (r0 r1 : ℕ) (t0 t1 h0 h1 : Type 0) → e ≡ hosted.Done → HandsOn s f1 f2 → HostTells e told last r0 r1 t0 t1 h0 h1 → SwapTells s told last r0 r1 t0 t1 h0 h1
+done-swap s e f1 f2 told last r0 r1 t0 t1 h0 h1 is h a = stopped-swap s f1 f2 told last r0 r1 t0 t1 h0 h1 h (subst (λ x. HostTells x told last r0 r1 t0 t1 h0 h1) is a)
+
+stopped-order : (s : Status) (f0 f1 f2 z0 z1 : ℕ) → OutputTells false f0 f1 z0 z1 → HandsOn s f1 f2 → (Rose f0 f2 → ⊥) → IsServedInOrder s
+stopped-order s f0 f1 f2 z0 z1 e (inl h) n = subst IsServedInOrder (sym h.0) tt
+stopped-order s f0 f1 f2 z0 z1 e (inr h) n = absurd (n (subst (λ x. Rose x f2) e.0 h.1))
+
+pub done-order : (s : Status) (e : Hosted) (f0 f1 f2 z0 z1 : ℕ) → e ≡ hosted.Done → OutputTells (is_output_end e) f0 f1 z0 z1 → HandsOn s f1 f2 → (Rose f0 f2 → ⊥) → IsServedInOrder s
+done-order s e f0 f1 f2 z0 z1 is t h n = stopped-order s f0 f1 f2 z0 z1 (subst (λ x. OutputTells (is_output_end x) f0 f1 z0 z1) is t) h n
+
+stopped-serves : (s : Status) (f1 f2 : ℕ) (serving : Serving) (k : Keeps) (held : Option Held) (opening : ℕ) (before now now2 : Option (List ℕ)) (told0 told1 : Option (List WireCall)) (left : Option (String Global) → Store → Type 0) (other unserved : Type 0)
     → HandsOn s f1 f2 → now2 ≡ now → k ≡ keeps_with serving.record_file → HostedSo serving k held opening before now told0 told1 left other hosted.Done
     → Serves serving held opening before now2 told0 told1 left unserved s
-done-serves s f1 f2 serving k held opening before now now2 told0 told1 left other unserved (inl h) e keeps a =
+stopped-serves s f1 f2 serving k held opening before now now2 told0 told1 left other unserved (inl h) e keeps a =
     ended-serves s hosted.Done serving k held opening before now2 told0 told1 left unserved h.0 keeps (subst (λ x. HostedSo serving k held opening before x told0 told1 left unserved hosted.Done) (sym e) a) tt
-done-serves s f1 f2 serving k held opening before now now2 told0 told1 left other unserved (inr h) e keeps a =
+stopped-serves s f1 f2 serving k held opening before now now2 told0 told1 left other unserved (inr h) e keeps a =
     record { end = hosted.OutputFault; is = h.0; hosted = tt; no_master = tt }
+
+pub done-serves : (s : Status) (e : Hosted) (f1 f2 : ℕ) (serving : Serving) (k : Keeps) (held : Option Held) (opening : ℕ) (before now now2 : Option (List ℕ)) (told0 told1 : Option (List WireCall)) (left : Option (String Global) → Store → Type 0) (other unserved : Type 0)
+    → e ≡ hosted.Done → HandsOn s f1 f2 → now2 ≡ now → k ≡ keeps_with serving.record_file → HostedSo serving k held opening before now told0 told1 left other e
+    → Serves serving held opening before now2 told0 told1 left unserved s
+done-serves s e f1 f2 serving k held opening before now now2 told0 told1 left other unserved is h kept keeps a =
+    stopped-serves s f1 f2 serving k held opening before now now2 told0 told1 left other unserved h kept keeps (subst (HostedSo serving k held opening before now told0 told1 left other) is a)
 
 -- an end that is no fault of the files or of the wire
 pub not-files : (s : Status) (m n : ℕ) → ((path : String Global) → s ≡ ends.FilesFault path → ⊥) → BlamesFiles s m n

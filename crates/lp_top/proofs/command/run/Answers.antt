@@ -5,7 +5,7 @@ use Rattle.lp_top.proofs.Checking.{completes_check, checks_unread, replays_unrea
 use Rattle.lp_top.specs.Check.{IsCheckEnd}
 use Rattle.lp_top.specs.Make.{IsMakeEnd}
 use Rattle.lp_top.specs.Replay.{IsReplayEnd}
-use Rattle.lp_top.specs.Serves.{IsServeEnd, Serves}
+use Rattle.lp_top.specs.Serves.{IsServeEnd}
 use Rattle.lp_top.proofs.Making.{completes_make, makes_named, makes_nothing, none_not_serve, not_check, not_none, not_replay, not_serve, replays_named, serve_not_make, serves_named, serves_nothing}
 use Rattle.lp_top.proofs.Serving.{not-files, not-wire}
 use Rattle.lp_top.proofs.command.run.Goals as goal
@@ -89,7 +89,7 @@ pub returns-in-Ok-Serve-clause-words : goal.returns-in-Ok-Serve-clause-words
 returns-in-Ok-Serve-clause-words g c = λ e. absurd (subst IsServeEnd e c.serve.ensures.kind)
 
 pub returns-in-Ok-Serve-clause-serves : goal.returns-in-Ok-Serve-clause-serves
-returns-in-Ok-Serve-clause-serves g c = λ serving e. serves_named _ _ serving (λ x. Serves x _ _ _ _ _ _ _ _ c.serve.result) (c.in-Ok-Serve.ensures.named ∙ ap (λ x. Some x) c.in-Ok-Serve.field-0-is) e c.serve.ensures.serves
+returns-in-Ok-Serve-clause-serves g c = λ serving e. serves_named _ _ serving _ _ _ _ _ _ _ _ c.serve.result (c.in-Ok-Serve.ensures.named ∙ ap (λ x. Some x) c.in-Ok-Serve.field-0-is) e c.serve.ensures.serves
 
 pub returns-in-Ok-Serve-clause-unserved : goal.returns-in-Ok-Serve-clause-unserved
 returns-in-Ok-Serve-clause-unserved g c = λ h. absurd (h (c.in-Ok-Serve.serving, (c.in-Ok-Serve.ensures.named ∙ ap (λ x. Some x) c.in-Ok-Serve.field-0-is)))

@@ -1,31 +1,27 @@
-use Rattle.std.proofs.Common.{◌≡◌, subst}
-use Rattle.lp_io.specs.Counts.{Counts}
-use Rattle.lp_serving.specs.Causes.{OutputTells}
-use Rattle.lp_host.specs.Causes.{SwapTells, is_output_end, is_wire_end}
-use Rattle.lp_host.specs.declared.run.Hosted.TheVariants as hosted
-use Rattle.lp_top.proofs.Serving.{HostedSo, done-files, done-kind, done-order, done-output, done-serves, done-swap, done-wire, ended-files, ended-kind, ended-not-done, ended-order, ended-output, ended-serves, ended-swap, ended-wire}
+use Rattle.std.proofs.Common.{◌≡◌}
+use Rattle.lp_top.proofs.Serving.{done-files, done-kind, done-order, done-output, done-serves, done-swap, done-wire, ended-files, ended-kind, ended-not-done, ended-order, ended-output, ended-serves, ended-swap, ended-wire}
 use Rattle.lp_top.proofs.serve.serve.Goals as goal
 
 pub returns-in-Done-clause-serves : goal.returns-in-Done-clause-serves
-returns-in-Done-clause-serves g c = done-serves c.hand_on.result _ _ c.args.serving.now c.keeps_of.result _ _ _ _ _ _ _ _ _ _ c.hand_on.ensures.ends c.hand_on.ensures.kept c.keeps_of.ensures (subst (HostedSo c.args.serving.now c.keeps_of.result _ _ _ _ _ _ _ _) c.in-Done.is c.host.ensures.hosts)
+returns-in-Done-clause-serves g c = done-serves c.hand_on.result c.host.result _ _ c.args.serving.now c.keeps_of.result _ _ _ _ _ _ _ _ _ _ c.in-Done.is c.hand_on.ensures.ends c.hand_on.ensures.kept c.keeps_of.ensures c.host.ensures.hosts
 
 pub returns-in-Done-clause-kind : goal.returns-in-Done-clause-kind
 returns-in-Done-clause-kind g c = done-kind c.hand_on.result _ _ c.hand_on.ensures.ends
 
 pub returns-in-Done-clause-output_cause : goal.returns-in-Done-clause-output_cause
-returns-in-Done-clause-output_cause g c = done-output c.hand_on.result _ _ _ _ _ _ (subst (λ e. OutputTells (is_output_end e) _ _ _ _) c.in-Done.is c.host.ensures.output_fault) c.hand_on.ensures.ends
+returns-in-Done-clause-output_cause g c = done-output c.hand_on.result c.host.result _ _ _ _ _ _ c.in-Done.is c.host.ensures.output_fault c.hand_on.ensures.ends
 
 pub returns-in-Done-clause-files_cause : goal.returns-in-Done-clause-files_cause
 returns-in-Done-clause-files_cause g c = done-files c.hand_on.result _ _ _ _ c.hand_on.ensures.ends
 
 pub returns-in-Done-clause-wire_cause : goal.returns-in-Done-clause-wire_cause
-returns-in-Done-clause-wire_cause g c = done-wire c.hand_on.result _ _ _ _ (subst (λ e. Counts (is_wire_end e) _ _) c.in-Done.is c.host.ensures.wire_fault) c.hand_on.ensures.ends
+returns-in-Done-clause-wire_cause g c = done-wire c.hand_on.result c.host.result _ _ _ _ c.in-Done.is c.host.ensures.wire_fault c.hand_on.ensures.ends
 
 pub returns-in-Done-clause-swap : goal.returns-in-Done-clause-swap
-returns-in-Done-clause-swap g c = done-swap c.hand_on.result _ _ _ _ _ _ _ _ _ _ c.hand_on.ensures.ends (subst (λ e. SwapTells e _ _ _ _ _ _ _ _) c.in-Done.is c.host.ensures.swap_fault)
+returns-in-Done-clause-swap g c = done-swap c.hand_on.result c.host.result _ _ _ _ _ _ _ _ _ _ c.in-Done.is c.hand_on.ensures.ends c.host.ensures.swap_fault
 
 pub returns-in-Done-clause-complete : goal.returns-in-Done-clause-complete
-returns-in-Done-clause-complete g c = λ n. done-order c.hand_on.result _ _ _ _ _ (subst (λ e. OutputTells (is_output_end e) _ _ _ _) c.in-Done.is c.host.ensures.output_fault) c.hand_on.ensures.ends n.output
+returns-in-Done-clause-complete g c = λ n. done-order c.hand_on.result c.host.result _ _ _ _ _ c.in-Done.is c.host.ensures.output_fault c.hand_on.ensures.ends n.output
 
 pub returns-in_default-clause-serves : goal.returns-in_default-clause-serves
 returns-in_default-clause-serves g c = ended-serves c.status_of.result c.host.result c.args.serving.now c.keeps_of.result _ _ _ _ _ _ _ _ c.status_of.ensures c.keeps_of.ensures c.host.ensures.hosts c.host.ensures.no_master
