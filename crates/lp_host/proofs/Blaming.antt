@@ -3,6 +3,9 @@ use Rattle.std.proofs.Common.{subst, ◌≡◌, ℕ, List, [], Bool, true, false
 use Rattle.std.specs.Global.{Global}
 use Rattle.lp_files.specs.declared.store.Store.{Store}
 use Rattle.lp_first.specs.First.{HasFiles}
+use Rattle.lp_folder.specs.Held as held
+use Rattle.lp_folder.specs.declared.outside.FilesError.{FilesError}
+use Rattle.lp_folder.specs.declared.outside.FilesError.TheVariants as errors
 use Rattle.lp_front_end.specs.FrontEnds.{IsFrontEnd}
 use Rattle.lp_io.specs.Counts.{Counts, Rose}
 use Rattle.lp_language.specs.World.{File}
@@ -61,10 +64,10 @@ module _ {told : Option Bytes} {last : Last} {r0 r1 : ℕ} {t0 t1 h0 h1 : Type 0
   turn_blames (faults.Swap (Changed owner found)) live t = record { cause = (live, t.cause); faults = t.faults; truthful = t.truthful; honest = t.honest }
 
   -- the start
-  pub start_quiet : {A : Type 0} {w0 w1 : ℕ} (x : A) → StartTells told last r0 r1 w0 w1 t0 t1 h0 h1 (start_answer (Ok x)) → IsQuiet r0 r1 t0 t1 h0 h1
-  start_quiet x s = record { faults = s.1.faults; truthful = s.1.truthful; honest = λ y. (s.1.honest y).0 }
+  pub start_quiet : {w0 w1 : ℕ} → StartTells told last r0 r1 w0 w1 t0 t1 h0 h1 (Ok tt) → IsQuiet r0 r1 t0 t1 h0 h1
+  start_quiet s = record { faults = s.1.faults; truthful = s.1.truthful; honest = λ y. (s.1.honest y).0 }
 
-  pub start_blames : {A : Type 0} {w0 w1 : ℕ} (f : StartFault) → StartTells told last r0 r1 w0 w1 t0 t1 h0 h1 (start_answer {A} (Err f)) → SwapTells (unstarted_of f) told last r0 r1 t0 t1 h0 h1
+  pub start_blames : {w0 w1 : ℕ} (f : StartFault) → StartTells told last r0 r1 w0 w1 t0 t1 h0 h1 (start_answer {A = Unit {0}} (Err f)) → SwapTells (unstarted_of f) told last r0 r1 t0 t1 h0 h1
   start_blames (start.NoMaster fs) s = record { cause = tt; faults = s.1.faults; truthful = s.1.truthful; honest = λ y. ((s.1.honest y).0, λ z. tt) }
   start_blames (start.Stopped driver.NoMemory) s = record { cause = tt; faults = s.1.faults; truthful = s.1.truthful; honest = λ y. ((s.1.honest y).0, λ z. tt) }
   start_blames (start.Stopped driver.NotYet) s = record { cause = tt; faults = s.1.faults; truthful = s.1.truthful; honest = λ y. ((s.1.honest y).0, λ z. tt) }
@@ -234,3 +237,6 @@ still_memory told last reads truthful honest = record { cause = tt; faults = ref
 -- the count of the files did not change before
 pub files_from : (s : Hosted) (a b c : ℕ) → b ≡ a → BlamesFiles s b c → BlamesFiles s a c
 files_from s a b c same t = subst (λ (n : ℕ). BlamesFiles s n c) same t
+
+pub failed_rose : (e : FilesError) (a b : ℕ) → e ≡ errors.Failed → Counts (held.is_failed {A = Unit {0}} (Err e)) a b → Rose a b
+failed_rose e a b is t = subst (λ (x : FilesError). Counts (held.is_failed {A = Unit {0}} (Err x)) a b) is t

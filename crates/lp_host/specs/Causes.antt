@@ -78,14 +78,14 @@ IsNoMaster (NoMaster faults) has unserved = has faults.items × unserved
 IsNoMaster s has unserved = ⊤
 
 -- WHERE NO DEVICE FAILED: no count rose, and the swap file was honest and truthful
-pub record NothingFailed (output0 output1 zeros0 zeros1 files0 files1 wire0 wire1 reads0 reads1 : ℕ) (is_truthful is_honest : Type 0) : Type 0 where
+pub record NothingFailed (output0 output1 zeros0 zeros1 files0 files1 wire0 wire1 reads0 reads1 : ℕ) (true1 honest1 : Type 0) : Type 0 where
   pub output : HasNotRisen output0 output1
   pub zeros : HasNotRisen zeros0 zeros1
   pub files : HasNotRisen files0 files1
   pub wire : HasNotRisen wire0 wire1
   pub reads : HasNotRisen reads0 reads1
-  pub truthful : is_truthful
-  pub honest : is_honest
+  pub truthful : true1
+  pub honest : honest1
 
 -- the game ended by the operator's stop, by spent polls, for want of a master, or for want of memory, and blames no device
 abbrev pub IsInOrder : Hosted → Type 0

@@ -1,5 +1,5 @@
 -- Which device an end of a served run blames.
-use Rattle.std.proofs.Common.{subst, ◌≡◌, ℕ, ◌<◌, ◌≤◌, ◌+◌, List, [], ◌∷◌, length, take, Bool, true, false, Option, Some, None, Result, Ok, Err, IfOk, OnErr, String, refl, sym, ◌⊎◌, inl, inr, arith}
+use Rattle.std.proofs.Common.{subst, ◌≡◌, ℕ, ◌≤◌, List, Bool, true, false, Option, Some, None, Result, Ok, Err, IfOk, OnErr, String, sym, inl, inr, arith}
 use Rattle.std.specs.Global.{Global}
 use Rattle.lp_io.specs.Counts.{Counts, Rose}
 use Rattle.lp_io.specs.Told.{is_failed, is_zero_taken}

@@ -1,5 +1,5 @@
 -- What the devices did in a served run, by how it ended: only a device whose count rose is blamed.
-use Rattle.std.specs.Prelude.{◌≡◌, ⊤, ℕ, ◌≤◌, List, Bool, true, false, Option, Some, None, Result, Ok, Err, String}
+use Rattle.std.specs.Prelude.{⊤, ℕ, ◌≤◌, List, Bool, true, false, Option, Some, None, Result, Ok, Err, String}
 use Rattle.std.specs.Global.{Global}
 use Rattle.lp_io.specs.Counts.{Rose}
 use Rattle.lp_core.specs.declared.driver.Stop.{Stop}

@@ -128,7 +128,7 @@ fn stop<W, C: Core<W>, F: Files, K: Sink>(
 
 /// Serves: takes what the wire gives, one happening after another; gives each event its turn; sends the outputs, in one send each for all that
 /// is pending; writes the record or the log; and writes files that were changed. Until the operator stops it, a poll fails, or so many polls
-/// were made. What a round takes is in proportion to what came and what it made, and to how many connections there are.
+/// were made. What a round takes is in proportion to what came and what it made, and to how many connections something is pending for.
 ///
 /// - `Done`: the operator stopped it.
 /// - `FilesFault`: it did, and this changed file could not be written at the last try.

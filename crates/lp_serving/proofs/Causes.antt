@@ -1,7 +1,6 @@
 -- What the devices did in a call, over its parts.
-use Rattle.std.proofs.Common.{subst, ◌≡◌, ℕ, ◌<◌, ◌≤◌, ◌+◌, List, Bool, true, false, Option, Result, Ok, Err, OnOk, OnErr, refl, sym, ◌∙◌, ◌⊎◌, inl, inr, arith, take}
+use Rattle.std.proofs.Common.{subst, ◌≡◌, ℕ, ◌≤◌, List, Bool, true, false, Option, Result, Ok, Err, OnOk, OnErr, inl, inr, arith, take}
 use Rattle.std.specs.Result.{is_err}
-use Rattle.lp_io.specs.Counts.{Rose}
 use Rattle.lp_io.specs.declared.put.PutFault.{PutFault}
 use Rattle.lp_io.specs.declared.put.PutFault.TheVariants as put
 use Rattle.lp_script.specs.Put.{Puts, Told}

@@ -1,4 +1,4 @@
-use Rattle.std.proofs.Common.{[], ap, absurd, refl, subst, sym, ◌∙◌}
+use Rattle.std.proofs.Common.{[], ap, refl, subst, sym, ◌∙◌}
 use Rattle.lp_io.specs.Told.{after_adding}
 use Rattle.lp_core.specs.Turning.{Origin}
 use Rattle.lp_driver.specs.Driving.{StartsAs}
@@ -33,7 +33,7 @@ returns-in-Err-written g c = record {
   output = put_err c.in-Err-written.field-0 _ _ _ _ c.in-Err-written.ensures.faults c.in-Err-written.ensures.zeros;
   files = tt;
   wire = refl;
-  swap = quiet_output (start_quiet _ c.in-Ok.ensures.tells);
+  swap = quiet_output (start_quiet c.in-Ok.ensures.tells);
   master = tt;
 }
 
@@ -51,6 +51,6 @@ returns-in-Ok-written g c = record {
   output = output_then _ _ _ _ _ _ _ (c.in-Ok-written.ensures.faults, c.in-Ok-written.ensures.zeros) c.play.ensures.output;
   files = c.play.ensures.files;
   wire = c.play.ensures.wire;
-  swap = c.play.ensures.swap c.args.swap.now (start_quiet _ c.in-Ok.ensures.tells);
+  swap = c.play.ensures.swap c.args.swap.now (start_quiet c.in-Ok.ensures.tells);
   master = master_as c.play.result _ _ _ _ (λ fs h. absurd h) (λ h. absurd h) c.play.ensures.master;
 }

@@ -1,5 +1,5 @@
 use Rattle.lp_serve.proofs.Running.{round_goes, round_written}
-use Rattle.std.proofs.Common.{◌≤◌, arith}
+use Rattle.std.proofs.Common.{arith}
 use Rattle.lp_serving.proofs.Causes.{flush_no_fall}
 use Rattle.lp_serve.proofs.run.round.Goals as goal
 
@@ -13,7 +13,7 @@ returns-in-Ok-write_changed-clause-files g c =
     let tries = flush_no_fall c.write_changed.result _ _ _ _ _ _ _ c.write_changed.ensures.flushes c.write_changed.ensures.cut in
     omega (arith, c.happen.ensures.files, tries)
 
-pub returns-in-Err-write_changed-clause-files : goal.returns-in-Err-write_changed-clause-files
-returns-in-Err-write_changed-clause-files g c =
+pub returns-clause-files : goal.returns-clause-files
+returns-clause-files g c =
     let tries = flush_no_fall c.write_changed.result _ _ _ _ _ _ _ c.write_changed.ensures.flushes c.write_changed.ensures.cut in
     omega (arith, c.happen.ensures.files, tries)
