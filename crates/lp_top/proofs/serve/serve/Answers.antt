@@ -1,4 +1,3 @@
-use Rattle.std.proofs.Common.{◌≡◌}
 use Rattle.lp_top.proofs.Serving.{done-files, done-kind, done-order, done-output, done-serves, done-swap, done-wire, ended-files, ended-kind, ended-not-done, ended-order, ended-output, ended-serves, ended-swap, ended-wire}
 use Rattle.lp_top.proofs.serve.serve.Goals as goal
 
