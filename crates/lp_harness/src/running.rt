@@ -1,9 +1,11 @@
 //! Runs of the driver over devices in memory.
 use crate::device::{TestSwap, Troubles};
 use lp_asking::truth::Truthful;
+use lp_folder::NoFiles;
 use lp_io::{MemSink, MemSource, Octets};
 use lp_memory_file::MemoryFile;
 use lp_top::{Faults, Status, code, run};
+use lp_wire::NoWire;
 use std::alloc::{AllocError, Global};
 
 /// The devices of a run: the reads of the input and the writes of the output that fail, by their numbers from 1, the most bytes that a
@@ -63,7 +65,15 @@ fn ran_over<W: Truthful>(
     mut out: MemSink,
     swap: &mut W,
 ) -> Result<Outcome, AllocError> {
-    let status = run(alloc, words, input, &mut out, swap);
+    let status = run(
+        alloc,
+        words,
+        input,
+        &mut out,
+        &mut NoFiles::new(),
+        swap,
+        &mut NoWire::new(),
+    );
     Ok(Outcome {
         status: code(&status),
         written: out.as_slice().to_vec(alloc)?,

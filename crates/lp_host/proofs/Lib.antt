@@ -1,2 +1,3 @@
 pub mod HostedRuns
 pub mod Played
+pub mod Blaming

@@ -2,6 +2,7 @@
 use Rattle.std.specs.Prelude.{◌≡◌, ℕ, List, [], ◌∷◌, map, Bool, Option}
 use Rattle.lp_events.specs.declared.event.Event.{Event}
 use Rattle.lp_events.specs.declared.out.Out.{Out}
+use Rattle.lp_files.specs.declared.store.Store.{Store}
 use Rattle.lp_swapfile.specs.Device.{Bytes}
 use Rattle.lp_language.specs.World.{File, World}
 use Rattle.lp_meaning.specs.FrontEnd.{FrontEnd}
@@ -37,8 +38,9 @@ pub record PlayedBy (front : FrontEnd) (origin : Origin) (told : Option Bytes) (
 abbrev pub HasPlayed : Origin → Option Bytes → Live → List Turn → Type 0
 HasPlayed origin told live turns = (front : FrontEnd) → IsFrontEnd front → PlayedBy front origin told live turns
 
--- A GAME WAS PLAYED as far as it came: it was served, and came about by its start and a turn for each event.
-pub record IsPlayed (opening : ℕ) (origin : Origin) (keeps : Keeps) (before now : Option (List ℕ)) (end : List ℕ) (stops : Bool) (polls : ℕ → Type 0) (told0 told1 : Option (List WireCall)) : Type 0 where
+-- A GAME WAS PLAYED as far as it came: it was served, and came about by its start and a turn for each event; and this holds of its store in the end.
+pub record IsPlayed (opening : ℕ) (origin : Origin) (keeps : Keeps) (before now : Option (List ℕ)) (end : List ℕ) (stops : Bool) (polls : ℕ → Type 0) (left : Store → Type 0) (told0 told1 : Option (List WireCall)) : Type 0 where
   pub swapped : Option Bytes
   pub live : Live
+  pub files : left live.store
   pub run : HasRun opening (HasPlayed origin swapped live) keeps before now end stops polls told0 told1

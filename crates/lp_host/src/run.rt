@@ -5,12 +5,18 @@ ghost use Rattle.lp_driver.specs.Driving.{HasNoMasterIf, StartsAs};
 ghost use Rattle.lp_files.specs.Store.{file_at};
 ghost use Rattle.lp_folder.specs.Held.{loaded_at};
 ghost use Rattle.lp_folder.specs.declared.outside.Loaded.{Loaded as L};
-ghost use Rattle.lp_host.specs.Hosting.{AsHosted, IsBefore, IsHosted, hosted_of, opening_written, stopped_of};
-ghost use Rattle.lp_host.specs.Playing.{HasPlayed, IsPlayed};
+ghost use Rattle.lp_front_end.specs.FrontEnds.{IsFrontEnd};
+ghost use Rattle.lp_host.specs.Causes.{BlamesFiles, HasNoMaster, IsInOrder, IsNoMaster, IsQuiet, NothingFailed, SwapTells, is_output_end, is_wire_end};
+ghost use Rattle.lp_host.specs.Hosting.{AsHosted, IsHosted, IsUnloaded, LeavesFiles, hosted_of, opening_written, stopped_of, unstarted_of};
+ghost use Rattle.lp_host.specs.Playing.{HasPlayed, IsPlayed, world_files};
+ghost use Rattle.lp_io.specs.Counts.{Counts};
 ghost use Rattle.lp_io.specs.Told.{after_adding};
 ghost use Rattle.lp_events.specs.declared.out.Out.{Out as O};
+ghost use Rattle.lp_meaning.specs.Closing.{MakesNoMaster};
+ghost use Rattle.lp_meaning.specs.FrontEnd.{FrontEnd};
 ghost use Rattle.lp_recording.specs.Recorded.{ending, files_in};
 ghost use Rattle.lp_script.specs.Put.{Puts};
+ghost use Rattle.lp_serving.specs.Causes.{OutputTells};
 ghost use Rattle.lp_state.specs.States.{GoesOn, live_in};
 
 use crate::state::HostedState;
@@ -121,7 +127,7 @@ fn ended(served: Served, cause: Option<SwapCause>) -> Hosted
 
 // The end where the files could not be loaded.
 fn no_files(alloc: Global) -> Hosted
-    ensures { IsBefore result }
+    ensures { IsUnloaded result }
 {
     match String::from_str(alloc, "/") {
         Ok(path) => Hosted::FilesFault { path },
@@ -131,7 +137,7 @@ fn no_files(alloc: Global) -> Hosted
 
 // The end where the start was not carried out. Takes no memory.
 fn not_started(fault: StartFault) -> Hosted
-    ensures { IsBefore result }
+    ensures { result ≡ unstarted_of fault }
 {
     match fault {
         StartFault::NoMaster { faults } => Hosted::NoMaster { faults },
@@ -171,7 +177,14 @@ fn play<K: Sink, F: Files, W: Truthful, N: Wire>(
 ) -> Hosted
     requires ready { GoesOn (W.content swap.now) state }
     ensures run { (origin : Origin) → HasPlayed origin (W.content swap.old) (live_in state) [] → AsHosted result
-        (λ end stops polls. IsPlayed (N.first wire.old) origin hosting.now.keeps (K.written out.old) (K.written out.new) end stops polls (N.calls wire.old) (N.calls wire.new)) (ending hosting.now.keeps) hosting.now.turns }
+        (λ end stops polls left. IsPlayed (N.first wire.old) origin hosting.now.keeps (K.written out.old) (K.written out.new) end stops polls left (N.calls wire.old) (N.calls wire.new))
+        (LeavesFiles (F.faults files.old) (F.held files.new) (F.faults files.new)) ⊥ (ending hosting.now.keeps) hosting.now.turns }
+    ensures output { OutputTells (is_output_end result) (K.faults out.old) (K.faults out.new) (K.zeros out.old) (K.zeros out.new) }
+    ensures files { BlamesFiles result (F.faults files.old) (F.faults files.new) }
+    ensures wire { Counts (is_wire_end result) (N.faults wire.old) (N.faults wire.new) }
+    ensures swap { (from : W) → IsQuiet (W.read_faults from) (W.read_faults swap.old) (W.is_truthful from) (W.is_truthful swap.old) (W.is_honest from) (W.is_honest swap.old)
+        → SwapTells result (W.content swap.new) (W.last swap.new) (W.read_faults from) (W.read_faults swap.new) (W.is_truthful from) (W.is_truthful swap.new) (W.is_honest from) (W.is_honest swap.new) }
+    ensures master { IsNoMaster result (λ faults. ⊥) ⊥ }
 {
     let mut core = HostedState::new(state);
     let served = serve(
@@ -199,8 +212,14 @@ fn begin<K: Sink, F: Files, W: Truthful, N: Wire>(
     wire: &mut N,
 ) -> Hosted
     requires stored { (q : List ℕ) → file_at store q ≡ loaded_at loaded.items q }
-    ensures run { AsHosted result (λ end stops polls. (outs : List O) × IsPlayed (N.first wire.old) (record { seed = hosting.now.seed; moment = N.first wire.old; files = files_in loaded.items; outputs = outs }) hosting.now.keeps
-        (after_adding (K.written out.old) (opening_written hosting.now.keeps hosting.now.seed (N.first wire.old) loaded.items outs)) (K.written out.new) end stops polls (N.calls wire.old) (N.calls wire.new)) (ending hosting.now.keeps) hosting.now.turns }
+    ensures run { AsHosted result (λ end stops polls left. (outs : List O) × IsPlayed (N.first wire.old) (record { seed = hosting.now.seed; moment = N.first wire.old; files = files_in loaded.items; outputs = outs }) hosting.now.keeps
+        (after_adding (K.written out.old) (opening_written hosting.now.keeps hosting.now.seed (N.first wire.old) loaded.items outs)) (K.written out.new) end stops polls left (N.calls wire.old) (N.calls wire.new))
+        (LeavesFiles (F.faults files.old) (F.held files.new) (F.faults files.new)) ⊥ (ending hosting.now.keeps) hosting.now.turns }
+    ensures output { OutputTells (is_output_end result) (K.faults out.old) (K.faults out.new) (K.zeros out.old) (K.zeros out.new) }
+    ensures files { BlamesFiles result (F.faults files.old) (F.faults files.new) }
+    ensures wire { Counts (is_wire_end result) (N.faults wire.old) (N.faults wire.new) }
+    ensures swap { SwapTells result (W.content swap.new) (W.last swap.new) (W.read_faults swap.old) (W.read_faults swap.new) (W.is_truthful swap.old) (W.is_truthful swap.new) (W.is_honest swap.old) (W.is_honest swap.new) }
+    ensures master { IsNoMaster result (λ faults. (front : FrontEnd) → IsFrontEnd front → MakesNoMaster front (world_files (files_in loaded.items)) hosting.now.seed (N.first wire.old) faults) ((wire.new ≡ wire.old) × (out.new ≡ out.old)) }
 {
     let moment = wire.opening();
     let started = start(alloc, store, hosting.seed, moment, hosting.swap_time, swap);
@@ -233,7 +252,16 @@ pub fn host<K: Sink, F: Files, W: Truthful, N: Wire>(
     swap: &mut W,
     wire: &mut N,
 ) -> Hosted
-    ensures hosts { AsHosted result (λ end stops polls. IsHosted hosting.now.seed hosting.now.keeps (F.held files.old) (N.first wire.old) (K.written out.old) (K.written out.new) end stops polls (N.calls wire.old) (N.calls wire.new)) (ending hosting.now.keeps) hosting.now.turns }
+    ensures hosts { AsHosted result
+        (λ end stops polls left. IsHosted hosting.now.seed hosting.now.keeps (F.held files.old) (N.first wire.old) (K.written out.old) (K.written out.new) end stops polls left (N.calls wire.old) (N.calls wire.new))
+        (LeavesFiles (F.faults files.old) (F.held files.new) (F.faults files.new)) ((wire.new ≡ wire.old) × (out.new ≡ out.old)) (ending hosting.now.keeps) hosting.now.turns }
+    ensures output_fault { OutputTells (is_output_end result) (K.faults out.old) (K.faults out.new) (K.zeros out.old) (K.zeros out.new) }
+    ensures files_fault { BlamesFiles result (F.faults files.old) (F.faults files.new) }
+    ensures wire_fault { Counts (is_wire_end result) (N.faults wire.old) (N.faults wire.new) }
+    ensures swap_fault { SwapTells result (W.content swap.new) (W.last swap.new) (W.read_faults swap.old) (W.read_faults swap.new) (W.is_truthful swap.old) (W.is_truthful swap.new) (W.is_honest swap.old) (W.is_honest swap.new) }
+    ensures no_master { IsNoMaster result (HasNoMaster hosting.now.seed (N.first wire.old) (F.held files.old)) ((wire.new ≡ wire.old) × (out.new ≡ out.old)) }
+    ensures complete { NothingFailed (K.faults out.old) (K.faults out.new) (K.zeros out.old) (K.zeros out.new) (F.faults files.old) (F.faults files.new) (N.faults wire.old) (N.faults wire.new)
+        (W.read_faults swap.old) (W.read_faults swap.new) (W.is_truthful swap.new) (W.is_honest swap.new) → IsInOrder result }
 {
     let loaded = match files.load_all() {
         Ok(loaded) => loaded,

@@ -2,6 +2,8 @@
 ghost use Rattle.std.specs.Prelude.{◌≡◌, ◌∷◌, ◌++◌, [], IfErr, IfOk, List, Option};
 ghost use Rattle.lp_core.specs.Turning.{Origin, Turn};
 ghost use Rattle.lp_driver.specs.Driving.{TurnsAs};
+ghost use Rattle.lp_host.specs.Causes.{IsQuiet, SwapTells};
+ghost use Rattle.lp_host.specs.Hosting.{ended_of, stopped_of};
 ghost use Rattle.lp_host.specs.Playing.{HasPlayed};
 ghost use Rattle.lp_state.specs.States.{GoesOn, live_in};
 ghost use Rattle.lp_swapfile.specs.Device.{Bytes};
@@ -31,7 +33,9 @@ impl HostedState {
     }
 
     /// The cause of the swap file's fault, where one has ended the game.
-    pub(crate) fn into_cause(self) -> Option<SwapCause> {
+    pub(crate) fn into_cause(self) -> Option<SwapCause>
+        ensures { result ≡ self.cause }
+    {
         let HostedState { state, cause } = self;
         drop(state);
         cause
@@ -39,7 +43,8 @@ impl HostedState {
 
     // Notes why a turn was not carried out.
     fn stopped(&mut self, fault: TurnFault) -> Stop
-        ensures { self.new.state ≡ self.old.state }
+        ensures state { self.new.state ≡ self.old.state }
+        ensures cause { stopped_of result self.new.cause ≡ ended_of fault }
     {
         match fault {
             TurnFault::Swap(cause) => {
@@ -59,6 +64,10 @@ impl<W: Truthful> Core<W> for HostedState {
     ghost goes = { λ g w. GoesOn (W.content w) g.state };
 
     ghost stored = { λ g. (live_in g.state).store };
+
+    ghost quiet = { λ from w. IsQuiet (W.read_faults from) (W.read_faults w) (W.is_truthful from) (W.is_truthful w) (W.is_honest from) (W.is_honest w) };
+
+    ghost blames = { λ g from w why. SwapTells (stopped_of why g.cause) (W.content w) (W.last w) (W.read_faults from) (W.read_faults w) (W.is_truthful from) (W.is_truthful w) (W.is_honest from) (W.is_honest w) };
 
     fn turn(&mut self, swap: &mut W, event: &Event) -> Result<Outs, Stop> {
         match turn(&mut self.state, swap, event) {

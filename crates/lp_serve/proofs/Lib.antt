@@ -2,3 +2,4 @@ pub mod Doing
 pub mod Ordering
 pub mod RoundsHeard
 pub mod Running
+pub mod Blaming

@@ -35,7 +35,8 @@ use Rattle.lp_serve.specs.declared.run.Early.{Early}
 use Rattle.lp_serve.specs.declared.run.Early.TheVariants as early
 use Rattle.lp_serve.specs.declared.run.Served.{Served}
 use Rattle.lp_serve.specs.declared.run.Served.TheVariants.{Done, OutputFault, FilesFault, WireFault, TurnsSpent, Stopped, NoMemory}
-use Rattle.lp_serve.specs.Served.{AsEnded, GoesRound, HasRun, HasServed, IfStopped, IfVain, RoundsBy, Runs, RunsBy, TakesFronts, early_served, is_wire_fault}
+use Rattle.lp_serve.specs.Causes.{is_wire_fault}
+use Rattle.lp_serve.specs.Served.{AsEnded, GoesRound, HasRun, HasServed, IfStopped, IfVain, RoundsBy, Runs, RunsBy, TakesFronts, early_served}
 use Rattle.lp_serve.proofs.Doing.{serving_calls}
 use Rattle.lp_serve.proofs.RoundsHeard.{rounds_heard}
 

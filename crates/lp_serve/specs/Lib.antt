@@ -1,3 +1,4 @@
 pub mod Standing
 pub mod Rounds
 pub mod Served
+pub mod Causes

@@ -81,11 +81,6 @@ AsEnded OutputFault run ending turns = ⊤
 AsEnded (Stopped why) run ending turns = ⊤
 AsEnded NoMemory run ending turns = ⊤
 
--- a poll failed
-abbrev pub is_wire_fault : Served → Bool
-is_wire_fault WireFault = true
-is_wire_fault _ = false
-
 -- the end of a run whose round was not gone to its end
 abbrev pub early_served : Early → Served
 early_served early.Wire = WireFault

@@ -1,11 +1,13 @@
 //! A game that is served: its players, its clock and its operator.
-ghost use Rattle.std.specs.Prelude.{◌≡◌, ℕ, List, Option, Some, IfOk, OnOk, true, false};
+ghost use Rattle.std.specs.Prelude.{◌≡◌, ◌≤◌, ℕ, List, Option, Some, IfErr, IfOk, OnOk, true, false};
 ghost use Rattle.lp_core.specs.Turning.{Origin};
 ghost use Rattle.lp_words.specs.Paths.{is_path as is_path_lem};
 ghost use Rattle.lp_wire.specs.Heard.{accept_heard, happening_heard, lost_heard, order_heard, order_lines_heard, order_of as order_of_lem, piece_heard, reload_heard, ReloadFile};
 ghost use Rattle.lp_control.specs.Operator.{TellsOperator, new_operator, with_answer};
 ghost use Rattle.lp_sessions.specs.Table.{no_connections};
+ghost use Rattle.lp_serving.specs.Causes.{OutputTells, SwapTells, is_output};
 ghost use Rattle.lp_serving.specs.Recorded.{Recorded};
+ghost use Rattle.lp_serving.specs.declared.server.End.TheVariants.{NoMemory};
 ghost use Rattle.lp_serve.specs.Standing.{Does, TellsAgain};
 
 use lp_control::{Control, Order, order_of};
@@ -64,6 +66,7 @@ impl Game {
         ensures rest { self.new ≡ record self.old { control = self.new.control } }
         ensures faults { N.faults wire.new ≡ N.faults wire.old }
         ensures first { N.first wire.new ≡ N.first wire.old }
+        ensures memory { IfErr result (λ end. end ≡ NoMemory) }
     {
         match self.control.answer(text) {
             Ok(()) => {
@@ -91,6 +94,9 @@ impl Game {
         ensures keeps { self.new.server.keeps ≡ self.old.server.keeps }
         ensures faults { N.faults wire.new ≡ N.faults wire.old }
         ensures first { N.first wire.new ≡ N.first wire.old }
+        ensures output { OutputTells (is_output result) (K.faults out.old) (K.faults out.new) (K.zeros out.old) (K.zeros out.new) }
+        ensures files { F.faults files.old ≤ F.faults files.new }
+        ensures swap { (from : W) → C.quiet from swap.old → SwapTells result (C.quiet from swap.new) (C.blames core.new from swap.new) }
     {
         self.server
             .event(core, swap, files, wire, out, Event::Reload(path, bytes))?;
@@ -113,6 +119,9 @@ impl Game {
         ensures keeps { self.new.server.keeps ≡ self.old.server.keeps }
         ensures faults { N.faults wire.new ≡ N.faults wire.old }
         ensures first { N.first wire.new ≡ N.first wire.old }
+        ensures output { OutputTells (is_output result) (K.faults out.old) (K.faults out.new) (K.zeros out.old) (K.zeros out.new) }
+        ensures files { F.faults files.old ≤ F.faults files.new }
+        ensures swap { (from : W) → C.quiet from swap.old → SwapTells result (C.quiet from swap.new) (C.blames core.new from swap.new) }
     {
         if !is_path(word) {
             return self.answer(wire, b"reload failed\n");
@@ -144,6 +153,9 @@ impl Game {
         ensures keeps { self.new.server.keeps ≡ self.old.server.keeps }
         ensures faults { N.faults wire.new ≡ N.faults wire.old }
         ensures first { N.first wire.new ≡ N.first wire.old }
+        ensures output { OutputTells (is_output result) (K.faults out.old) (K.faults out.new) (K.zeros out.old) (K.zeros out.new) }
+        ensures files { F.faults files.old ≤ F.faults files.new }
+        ensures swap { (from : W) → C.quiet from swap.old → SwapTells result (C.quiet from swap.new) (C.blames core.new from swap.new) }
     {
         match order_of(line) {
             Order::Stop => Ok(true),
@@ -174,6 +186,9 @@ impl Game {
         ensures keeps { self.new.server.keeps ≡ self.old.server.keeps }
         ensures faults { N.faults wire.new ≡ N.faults wire.old }
         ensures first { N.first wire.new ≡ N.first wire.old }
+        ensures output { OutputTells (is_output result) (K.faults out.old) (K.faults out.new) (K.zeros out.old) (K.zeros out.new) }
+        ensures files { F.faults files.old ≤ F.faults files.new }
+        ensures swap { (from : W) → C.quiet from swap.old → SwapTells result (C.quiet from swap.new) (C.blames core.new from swap.new) }
     {
         for line in lines {
             if self.order(core, swap, files, wire, out, line.as_slice())? {
@@ -200,6 +215,9 @@ impl Game {
         ensures keeps { self.new.server.keeps ≡ self.old.server.keeps }
         ensures faults { N.faults wire.new ≡ N.faults wire.old }
         ensures first { N.first wire.new ≡ N.first wire.old }
+        ensures output { OutputTells (is_output result) (K.faults out.old) (K.faults out.new) (K.zeros out.old) (K.zeros out.new) }
+        ensures files { F.faults files.old ≤ F.faults files.new }
+        ensures swap { (from : W) → C.quiet from swap.old → SwapTells result (C.quiet from swap.new) (C.blames core.new from swap.new) }
     {
         if k != 0 {
             self.server.piece(core, swap, files, wire, out, k, bytes)?;
@@ -227,6 +245,9 @@ impl Game {
         ensures keeps { self.new.server.keeps ≡ self.old.server.keeps }
         ensures faults { N.faults wire.new ≡ N.faults wire.old }
         ensures first { N.first wire.new ≡ N.first wire.old }
+        ensures output { OutputTells (is_output result) (K.faults out.old) (K.faults out.new) (K.zeros out.old) (K.zeros out.new) }
+        ensures files { F.faults files.old ≤ F.faults files.new }
+        ensures swap { (from : W) → C.quiet from swap.old → SwapTells result (C.quiet from swap.new) (C.blames core.new from swap.new) }
     {
         if k == 0 {
             self.control.renew();
@@ -251,6 +272,9 @@ impl Game {
         ensures keeps { self.new.server.keeps ≡ self.old.server.keeps }
         ensures faults { N.faults wire.new ≡ N.faults wire.old }
         ensures first { N.first wire.new ≡ N.first wire.old }
+        ensures output { OutputTells (is_output result) (K.faults out.old) (K.faults out.new) (K.zeros out.old) (K.zeros out.new) }
+        ensures files { F.faults files.old ≤ F.faults files.new }
+        ensures swap { (from : W) → C.quiet from swap.old → SwapTells result (C.quiet from swap.new) (C.blames core.new from swap.new) }
     {
         if k == 0 {
             self.control.renew();
@@ -275,6 +299,9 @@ impl Game {
         ensures keeps { self.new.server.keeps ≡ self.old.server.keeps }
         ensures faults { N.faults wire.new ≡ N.faults wire.old }
         ensures first { N.first wire.new ≡ N.first wire.old }
+        ensures output { OutputTells (is_output result) (K.faults out.old) (K.faults out.new) (K.zeros out.old) (K.zeros out.new) }
+        ensures files { F.faults files.old ≤ F.faults files.new }
+        ensures swap { (from : W) → C.quiet from swap.old → SwapTells result (C.quiet from swap.new) (C.blames core.new from swap.new) }
     {
         match happening {
             Happening::Accept(k) => self.accept(core, swap, files, wire, out, *k)?,

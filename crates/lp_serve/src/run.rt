@@ -1,13 +1,15 @@
 //! The loop of a served run.
 ghost use Rattle.std.specs.Prelude.{◌≡◌, ◌≤◌, ◌<◌, ℕ, List, [], Option, IfOk, OnOk, OnErr};
-ghost use Rattle.lp_io.specs.Counts.{Counts};
+ghost use Rattle.lp_io.specs.Counts.{Counts, Rose};
 ghost use Rattle.lp_io.specs.Told.{after_adding};
 ghost use Rattle.lp_core.specs.Turning.{Origin, Turn};
-ghost use Rattle.lp_files.specs.Store.{changed_in};
+ghost use Rattle.lp_files.specs.Store.{changed_in, file_at};
 ghost use Rattle.lp_recording.specs.Recorded.{ending};
+ghost use Rattle.lp_serving.specs.Causes.{OutputTells};
 ghost use Rattle.lp_serving.specs.Recorded.{Recorded};
 ghost use Rattle.lp_wire.specs.Wires.{Adds};
-ghost use Rattle.lp_serve.specs.Served.{AsEnded, GoesRound, HasRun, IfStopped, IfVain, LeavesUnwritten, early_served, is_vain, is_wire_fault};
+ghost use Rattle.lp_serve.specs.Causes.{EarlyTells, FilesTell, HasNotRisen, IsBlameless, SwapTells, TriedLast, is_early_output, is_output_fault, is_wire_fault};
+ghost use Rattle.lp_serve.specs.Served.{AsEnded, GoesRound, HasRun, IfStopped, IfVain, LeavesUnwritten, early_served, is_vain};
 
 use crate::game::Game;
 use lp_core::{Core, Stop};
@@ -75,6 +77,9 @@ fn round<W, C: Core<W>, F: Files, N: Wire, K: Sink>(
     ensures keeps { game.new.server.keeps ≡ game.old.server.keeps }
     ensures faults { Counts (is_vain result) (N.faults wire.old) (N.faults wire.new) }
     ensures first { N.first wire.new ≡ N.first wire.old }
+    ensures output { OutputTells (is_early_output result) (K.faults out.old) (K.faults out.new) (K.zeros out.old) (K.zeros out.new) }
+    ensures files { F.faults files.old ≤ F.faults files.new }
+    ensures swap { (from : W) → C.quiet from swap.old → EarlyTells result (C.quiet from swap.new) (C.blames core.new from swap.new) }
 {
     let happening = match wire.poll() {
         Ok(happening) => happening,
@@ -104,6 +109,9 @@ fn stop<W, C: Core<W>, F: Files, K: Sink>(
     ensures ran { (swap : W) (origin : Origin) (turns : List Turn) → C.ran core.old swap origin turns → C.ran core.new swap origin turns }
     ensures unwritten { LeavesUnwritten result (changed_in (C.stored core.new)) }
     ensures written { IfStopped result (K.written out.new ≡ after_adding (K.written out.old) (ending keeps)) }
+    ensures output { OutputTells (is_output_fault result) (K.faults out.old) (K.faults out.new) (K.zeros out.old) (K.zeros out.new) }
+    ensures files { FilesTell result (λ failed. TriedLast failed (file_at (C.stored core.new)) (F.faults files.old) (changed_in (C.stored core.new)) (F.held files.new) (F.faults files.new)) (Rose (F.faults files.old) (F.faults files.new)) }
+    ensures no_fall { F.faults files.old ≤ F.faults files.new }
 {
     match write_last(alloc, core, files) {
         Ok(None) => match write_end(out, keeps) {
@@ -120,7 +128,7 @@ fn stop<W, C: Core<W>, F: Files, K: Sink>(
 
 /// Serves: takes what the wire gives, one happening after another; gives each event its turn; sends the outputs, in one send each for all that
 /// is pending; writes the record or the log; and writes files that were changed. Until the operator stops it, a poll fails, or so many polls
-/// were made. What a round takes is in proportion to what came and what it made, and to how many connections there are.
+/// were made. What a round takes is in proportion to what came and what it made, and to how many connections something is pending for.
 ///
 /// - `Done`: the operator stopped it.
 /// - `FilesFault`: it did, and this changed file could not be written at the last try.
@@ -141,8 +149,13 @@ pub fn serve<W, C: Core<W>, F: Files, N: Wire, K: Sink>(
     ensures run { (origin : Origin) → C.ran core.old swap.old origin [] → AsEnded result
         (λ end stops polls. HasRun (N.first wire.old) (C.ran core.new swap.new origin) keeps (K.written out.old) (K.written out.new) end stops polls (N.calls wire.old) (N.calls wire.new)) (ending keeps) turns }
     ensures unwritten { LeavesUnwritten result (changed_in (C.stored core.new)) }
-    ensures faults { Counts (is_wire_fault result) (N.faults wire.old) (N.faults wire.new) }
     ensures running { C.goes core.new swap.new }
+    ensures output_fault { OutputTells (is_output_fault result) (K.faults out.old) (K.faults out.new) (K.zeros out.old) (K.zeros out.new) }
+    ensures files_fault { FilesTell result (λ failed. TriedLast failed (file_at (C.stored core.new)) (F.faults files.old) (changed_in (C.stored core.new)) (F.held files.new) (F.faults files.new)) (Rose (F.faults files.old) (F.faults files.new)) }
+    ensures files_no_fall { F.faults files.old ≤ F.faults files.new }
+    ensures wire_fault { Counts (is_wire_fault result) (N.faults wire.old) (N.faults wire.new) }
+    ensures swap_fault { (from : W) → C.quiet from swap.old → SwapTells result (C.quiet from swap.new) (C.blames core.new from swap.new) }
+    ensures complete { HasNotRisen (K.faults out.old) (K.faults out.new) → HasNotRisen (K.zeros out.old) (K.zeros out.new) → HasNotRisen (F.faults files.old) (F.faults files.new) → HasNotRisen (N.faults wire.old) (N.faults wire.new) → IsBlameless result }
 {
     let mut game = Game::new(alloc, wire.opening(), keeps);
     for polls in 0..turns {

@@ -81,6 +81,10 @@ impl Core<()> for Hello {
 
     ghost stored = { λ h. h.store };
 
+    ghost quiet = { λ _ _. ⊤ };
+
+    ghost blames = { λ _ _ _ _. ⊤ };
+
     fn turn(&mut self, _swap: &mut (), event: &Event) -> Result<Outs, Stop> {
         let mut outs = Outs::new(self.alloc);
         match self.hear(&mut outs, event) {

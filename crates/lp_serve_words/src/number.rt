@@ -42,7 +42,7 @@ fn number_of(low: u64, high: u64, word: &str) -> Option<u64>
 
 /// The number that a value is, in decimal digits without sign and without a leading zero, if it is one
 /// from `low` up to `high`. Takes no memory.
-pub(crate) fn number_in(low: u64, high: u64, value: Option<&str>) -> Option<u64>
+pub fn number_in(low: u64, high: u64, value: Option<&str>) -> Option<u64>
     ensures value { result ≡ number_in_value low high (option_copied value.entry) }
     ensures within { IfSome result (λ n. n ≤ high) }
 {

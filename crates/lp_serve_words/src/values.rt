@@ -33,8 +33,8 @@ pub(crate) struct ServeTexts<'a> {
     pub(crate) turns: Option<&'a str>,
 }
 
-// Whether a text may be the value of an option. Takes no memory.
-fn is_value(text: &str) -> bool
+/// Whether a text may be the value of an option. Takes no memory.
+pub fn is_value(text: &str) -> bool
     ensures { result ≡ may_be_value text.now }
 {
     match text.as_bytes().first() {

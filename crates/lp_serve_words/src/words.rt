@@ -1,4 +1,4 @@
-//! The words of `serve`, as clap takes them.
+//! The words of a command and those of `serve`, as clap takes them.
 ghost use Rattle.std.specs.Prelude.{◌≡◌, Err, IfOk, None, Some, false, true, map, string_bytes};
 ghost use Rattle.std.specs.List.{list_all};
 ghost use Rattle.clap.specs.Words.{App, HasMatchesOf, app_of, fault_of, is_simple_and_free, rule_of};
@@ -32,11 +32,11 @@ pub struct Serving {
     pub turns: u64,
 }
 
-/// Why words are not those of `serve`.
+/// Why words are not those of a command.
 #[derive(Clone, Copy, Debug, PartialEq, Eq, Error)]
 pub enum WordsFault {
     /// The first word is another one, or what stands behind it does not belong to it.
-    #[error("the words are not those of serve")]
+    #[error("the words name no command")]
     BadWords,
     #[error("out of memory")]
     NoMemory,
@@ -59,15 +59,15 @@ fn may_stand(word: &str) -> bool
     word != "--" && word != "-h" && word != "--help"
 }
 
-// Whether each word may stand behind a command. Takes no memory.
-fn may_all_stand(words: &[String]) -> bool
+/// Whether each word may stand behind a command, whatever clap says of it: none is `--`, `-h` or `--help`. Takes no memory.
+pub fn may_all_stand(words: &[String]) -> bool
     ensures { result ≡ list_all (λ w. is_free_word (string_bytes w)) words.now }
 {
     words.iter().all(|word| may_stand(word.as_str()))
 }
 
-// Whether the first word is `serve`. Takes no memory.
-fn is_serve(words: &[String]) -> bool
+/// Whether the first word is `serve`. Takes no memory.
+pub fn is_serve(words: &[String]) -> bool
     ensures { result ≡ names_serve (map string_bytes words.now) }
 {
     match words.first() {
@@ -122,8 +122,11 @@ fn line<'a>(alloc: Global) -> Result<Line<'a>, AllocError>
     record.arg(valued(alloc, "turns"))
 }
 
-// What clap reads in the words, of which the first is the command's name.
-fn matched<'a>(line: Line<'a>, words: &'a [String]) -> Result<ArgMatches<'a>, WordsFault>
+/// What clap reads in the words of a command, of which the first is its name.
+///
+/// # Errors
+/// `BadWords` exactly where clap finds fault with them, or else `NoMemory`.
+pub fn matched<'a>(line: Line<'a>, words: &'a [String]) -> Result<ArgMatches<'a>, WordsFault>
     requires { is_simple_and_free (app_of line) ≡ true }
     ensures taken { IfOk result (λ m. has_some (fault_of (app_of line.entry) (map string_bytes words.now)) ≡ false) }
     ensures matches { IfOk result (HasMatchesOf (app_of line.entry) (map string_bytes words.now)) }

@@ -2,3 +2,4 @@ pub mod EventsRecorded
 pub mod Going
 pub mod Happening
 pub mod LinesHeard
+pub mod Causes

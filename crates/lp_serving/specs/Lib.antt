@@ -1,3 +1,4 @@
 pub mod Serves
 pub mod Happens
 pub mod Recorded
+pub mod Causes

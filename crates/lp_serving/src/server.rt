@@ -1,11 +1,12 @@
 //! Events of a served run.
-ghost use Rattle.std.specs.Prelude.{◌≡◌, ◌<◌, List, OnOk, Option, ℕ, length};
+ghost use Rattle.std.specs.Prelude.{◌≡◌, ◌<◌, ◌≤◌, List, OnOk, Option, ℕ, length};
 ghost use Rattle.lp_core.specs.Turning.{MayCome, Origin};
 ghost use Rattle.std.specs.List.{remove};
 ghost use Rattle.lp_sessions.specs.All.{numbers};
 ghost use Rattle.lp_sessions.specs.Table.{no_connections};
 ghost use Rattle.lp_wire.specs.Heard.{Hearing, is_open, line_heard, lines_heard, piece_heard, accept_heard, lost_heard, settled, tick_heard};
 ghost use Rattle.lp_wire.specs.declared.happening.WireCall.{WireCall};
+ghost use Rattle.lp_serving.specs.Causes.{OutputTells, SwapTells, is_output};
 ghost use Rattle.lp_serving.specs.Happens.{Happens, Serving};
 ghost use Rattle.lp_serving.specs.Recorded.{Recorded};
 ghost use Rattle.lp_serving.specs.Serves.{Forgets, Goes, SendsAlone, TurnsOver, turn_course};
@@ -97,6 +98,9 @@ impl Server {
         ensures keeps { self.new.keeps ≡ self.old.keeps }
         ensures faults { N.faults wire.new ≡ N.faults wire.old }
         ensures first { N.first wire.new ≡ N.first wire.old }
+        ensures output { OutputTells (is_output result) (K.faults out.old) (K.faults out.new) (K.zeros out.old) (K.zeros out.new) }
+        ensures files { F.faults files.old ≤ F.faults files.new }
+        ensures swap { (from : W) → C.quiet from swap.old → SwapTells result (C.quiet from swap.new) (C.blames core.new from swap.new) }
     {
         let outs = match core.turn(swap, &event) {
             Ok(outs) => outs,
@@ -131,6 +135,9 @@ impl Server {
         ensures keeps { self.new.keeps ≡ self.old.keeps }
         ensures faults { N.faults wire.new ≡ N.faults wire.old }
         ensures first { N.first wire.new ≡ N.first wire.old }
+        ensures output { OutputTells (is_output result) (K.faults out.old) (K.faults out.new) (K.zeros out.old) (K.zeros out.new) }
+        ensures files { F.faults files.old ≤ F.faults files.new }
+        ensures swap { (from : W) → C.quiet from swap.old → SwapTells result (C.quiet from swap.new) (C.blames core.new from swap.new) }
     {
         match self.connections.slowest() {
             Some(i) => {
@@ -164,6 +171,9 @@ impl Server {
         ensures keeps { self.new.keeps ≡ self.old.keeps }
         ensures faults { N.faults wire.new ≡ N.faults wire.old }
         ensures first { N.first wire.new ≡ N.first wire.old }
+        ensures output { OutputTells (is_output result) (K.faults out.old) (K.faults out.new) (K.zeros out.old) (K.zeros out.new) }
+        ensures files { F.faults files.old ≤ F.faults files.new }
+        ensures swap { (from : W) → C.quiet from swap.old → SwapTells result (C.quiet from swap.new) (C.blames core.new from swap.new) }
     {
         self.turn_over(core, swap, files, wire, out, event)?;
         self.settle(core, swap, files, wire, out)
@@ -186,6 +196,9 @@ impl Server {
         ensures keeps { self.new.keeps ≡ self.old.keeps }
         ensures faults { N.faults wire.new ≡ N.faults wire.old }
         ensures first { N.first wire.new ≡ N.first wire.old }
+        ensures output { OutputTells (is_output result) (K.faults out.old) (K.faults out.new) (K.zeros out.old) (K.zeros out.new) }
+        ensures files { F.faults files.old ≤ F.faults files.new }
+        ensures swap { (from : W) → C.quiet from swap.old → SwapTells result (C.quiet from swap.new) (C.blames core.new from swap.new) }
     {
         match self.connections.accept(k) {
             Ok(true) => self.event(core, swap, files, wire, out, Event::Connect(k)),
@@ -230,6 +243,9 @@ impl Server {
         ensures keeps { self.new.keeps ≡ self.old.keeps }
         ensures faults { N.faults wire.new ≡ N.faults wire.old }
         ensures first { N.first wire.new ≡ N.first wire.old }
+        ensures output { OutputTells (is_output result) (K.faults out.old) (K.faults out.new) (K.zeros out.old) (K.zeros out.new) }
+        ensures files { F.faults files.old ≤ F.faults files.new }
+        ensures swap { (from : W) → C.quiet from swap.old → SwapTells result (C.quiet from swap.new) (C.blames core.new from swap.new) }
     {
         match self.connections.place_of(k) {
             Some(i) => {
@@ -256,6 +272,9 @@ impl Server {
         ensures keeps { self.new.keeps ≡ self.old.keeps }
         ensures faults { N.faults wire.new ≡ N.faults wire.old }
         ensures first { N.first wire.new ≡ N.first wire.old }
+        ensures output { OutputTells (is_output result) (K.faults out.old) (K.faults out.new) (K.zeros out.old) (K.zeros out.new) }
+        ensures files { F.faults files.old ≤ F.faults files.new }
+        ensures swap { (from : W) → C.quiet from swap.old → SwapTells result (C.quiet from swap.new) (C.blames core.new from swap.new) }
     {
         if moment < self.moment {
             return Ok(());
@@ -298,6 +317,9 @@ impl Server {
         ensures keeps { self.new.keeps ≡ self.old.keeps }
         ensures faults { N.faults wire.new ≡ N.faults wire.old }
         ensures first { N.first wire.new ≡ N.first wire.old }
+        ensures output { OutputTells (is_output result) (K.faults out.old) (K.faults out.new) (K.zeros out.old) (K.zeros out.new) }
+        ensures files { F.faults files.old ≤ F.faults files.new }
+        ensures swap { (from : W) → C.quiet from swap.old → SwapTells result (C.quiet from swap.new) (C.blames core.new from swap.new) }
     {
         if !self.is_open(k) {
             return Ok(());
@@ -325,6 +347,9 @@ impl Server {
         ensures keeps { self.new.keeps ≡ self.old.keeps }
         ensures faults { N.faults wire.new ≡ N.faults wire.old }
         ensures first { N.first wire.new ≡ N.first wire.old }
+        ensures output { OutputTells (is_output result) (K.faults out.old) (K.faults out.new) (K.zeros out.old) (K.zeros out.new) }
+        ensures files { F.faults files.old ≤ F.faults files.new }
+        ensures swap { (from : W) → C.quiet from swap.old → SwapTells result (C.quiet from swap.new) (C.blames core.new from swap.new) }
     {
         for line in lines {
             self.line(core, swap, files, wire, out, k, line.as_slice())?;
@@ -350,6 +375,9 @@ impl Server {
         ensures keeps { self.new.keeps ≡ self.old.keeps }
         ensures faults { N.faults wire.new ≡ N.faults wire.old }
         ensures first { N.first wire.new ≡ N.first wire.old }
+        ensures output { OutputTells (is_output result) (K.faults out.old) (K.faults out.new) (K.zeros out.old) (K.zeros out.new) }
+        ensures files { F.faults files.old ≤ F.faults files.new }
+        ensures swap { (from : W) → C.quiet from swap.old → SwapTells result (C.quiet from swap.new) (C.blames core.new from swap.new) }
     {
         match self.connections.place_of(k) {
             None => Ok(()),

@@ -10,7 +10,7 @@ use Rattle.std.proofs.lemmas.List.Sorted.{searchable_from_sorted}
 use Rattle.lp_sessions.specs.declared.session.Session.{Session}
 use Rattle.lp_sessions.specs.All.{AreAbove, AreOther, numbers, number_of}
 
-not_less : (a b : ℕ) → a < b → is_lt (nat_cmp b a) ≡ false
+pub not_less : (a b : ℕ) → a < b → is_lt (nat_cmp b a) ≡ false
 not_less a b below = search rules
 
 each_above : (low : ℕ) (ss : List Session) → AreAbove low (numbers ss) → (k : ℕ) (d : Session) → suc k < length ss → is_lt (nat_cmp (get_or ss (suc k) d).number (get_or ss k d).number) ≡ false

@@ -6,3 +6,4 @@ pub mod Finding
 pub mod Serving
 pub mod LawsHold
 pub mod Tables
+pub mod Index

@@ -53,7 +53,7 @@ table_removed h i ss ss1 removed t = rw removed (table_remove h i ss t)
 
 -- A piece of a stream
 
-any_default : (ss : List Session) (i : ℕ) (d e : Session) → i < length ss → get_or ss i d ≡ get_or ss i e
+pub any_default : (ss : List Session) (i : ℕ) (d e : Session) → i < length ss → get_or ss i d ≡ get_or ss i e
 any_default [] i d e within = absurd (omega (arith, within))
 any_default (s ∷ ss) zero d e within = refl
 any_default (s ∷ ss) (suc i) d e within = any_default ss i d e (omega (arith, within))

@@ -3,3 +3,4 @@ pub mod All
 pub mod Table
 pub mod Serving
 pub mod Laws
+pub mod Index

@@ -1,7 +1,8 @@
 //! One connection of a server.
-ghost use Rattle.std.specs.Prelude.{◌≡◌, ℕ, List, [], OnOk, OnErr, ◌++◌};
+ghost use Rattle.std.specs.Prelude.{◌≡◌, ℕ, List, [], OnOk, OnErr, ◌++◌, false};
 ghost use Rattle.lp_wire.specs.WireText.{Link, behind_out, wire_bytes};
 ghost use Rattle.lp_wire.specs.Wires.{IsRest};
+ghost use Rattle.lp_sessions.specs.Index.{IsIdle};
 ghost use Rattle.lp_sessions.specs.Tied.{HasText, TellsOne, closed_phase as phase_closed, new_session};
 
 use lp_events::out::Out;
@@ -113,6 +114,17 @@ impl Session {
                 }
             }
             Phase::Over => {}
+        }
+    }
+
+    /// Whether something is to be done for it at the next offers: bytes are pending, or its close is. Takes no memory.
+    pub(crate) fn is_waiting(&self) -> bool
+        ensures { result ≡ false → IsIdle self.now }
+    {
+        match self.phase {
+            Phase::Open => self.outbox.pending() > 0,
+            Phase::Closing => true,
+            Phase::Over => self.outbox.pending() > 0,
         }
     }
 }

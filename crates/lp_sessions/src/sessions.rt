@@ -7,7 +7,7 @@ ghost use Rattle.lp_sessions.specs.Table.{Connections, IsTable, no_connections, 
 ghost use Rattle.lp_sessions.specs.Serving.{AreQuick, IsSlowest};
 ghost use Rattle.lp_sessions.specs.declared.session.Session.{Session as S};
 
-use crate::each::{offer_each, place_among, slowest_among, take_each};
+use crate::each::{forget_idle, offer_listed, place_among, slowest_listed, take_each};
 use crate::session::{Phase, Session};
 use lp_events::out::Outs;
 use lp_io::Octets;
@@ -19,22 +19,25 @@ use std::marker::Model;
 pub const MOST_PENDING: u64 = 262144;
 
 /// The connections that are not gone, by rising numbers, and the highest number so far. A connection is found by its number in
-/// logarithmic time, and named by its place until one is taken in or out.
+/// logarithmic time, and named by its place until one is taken in or out. An index has the numbers of those for which something is
+/// pending, so that offers look at no others.
 #[derive(Drop)]
 pub struct Sessions {
     alloc: Global,
     sessions: Vec<Session>,
+    listed: Vec<u32>,
     highest: u32,
 }
 
 impl Model for Sessions {
+    ghost use Rattle.lp_sessions.specs.Index.{IsIndex};
     ghost use Rattle.lp_sessions.specs.Table.{Connections, IsTable};
 
     ghost Value = { Connections };
 
     ghost view = { λ s. record { sessions = s.sessions.items; highest = s.highest } };
 
-    ghost invariant = { λ s. IsTable (record { sessions = s.sessions.items; highest = s.highest }) };
+    ghost invariant = { λ s. IsTable (record { sessions = s.sessions.items; highest = s.highest }) × IsIndex s.listed.items s.sessions.items };
 }
 
 impl Sessions {
@@ -45,6 +48,7 @@ impl Sessions {
         Sessions {
             alloc,
             sessions: Vec::new(alloc),
+            listed: Vec::new(alloc),
             highest: 0,
         }
     }
@@ -117,18 +121,19 @@ impl Sessions {
 
     /// Takes the outputs of a turn in, each by the connection that it is for; those for a connection that is not there, or
     /// behind its own close, go nowhere. Where memory is wanting those before the first that found none were taken in.
-    /// Takes time in proportion to the bytes of the outputs, and for each output logarithmic in how many connections there are.
+    /// Takes time in proportion to the bytes of the outputs, and for each output logarithmic in how many connections there are; an
+    /// output for a connection for which nothing was pending moves the numbers of those above it for which something is.
     pub fn take_outs(&mut self, outs: &Outs) -> Result<(), AllocError>
         ensures ok { OnOk result (TakesOuts outs.now self.old.sessions self.new.sessions) }
         ensures numbers { numbers self.new.sessions ≡ numbers self.old.sessions }
         ensures highest { self.new.highest ≡ self.old.highest }
         ensures err { OnErr result (TakesSome outs.now self.old.sessions self.new.sessions) }
     {
-        take_each(&mut self.sessions, outs.as_slice())
+        take_each(&mut self.sessions, &mut self.listed, outs.as_slice())
     }
 
-    /// Offers each connection what is pending for it, one after another, by rising numbers. Takes no memory. Looks at every
-    /// connection.
+    /// Offers each connection what is pending for it, one after another, by rising numbers. Takes no memory. Looks at those alone
+    /// for which something is pending, each found in logarithmic time.
     pub fn offer_all<N: Wire>(&mut self, wire: &mut N)
         ensures tells { TellsAll self.old.sessions self.new.sessions (N.calls wire.old) (N.calls wire.new) }
         ensures numbers { numbers self.new.sessions ≡ numbers self.old.sessions }
@@ -136,15 +141,16 @@ impl Sessions {
         ensures faults { N.faults wire.new ≡ N.faults wire.old }
         ensures first { N.first wire.new ≡ N.first wire.old }
     {
-        offer_each(&mut self.sessions, wire);
+        offer_listed(&mut self.sessions, self.listed.as_slice(), wire);
+        forget_idle(&mut self.listed, self.sessions.as_slice());
     }
 
-    /// The place of the first connection for which more than `MOST_PENDING` bytes are pending. Takes no memory. Looks at every
-    /// connection up to that one.
+    /// The place of the first connection for which more than `MOST_PENDING` bytes are pending. Takes no memory. Looks at those alone
+    /// for which something is pending.
     pub fn slowest(&self) -> Option<usize>
         ensures some { IfSome result (λ i. IsSlowest i self.now.sessions) }
         ensures none { IfNone result (AreQuick self.now.sessions) }
     {
-        slowest_among(self.sessions.as_slice())
+        slowest_listed(self.sessions.as_slice(), self.listed.as_slice())
     }
 }

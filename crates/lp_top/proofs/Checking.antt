@@ -56,6 +56,9 @@ wrote_none simul b before s xs e w = record { read = xs; ends = e; wrote = λ ol
 pub checks_early : (simul : Option (List ℕ)) (b : List ℕ) (before : Option (List ℕ)) (s : Status) → EndsGathering b s → IsReadingEnd s → Checks simul b s before before
 checks_early simul b before ends.Done h k = absurd k
 checks_early simul b before ends.BadWords h k = absurd k
+checks_early simul b before (ends.FilesFault path) h k = absurd k
+checks_early simul b before ends.WireFault h k = absurd k
+checks_early simul b before ends.TurnsSpent h k = absurd k
 checks_early simul b before (ends.BadScript at) h k = wrote_none simul b before (ends.BadScript at) h.read h.ends (λ piece e. e)
 checks_early simul b before (ends.NoMaster faults) h k = absurd k
 checks_early simul b before ends.TooLarge h k = wrote_none simul b before ends.TooLarge h.read h.ends (λ piece e. e)
@@ -91,6 +94,9 @@ pub checks_finished : (simul : Option (List ℕ)) (b : List ℕ) (before after :
 checks_finished simul b before after sources whole ends.Done h r i = record { read = h.read; ends = (h.script, h.short); wrote = λ old f. (whole, added before after old whole i f, r) }
 checks_finished simul b before after sources whole ends.OutputFault h r i = record { read = h.read; ends = (h.script, h.short); wrote = λ old f. (i.0, added before after old i.0 i.2 f, (whole, r, i.1)) }
 checks_finished simul b before after sources whole ends.BadWords h r i = absurd i
+checks_finished simul b before after sources whole (ends.FilesFault path) h r i = absurd i
+checks_finished simul b before after sources whole ends.WireFault h r i = absurd i
+checks_finished simul b before after sources whole ends.TurnsSpent h r i = absurd i
 checks_finished simul b before after sources whole (ends.BadScript at) h r i = absurd i
 checks_finished simul b before after sources whole (ends.NoMaster fs) h r i = absurd i
 checks_finished simul b before after sources whole ends.TooLarge h r i = absurd i
@@ -100,12 +106,18 @@ checks_finished simul b before after sources whole ends.NoMemory h r i = absurd 
 
 pub kind_of_finish : (whole : List ℕ) (before after : Option (List ℕ)) (s : Status) → Finishes whole before after s → IsCheckEnd s
 kind_of_finish whole before after ends.BadWords i = absurd i
+kind_of_finish whole before after (ends.FilesFault path) i = absurd i
+kind_of_finish whole before after ends.WireFault i = absurd i
+kind_of_finish whole before after ends.TurnsSpent i = absurd i
 kind_of_finish whole before after (ends.NoMaster fs) i = absurd i
 kind_of_finish whole before after (ends.SwapFault cause) i = absurd i
 kind_of_finish whole before after s i = tt
 
 pub kind_of_reading : (s : Status) → IsReadingEnd s → IsCheckEnd s
 kind_of_reading ends.BadWords i = absurd i
+kind_of_reading (ends.FilesFault path) i = absurd i
+kind_of_reading ends.WireFault i = absurd i
+kind_of_reading ends.TurnsSpent i = absurd i
 kind_of_reading (ends.NoMaster fs) i = absurd i
 kind_of_reading (ends.SwapFault cause) i = absurd i
 kind_of_reading s i = tt
@@ -114,6 +126,9 @@ kind_of_reading s i = tt
 pub completes_check : OneSpelling → (b : List ℕ) (xs ys : List Item) (s : Status) → length b ≤ longest_input → IsScript b ys → (s ≡ ends.InputFault → ⊥) → (s ≡ ends.OutputFault → ⊥) → EndsCheck b xs s → (s ≡ ends.Done) ⊎ (s ≡ ends.NoMemory)
 completes_check law b xs ys ends.Done l i p q e = inl refl
 completes_check law b xs ys ends.BadWords l i p q e = absurd e
+completes_check law b xs ys (ends.FilesFault path) l i p q e = absurd e
+completes_check law b xs ys ends.WireFault l i p q e = absurd e
+completes_check law b xs ys ends.TurnsSpent l i p q e = absurd e
 completes_check law b xs ys (ends.BadScript at) l i p q e = absurd (bad-not-script law b xs ys at l i e)
 completes_check law b xs ys (ends.NoMaster fs) l i p q e = absurd e
 completes_check law b xs ys ends.TooLarge l i p q e = absurd (omega (arith, e.0))

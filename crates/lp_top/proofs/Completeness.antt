@@ -145,6 +145,9 @@ pub completes : OneSpelling → OneEnd Start → ThereIsOne → (b : List ℕ) (
     → (s ≡ ends.InputFault → ⊥) → (s ≡ ends.OutputFault → ⊥) → ((cause : SwapCause) → s ≡ ends.SwapFault cause → ⊥) → Ends b xs s → IsCarriedOut b s
 completes law one there b xs ys ends.Done l i m p q r e = tt
 completes law one there b xs ys ends.BadWords l i m p q r e = absurd e
+completes law one there b xs ys (ends.FilesFault path) l i m p q r e = absurd e
+completes law one there b xs ys ends.WireFault l i m p q r e = absurd e
+completes law one there b xs ys ends.TurnsSpent l i m p q r e = absurd e
 completes law one there b xs ys (ends.BadScript at) l i m p q r (inl h) = absurd (bad-not-script law b xs ys at l i h)
 completes law one there b xs ys (ends.BadScript at) l i m p q r (inr h) = (xs, h)
 completes law one there b xs ys (ends.NoMaster fs) l i m p q r e =

@@ -229,6 +229,9 @@ wrote-reading swap_time report b ys piece ends.InputFault k p = p
 wrote-reading swap_time report b ys piece ends.NoMemory k p = p
 wrote-reading swap_time report b ys piece ends.Done k p = absurd k
 wrote-reading swap_time report b ys piece ends.BadWords k p = absurd k
+wrote-reading swap_time report b ys piece (ends.FilesFault path) k p = absurd k
+wrote-reading swap_time report b ys piece ends.WireFault k p = absurd k
+wrote-reading swap_time report b ys piece ends.TurnsSpent k p = absurd k
 wrote-reading swap_time report b ys piece (ends.NoMaster fs) k p = absurd k
 wrote-reading swap_time report b ys piece ends.OutputFault k p = absurd k
 wrote-reading swap_time report b ys piece (ends.SwapFault cause) k p = absurd k
@@ -288,6 +291,9 @@ replays-interrupted swap_time report b xs x done turned at from now next ends.Ou
     }
 replays-interrupted swap_time report b xs x done turned at from now next ends.Done h t bs more place w i = absurd i
 replays-interrupted swap_time report b xs x done turned at from now next ends.BadWords h t bs more place w i = absurd i
+replays-interrupted swap_time report b xs x done turned at from now next (ends.FilesFault path) h t bs more place w i = absurd i
+replays-interrupted swap_time report b xs x done turned at from now next ends.WireFault h t bs more place w i = absurd i
+replays-interrupted swap_time report b xs x done turned at from now next ends.TurnsSpent h t bs more place w i = absurd i
 replays-interrupted swap_time report b xs x done turned at from now next (ends.NoMaster fs) h t bs more place w i = absurd i
 replays-interrupted swap_time report b xs x done turned at from now next ends.TooLarge h t bs more place w i = absurd i
 replays-interrupted swap_time report b xs x done turned at from now next ends.InputFault h t bs more place w i = absurd i
@@ -358,6 +364,9 @@ finished-done swap_time report b r told live from now next ends.OutputFault more
       );
     }
 finished-done swap_time report b r told live from now next ends.BadWords more h t k i = absurd i
+finished-done swap_time report b r told live from now next (ends.FilesFault path) more h t k i = absurd i
+finished-done swap_time report b r told live from now next ends.WireFault more h t k i = absurd i
+finished-done swap_time report b r told live from now next ends.TurnsSpent more h t k i = absurd i
 finished-done swap_time report b r told live from now next (ends.BadScript at) more h t k i = absurd i
 finished-done swap_time report b r told live from now next (ends.NoMaster fs) more h t k i = absurd i
 finished-done swap_time report b r told live from now next ends.TooLarge more h t k i = absurd i
@@ -408,10 +417,16 @@ rose-wider-either m n p q s t u v a b c d (inr r) = inr (rose-wider s t u v c d 
 
 pub kind-interrupted : (turned : List Out → Type 0) (at : ℕ) (now next : Option (List ℕ)) (s : Status) → Interrupts turned at now next s → IsReplayEnd s
 kind-interrupted turned at now next ends.BadWords i = absurd i
+kind-interrupted turned at now next (ends.FilesFault path) i = absurd i
+kind-interrupted turned at now next ends.WireFault i = absurd i
+kind-interrupted turned at now next ends.TurnsSpent i = absurd i
 kind-interrupted turned at now next s i = tt
 
 kind-finish : (last : List ℕ) (now next : Option (List ℕ)) (s : Status) → Finishes last now next s → IsReplayEnd s
 kind-finish last now next ends.BadWords i = absurd i
+kind-finish last now next (ends.FilesFault path) i = absurd i
+kind-finish last now next ends.WireFault i = absurd i
+kind-finish last now next ends.TurnsSpent i = absurd i
 kind-finish last now next s i = tt
 
 pub kind-finished : (report : Bool) (live : Live) (now next : Option (List ℕ)) (s : Status) → Concludes report live now next s → IsReplayEnd s

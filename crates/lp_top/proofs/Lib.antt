@@ -1,4 +1,3 @@
-pub mod Texts
 pub mod Reading
 pub mod Filing
 pub mod Going
@@ -6,7 +5,7 @@ pub mod Beginning
 pub mod Concluding
 pub mod Completeness
 pub mod Swapping
-pub mod Counting
 pub mod Making
 pub mod Checking
 pub mod Naming
+pub mod Serving

@@ -1,15 +1,22 @@
 -- Making the script of a workload.
-use Rattle.std.proofs.Common.{subst, ◌≡◌, ◌∙◌, ℕ, List, [], ◌++◌, take, drop, Bool, true, false, Option, Some, None, refl, sym, ap, inl, inr, ◌⊎◌}
+use Rattle.std.proofs.Common.{subst, ◌≡◌, ◌∙◌, ℕ, List, [], ◌++◌, take, drop, Bool, true, false, Option, Some, None, refl, sym, ap, inl, inr, ◌⊎◌, String}
+use Rattle.std.specs.declared.alloc.Global.{Global}
+use Rattle.lp_files.specs.declared.store.Store.{Store}
 use Rattle.std.proofs.lemmas.List.{append-nil, take-append-drop}
 use Rattle.lp_io.specs.Told.{after_adding, IsCut}
 use Rattle.lp_events.specs.Script.{spellings}
 use Rattle.lp_workload.specs.Workload.{workload}
 use Rattle.lp_top.specs.declared.words.Command.{Command}
-use Rattle.lp_top.specs.declared.words.Command.TheVariants.{Check, Make, Replay}
+use Rattle.lp_serve_words.specs.declared.words.Serving.{Serving}
+use Rattle.lp_top.specs.declared.words.Command.TheVariants.{Check, Make, Replay, Serve}
 use Rattle.lp_top.specs.declared.status.Status.{Status}
 use Rattle.lp_top.specs.declared.status.Status.TheVariants as ends
 use Rattle.lp_top.specs.Make.{IsMakeEnd, Makes}
+use Rattle.lp_folder.specs.Held.{Held}
+use Rattle.lp_wire.specs.declared.happening.WireCall.{WireCall}
+use Rattle.lp_host.specs.declared.run.Hosted.TheVariants as hosted
 use Rattle.lp_top.specs.Replay.{IsFrontOf, Replays}
+use Rattle.lp_top.specs.Serves.{Serves}
 
 -- the script was written
 pub makes_whole : (count seed : ℕ) (before after : Option (List ℕ)) → after ≡ after_adding before (spellings (workload count seed)) → Makes count seed ends.Done before after
@@ -39,6 +46,9 @@ completes_make ends.Done i q = inl refl
 completes_make ends.OutputFault i q = absurd (q refl)
 completes_make ends.NoMemory i q = inr refl
 completes_make ends.BadWords i q = absurd i
+completes_make (ends.FilesFault path) i q = absurd i
+completes_make ends.WireFault i q = absurd i
+completes_make ends.TurnsSpent i q = absurd i
 completes_make (ends.BadScript at) i q = absurd i
 completes_make (ends.NoMaster faults) i q = absurd i
 completes_make ends.TooLarge i q = absurd i
@@ -64,6 +74,13 @@ abbrev is_make : Command → Bool
 is_make (Make count seed) = true
 is_make (Replay swap_time report) = false
 is_make (Check simul) = false
+is_make (Serve serving) = false
+
+abbrev is_serve : Command → Bool
+is_serve (Serve serving) = true
+is_serve (Make count seed) = false
+is_serve (Replay swap_time report) = false
+is_serve (Check simul) = false
 
 same_report : {a c : ℕ} {r q : Bool} → Replay a r ≡ Replay c q → r ≡ q
 same_report e = cc
@@ -86,3 +103,26 @@ not_check o simul count seed e f = let h = ap is_make (some_same (sym e ∙ f)) 
 
 pub not_none : (o : Option Command) (count seed : ℕ) → o ≡ None → o ≡ Some (Make count seed) → ⊥
 not_none o count seed e f = let h = sym e ∙ f in absurd cc
+
+pub serve_not_make : (o : Option Command) (serving : Serving) (count seed : ℕ) → o ≡ Some (Serve serving) → o ≡ Some (Make count seed) → ⊥
+serve_not_make o serving count seed e f = let h = ap is_make (some_same (sym e ∙ f)) in absurd cc
+
+-- words that name another command name no game to serve
+pub not_serve : (o : Option Command) (c : Command) (serving : Serving) → is_serve c ≡ false → o ≡ Some c → o ≡ Some (Serve serving) → ⊥
+not_serve o c serving n e f = let h = ap is_serve (some_same (sym e ∙ f)) in absurd cc
+
+pub none_not_serve : (o : Option Command) (serving : Serving) → o ≡ None → o ≡ Some (Serve serving) → ⊥
+none_not_serve o serving e f = let h = sym e ∙ f in absurd cc
+
+same_serving : {a b : Serving} → Serve a ≡ Serve b → a ≡ b
+same_serving e = cc
+
+-- words name one game at most
+pub serves_named : (o : Option Command) (a b : Serving) (held : Option Held) (opening : ℕ) (before now : Option (List ℕ)) (told0 told1 : Option (List WireCall)) (left : Option (String Global) → Store → Type 0) (unserved : Type 0) (s : Status) → o ≡ Some (Serve a) → o ≡ Some (Serve b)
+    → Serves a held opening before now told0 told1 left unserved s → Serves b held opening before now told0 told1 left unserved s
+serves_named o a b held opening before now told0 told1 left unserved s e f h = subst (λ x. Serves x held opening before now told0 told1 left unserved s) (same_serving (some_same (sym e ∙ f))) h
+
+-- nothing was served
+pub serves_nothing : (serving : Serving) (held : Option Held) (opening : ℕ) (told : Option (List ℕ)) (calls : Option (List WireCall)) (left : Option (String Global) → Store → Type 0) (unserved : Type 0)
+    → Serves serving held opening told told calls calls left unserved ends.NoMemory
+serves_nothing serving held opening told calls left unserved = record { end = hosted.NoMemory; is = refl; hosted = tt; no_master = tt }

@@ -4,22 +4,16 @@ use Rattle.std.specs.Prelude.{Result, Ok, Err, IfOk}
 use Rattle.std.specs.List.{list_all}
 use Rattle.std.specs.declared.alloc.Global.{Global}
 use Rattle.std.proofs.lemmas.List.Folds.{list_all-map}
-use Rattle.clap.specs.Kinds.{Kinds, IsAmong}
 use Rattle.clap.specs.Words.{App, HasMatchesOf, first_of, first_value, found_of, is_simple, is_simple_and_free, matches_of}
 use Rattle.clap.specs.declared.parser.matches.ArgMatches.{ArgMatches}
 use Rattle.clap.proofs.WalkLemmas.{first_value-rows}
-use Rattle.clap.specs.declared.error.kind.ErrorKind.{ErrorKind}
 use Rattle.clap.proofs.OnLiterals.{clap_on_literals}
 use Rattle.lp_top.specs.declared.words.Command.{Command}
 use Rattle.lp_top.specs.declared.words.CommandName.{CommandName}
 use Rattle.lp_top.specs.declared.words.CommandName.TheVariants as name
-use Rattle.lp_top.specs.declared.words.WordsFault.{WordsFault}
-use Rattle.lp_top.specs.Words.{command_named, is_free_word, line_of, has_some, fault_in_line, value_in, is_set, make_with, replay_with, with_values, taken_with, command_with, command_in}
-
--- a kind among some is one
-pub some_kind : (k : ErrorKind) (ks : Kinds) → IsAmong k ks → has_some ks ≡ true
-some_kind k [] h = absurd h
-some_kind k (x ∷ xs) h = refl
+use Rattle.lp_serve_words.specs.Words.{is_free_word, names_serve, serving_in}
+use Rattle.lp_serve_words.specs.declared.words.WordsFault.{WordsFault}
+use Rattle.lp_top.specs.Words.{command_named, line_of, fault_in_line, value_in, is_set, make_with, replay_with, with_values, taken_with, command_with, command_in, named_in, serve_with}
 
 pub is_simple_line : (n : CommandName) → is_simple_and_free (line_of n) ≡ true
 unfolding clap_on_literals
@@ -45,7 +39,7 @@ pub taken_by : (n : CommandName) (words : List (List ℕ)) → fault_in_line n w
 taken_by n words e = ap (λ b. if b then None else with_values n words) e
 
 -- the first word says which command may be named
-pub by_first : (ws : List (String Global)) (w : String Global) (o : Option CommandName) → Some w ≡ slice_get ws 0 → o ≡ command_named (string_bytes w) → command_in (map string_bytes ws) ≡ command_with o (map string_bytes ws)
+pub by_first : (ws : List (String Global)) (w : String Global) (o : Option CommandName) → Some w ≡ slice_get ws 0 → o ≡ command_named (string_bytes w) → named_in (map string_bytes ws) ≡ command_with o (map string_bytes ws)
 by_first [] w o e n = absurd cc
 by_first (x ∷ ws) w o e n =
     let same : w ≡ x = cc in
@@ -82,10 +76,25 @@ make_refused n words count seed is taken e f h = make_read n words count seed is
 
 -- the first word names a command, each word may stand, and clap takes them
 pub named_command : (ws : List (String Global)) (w : String Global) (n : CommandName) (r : Result Command WordsFault) → Some w ≡ slice_get ws 0 → Some n ≡ command_named (string_bytes w) → list_all (λ v. is_free_word (string_bytes v)) ws ≡ true
-    → IfOk r (λ c. taken_with n (map string_bytes ws) ≡ Some c) → IfOk r (λ c. command_in (map string_bytes ws) ≡ Some c)
+    → IfOk r (λ c. taken_with n (map string_bytes ws) ≡ Some c) → IfOk r (λ c. named_in (map string_bytes ws) ≡ Some c)
 named_command ws w n (Ok c) first is free h = by_first ws w (Some n) first is ∙ with_free ws n free ∙ h
 named_command ws w n (Err e) first is free h = tt
 
 pub refused_command : (ws : List (String Global)) (w : String Global) (n : CommandName) → Some w ≡ slice_get ws 0 → Some n ≡ command_named (string_bytes w) → list_all (λ v. is_free_word (string_bytes v)) ws ≡ true
-    → taken_with n (map string_bytes ws) ≡ None → command_in (map string_bytes ws) ≡ None
+    → taken_with n (map string_bytes ws) ≡ None → named_in (map string_bytes ws) ≡ None
 refused_command ws w n first is free h = by_first ws w (Some n) first is ∙ with_free ws n free ∙ h
+
+-- the words are those of `serve`, or of another command
+pub by_serve : (words : List (List ℕ)) → names_serve words ≡ true → command_in words ≡ serve_with (serving_in words)
+by_serve words e = ap (λ b. if b then serve_with (serving_in words) else named_in words) e
+
+pub by_another : (words : List (List ℕ)) → names_serve words ≡ false → command_in words ≡ named_in words
+by_another words e = ap (λ b. if b then serve_with (serving_in words) else named_in words) e
+
+pub serve_named : (ws : List (String Global)) (r : Result Command WordsFault) → names_serve (map string_bytes ws) ≡ true → IfOk r (λ c. serve_with (serving_in (map string_bytes ws)) ≡ Some c) → IfOk r (λ c. command_in (map string_bytes ws) ≡ Some c)
+serve_named ws (Ok c) e h = by_serve (map string_bytes ws) e ∙ h
+serve_named ws (Err f) e h = tt
+
+pub another_named : (ws : List (String Global)) (r : Result Command WordsFault) → names_serve (map string_bytes ws) ≡ false → IfOk r (λ c. named_in (map string_bytes ws) ≡ Some c) → IfOk r (λ c. command_in (map string_bytes ws) ≡ Some c)
+another_named ws (Ok c) e h = by_another (map string_bytes ws) e ∙ h
+another_named ws (Err f) e h = tt

@@ -22,6 +22,9 @@ abbrev pub is_swap : Status → Bool
 is_swap (ends.SwapFault cause) = true
 is_swap ends.Done = false
 is_swap ends.BadWords = false
+is_swap (ends.FilesFault path) = false
+is_swap ends.WireFault = false
+is_swap ends.TurnsSpent = false
 is_swap (ends.BadScript at) = false
 is_swap (ends.NoMaster fs) = false
 is_swap ends.TooLarge = false
@@ -33,6 +36,9 @@ is_swap ends.NoMemory = false
 pub still-tells : (s : Status) (told : Option Bytes) (last : Last) (r : ℕ) (t h : Type 0) → is_swap s ≡ false → SwapTells s told last r r t t h h
 still-tells ends.Done told last r t h e = record { cause = tt; faults = refl; truthful = λ x. x; honest = λ x. (x, λ y. tt) }
 still-tells ends.BadWords told last r t h e = record { cause = tt; faults = refl; truthful = λ x. x; honest = λ x. (x, λ y. tt) }
+still-tells (ends.FilesFault path) told last r t h e = record { cause = tt; faults = refl; truthful = λ x. x; honest = λ x. (x, λ y. tt) }
+still-tells ends.WireFault told last r t h e = record { cause = tt; faults = refl; truthful = λ x. x; honest = λ x. (x, λ y. tt) }
+still-tells ends.TurnsSpent told last r t h e = record { cause = tt; faults = refl; truthful = λ x. x; honest = λ x. (x, λ y. tt) }
 still-tells (ends.BadScript at) told last r t h e = record { cause = tt; faults = refl; truthful = λ x. x; honest = λ x. (x, λ y. tt) }
 still-tells (ends.NoMaster fs) told last r t h e = record { cause = tt; faults = refl; truthful = λ x. x; honest = λ x. (x, λ y. tt) }
 still-tells ends.TooLarge told last r t h e = record { cause = tt; faults = refl; truthful = λ x. x; honest = λ x. (x, λ y. tt) }
@@ -83,6 +89,9 @@ reading-calm ends.InputFault k = refl
 reading-calm ends.NoMemory k = refl
 reading-calm ends.Done k = absurd k
 reading-calm ends.BadWords k = absurd k
+reading-calm (ends.FilesFault path) k = absurd k
+reading-calm ends.WireFault k = absurd k
+reading-calm ends.TurnsSpent k = absurd k
 reading-calm (ends.NoMaster fs) k = absurd k
 reading-calm ends.OutputFault k = absurd k
 reading-calm (ends.SwapFault cause) k = absurd k
@@ -91,6 +100,9 @@ pub finish-calm : (last : List ℕ) (before after : Option (List ℕ)) (s : Stat
 finish-calm last before after ends.Done i = refl
 finish-calm last before after ends.OutputFault i = refl
 finish-calm last before after ends.BadWords i = absurd i
+finish-calm last before after (ends.FilesFault path) i = absurd i
+finish-calm last before after ends.WireFault i = absurd i
+finish-calm last before after ends.TurnsSpent i = absurd i
 finish-calm last before after (ends.BadScript at) i = absurd i
 finish-calm last before after (ends.NoMaster fs) i = absurd i
 finish-calm last before after ends.TooLarge i = absurd i
@@ -106,6 +118,9 @@ pub check-calm : (s : Status) → IsCheckEnd s → is_swap s ≡ false
 check-calm ends.Done i = refl
 check-calm ends.OutputFault i = refl
 check-calm ends.BadWords i = absurd i
+check-calm (ends.FilesFault path) i = absurd i
+check-calm ends.WireFault i = absurd i
+check-calm ends.TurnsSpent i = absurd i
 check-calm (ends.BadScript at) i = refl
 check-calm (ends.NoMaster fs) i = absurd i
 check-calm ends.TooLarge i = refl
@@ -118,6 +133,9 @@ make-calm ends.Done i = refl
 make-calm ends.OutputFault i = refl
 make-calm ends.NoMemory i = refl
 make-calm ends.BadWords i = absurd i
+make-calm (ends.FilesFault path) i = absurd i
+make-calm ends.WireFault i = absurd i
+make-calm ends.TurnsSpent i = absurd i
 make-calm (ends.BadScript at) i = absurd i
 make-calm (ends.NoMaster fs) i = absurd i
 make-calm ends.TooLarge i = absurd i

@@ -11,7 +11,7 @@ use Rattle.lp_world.specs.declared.live.Live.{Live}
 use Rattle.lp_driver.specs.VmFault.{VmFault}
 use Rattle.lp_driver.specs.VmFault.TheVariants as faults
 use Rattle.lp_top.specs.declared.status.Status.{Status}
-use Rattle.lp_top.specs.declared.status.Status.TheVariants.{Done, BadScript, InputFault, OutputFault, SwapFault, NoMemory}
+use Rattle.lp_top.specs.declared.status.Status.TheVariants.{Done, BadScript, InputFault, OutputFault, SwapFault, FilesFault, WireFault, NoMemory}
 
 -- the input is blamed only where the source's count of faults rose between two moments
 abbrev pub BlamesInput : Status → ℕ → ℕ → Type 0
@@ -20,6 +20,16 @@ BlamesInput s before now = s ≡ InputFault → Rose before now
 -- the output only where the sink's count of faults rose, or that of its writes that took nothing
 abbrev pub BlamesOutput : Status → ℕ → ℕ → ℕ → ℕ → Type 0
 BlamesOutput s before now zeros_before zeros_now = s ≡ OutputFault → Rose before now ⊎ Rose zeros_before zeros_now
+
+-- the files only where their count of faults rose
+abbrev pub BlamesFiles : Status → ℕ → ℕ → Type 0
+BlamesFiles (FilesFault path) before now = Rose before now
+BlamesFiles s before now = ⊤
+
+-- a poll of the wire failed
+abbrev pub is_wire_fault : Status → Bool
+is_wire_fault WireFault = true
+is_wire_fault s = false
 
 -- a read of the swap file failed
 abbrev pub is_read_end : Status → Bool

@@ -7,7 +7,7 @@ use Rattle.lp_check.specs.declared.sources.Sources.{Sources}
 use Rattle.lp_check.specs.Report.{IsReport}
 use Rattle.lp_check.specs.Sources.{AreFiles}
 use Rattle.lp_top.specs.declared.status.Status.{Status}
-use Rattle.lp_top.specs.declared.status.Status.TheVariants.{Done, BadWords, BadScript, NoMaster, TooLarge, InputFault, OutputFault, SwapFault, NoMemory}
+use Rattle.lp_top.specs.declared.status.Status.TheVariants.{Done, BadWords, BadScript, NoMaster, TooLarge, InputFault, OutputFault, SwapFault, FilesFault, WireFault, TurnsSpent, NoMemory}
 use Rattle.lp_top.specs.Items.{Holds}
 use Rattle.lp_top.specs.Replay.{IsFrontOf}
 
@@ -22,12 +22,18 @@ EndsCheck bytes xs NoMemory = Holds bytes xs
 EndsCheck bytes xs BadWords = ⊥
 EndsCheck bytes xs (NoMaster faults) = ⊥
 EndsCheck bytes xs (SwapFault cause) = ⊥
+EndsCheck bytes xs (FilesFault path) = ⊥
+EndsCheck bytes xs WireFault = ⊥
+EndsCheck bytes xs TurnsSpent = ⊥
 
 -- the ends that a check may have once the words are right
 abbrev pub IsCheckEnd : Status → Type 0
 IsCheckEnd BadWords = ⊥
 IsCheckEnd (NoMaster faults) = ⊥
 IsCheckEnd (SwapFault cause) = ⊥
+IsCheckEnd (FilesFault path) = ⊥
+IsCheckEnd WireFault = ⊥
+IsCheckEnd TurnsSpent = ⊥
 IsCheckEnd s = Unit {0}
 
 -- What was written at an end: the report of the script's files, where this path was given for the simul efuns, or where

@@ -1,4 +1,5 @@
 pub mod Words
+pub mod Wants
 pub mod Ends
 pub mod Items
 pub mod Notes
@@ -8,3 +9,4 @@ pub mod Replay
 pub mod Causes
 pub mod Check
 pub mod Make
+pub mod Serves

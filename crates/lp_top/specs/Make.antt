@@ -3,7 +3,7 @@ use Rattle.std.specs.Prelude.{◌≡◌, ℕ, List, ◌++◌, Option, Some}
 use Rattle.lp_events.specs.Script.{spellings}
 use Rattle.lp_workload.specs.Workload.{workload}
 use Rattle.lp_top.specs.declared.status.Status.{Status}
-use Rattle.lp_top.specs.declared.status.Status.TheVariants.{Done, BadWords, BadScript, NoMaster, TooLarge, InputFault, OutputFault, SwapFault, NoMemory}
+use Rattle.lp_top.specs.declared.status.Status.TheVariants.{Done, BadWords, BadScript, NoMaster, TooLarge, InputFault, OutputFault, SwapFault, FilesFault, WireFault, TurnsSpent, NoMemory}
 use Rattle.lp_top.specs.Replay.{IsFrontOf}
 
 -- the ends that it may have once the words are right
@@ -17,6 +17,9 @@ IsMakeEnd (NoMaster faults) = ⊥
 IsMakeEnd TooLarge = ⊥
 IsMakeEnd InputFault = ⊥
 IsMakeEnd (SwapFault cause) = ⊥
+IsMakeEnd (FilesFault path) = ⊥
+IsMakeEnd WireFault = ⊥
+IsMakeEnd TurnsSpent = ⊥
 
 -- What was written at an end: the script of the workload, or where the sink failed or memory ran out a front of it.
 abbrev pub WroteMake : List ℕ → List ℕ → Status → Type 0
@@ -29,6 +32,9 @@ WroteMake script piece (NoMaster faults) = ⊥
 WroteMake script piece TooLarge = ⊥
 WroteMake script piece InputFault = ⊥
 WroteMake script piece (SwapFault cause) = ⊥
+WroteMake script piece (FilesFault path) = ⊥
+WroteMake script piece WireFault = ⊥
+WroteMake script piece TurnsSpent = ⊥
 
 -- What making the workload of so many events with this seed ended with, and what it wrote behind what was told before.
 pub record Makes (count seed : ℕ) (status : Status) (before after : Option (List ℕ)) : Type 0 where

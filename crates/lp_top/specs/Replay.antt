@@ -24,7 +24,7 @@ use Rattle.lp_script.specs.declared.fault.ScriptFault.TheVariants as script
 use Rattle.lp_script.specs.Reader.{Reading, HasGiven}
 use Rattle.lp_top.specs.declared.opening.Opening.{Opening}
 use Rattle.lp_top.specs.declared.status.Status.{Status}
-use Rattle.lp_top.specs.declared.status.Status.TheVariants.{Done, BadWords, BadScript, NoMaster, TooLarge, InputFault, OutputFault, SwapFault, NoMemory}
+use Rattle.lp_top.specs.declared.status.Status.TheVariants.{Done, BadWords, BadScript, NoMaster, TooLarge, InputFault, OutputFault, SwapFault, FilesFault, WireFault, TurnsSpent, NoMemory}
 use Rattle.lp_top.specs.Reports.{IsBehind, IsBehindState}
 use Rattle.lp_top.specs.Coming.{HasCome}
 use Rattle.lp_top.specs.Items.{Holds, StopsAt, IsNotRunYet, IsRunOf, HasNoMaster, Blocks, has_started, moment_of, world_files}
@@ -39,6 +39,9 @@ Ends bytes xs TooLarge = IsTooLarge bytes xs
 Ends bytes xs InputFault = Holds bytes xs
 Ends bytes xs OutputFault = Holds bytes xs
 Ends bytes xs (SwapFault cause) = Holds bytes xs × StopsAt bytes xs
+Ends bytes xs (FilesFault path) = ⊥
+Ends bytes xs WireFault = ⊥
+Ends bytes xs TurnsSpent = ⊥
 Ends bytes xs NoMemory = Holds bytes xs
 
 -- a piece is a front of a whole
@@ -57,6 +60,9 @@ Wrote swap_time report bytes xs piece TooLarge = Blocks xs piece
 Wrote swap_time report bytes xs piece InputFault = Blocks xs piece
 Wrote swap_time report bytes xs piece OutputFault = (whole : List ℕ) × Blocks xs whole × (IsFrontOf piece whole ⊎ (IsScript bytes xs × ((more : List ℕ) × IsBehind swap_time report xs more × IsFrontOf piece (whole ++ codes "end\n" ++ more))))
 Wrote swap_time report bytes xs piece (SwapFault cause) = Blocks xs piece
+Wrote swap_time report bytes xs piece (FilesFault path) = ⊥
+Wrote swap_time report bytes xs piece WireFault = ⊥
+Wrote swap_time report bytes xs piece TurnsSpent = ⊥
 Wrote swap_time report bytes xs piece NoMemory = Blocks xs piece
 
 -- What a replay of these bytes, with a swap time and asked for a report or not, ended with, and what it wrote behind what was told before: by the items
@@ -115,6 +121,9 @@ IsReadingEnd BadWords = ⊥
 IsReadingEnd (NoMaster fs) = ⊥
 IsReadingEnd OutputFault = ⊥
 IsReadingEnd (SwapFault cause) = ⊥
+IsReadingEnd (FilesFault path) = ⊥
+IsReadingEnd WireFault = ⊥
+IsReadingEnd TurnsSpent = ⊥
 
 -- Reading behind these items gave this end, by these items or these and an `end`.
 pub record EndsReading (bytes : List ℕ) (xs : List Item) (status : Status) : Type 0 where
@@ -164,6 +173,9 @@ Interrupts turned at before after BadWords = ⊥
 Interrupts turned at before after (NoMaster fs) = ⊥
 Interrupts turned at before after TooLarge = ⊥
 Interrupts turned at before after InputFault = ⊥
+Interrupts turned at before after (FilesFault path) = ⊥
+Interrupts turned at before after WireFault = ⊥
+Interrupts turned at before after TurnsSpent = ⊥
 
 -- The last piece was written, or a front of it.
 abbrev pub Finishes : List ℕ → Option (List ℕ) → Option (List ℕ) → Status → Type 0
@@ -175,6 +187,9 @@ Finishes last before after (NoMaster fs) = ⊥
 Finishes last before after TooLarge = ⊥
 Finishes last before after InputFault = ⊥
 Finishes last before after (SwapFault cause) = ⊥
+Finishes last before after (FilesFault path) = ⊥
+Finishes last before after WireFault = ⊥
+Finishes last before after TurnsSpent = ⊥
 Finishes last before after NoMemory = ⊥
 
 -- The last lines were written, `end` and what stands behind it, or a front of them; or there was no memory for them.
@@ -185,6 +200,9 @@ Concludes report state before after status =
 -- the ends that a replay may have once the words are right
 abbrev pub IsReplayEnd : Status → Type 0
 IsReplayEnd BadWords = ⊥
+IsReplayEnd (FilesFault path) = ⊥
+IsReplayEnd WireFault = ⊥
+IsReplayEnd TurnsSpent = ⊥
 IsReplayEnd s = Unit {0}
 
 -- An end of a script that was carried out, to its end or up to an item that is not carried out yet; or memory ran out.
@@ -198,3 +216,6 @@ IsCarriedOut bytes TooLarge = ⊥
 IsCarriedOut bytes InputFault = ⊥
 IsCarriedOut bytes OutputFault = ⊥
 IsCarriedOut bytes (SwapFault cause) = ⊥
+IsCarriedOut bytes (FilesFault path) = ⊥
+IsCarriedOut bytes WireFault = ⊥
+IsCarriedOut bytes TurnsSpent = ⊥

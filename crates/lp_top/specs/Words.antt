@@ -1,17 +1,17 @@
 -- The words of the command line.
-use Rattle.std.specs.Prelude.{◌≡◌, ◌==◌, ℕ, List, [], ◌∷◌, map, bytes_eq, codes, Bool, true, false, not, ◌&&◌, Option, Some, None, if◌then◌else◌, String, string_bytes}
-use Rattle.std.specs.List.{list_all}
+use Rattle.std.specs.Prelude.{◌≡◌, ℕ, List, [], ◌∷◌, map, bytes_eq, codes, Bool, true, false, Option, Some, None, if◌then◌else◌, String, string_bytes}
 use Rattle.std.specs.declared.alloc.Global.{Global}
-use Rattle.clap.specs.Kinds.{Kinds}
 use Rattle.clap.specs.Words.{App, Rule, new_app, new_rule, with_rule, fault_of, matches_of, first_of}
 use Rattle.clap.specs.declared.builder.action.ArgAction.TheVariants.{Set, SetTrue}
-use Rattle.lp_script.specs.Reading.{is_between, number_named}
+use Rattle.lp_serve_words.specs.Values.{is_value, number_in}
+use Rattle.lp_serve_words.specs.Words.{are_free, has_some, names_serve, serving_in}
+use Rattle.lp_serve_words.specs.declared.words.Serving.{Serving}
 use Rattle.lp_top.specs.declared.words.Command.{Command}
-use Rattle.lp_top.specs.declared.words.Command.TheVariants.{Replay, Check, Make}
+use Rattle.lp_top.specs.declared.words.Command.TheVariants.{Replay, Check, Make, Serve}
 use Rattle.lp_top.specs.declared.words.CommandName.{CommandName}
 use Rattle.lp_top.specs.declared.words.CommandName.TheVariants as name
 
--- the command that a word names
+-- the command that a word names, if it is one of those but `serve`
 abbrev pub command_named : List ℕ → Option CommandName
 command_named word = if bytes_eq word (codes "replay") then Some name.Replay else (if bytes_eq word (codes "check") then Some name.Check else (if bytes_eq word (codes "make") then Some name.Make else None))
 
@@ -19,13 +19,6 @@ abbrev pub text_of : CommandName → List ℕ
 text_of name.Replay = codes "replay"
 text_of name.Check = codes "check"
 text_of name.Make = codes "make"
-
--- a word that is not one of those that no command takes, whatever clap says of them
-abbrev pub is_free_word : List ℕ → Bool
-is_free_word word = not (bytes_eq word (codes "--")) && not (bytes_eq word (codes "-h")) && not (bytes_eq word (codes "--help"))
-
-abbrev pub are_free : List (List ℕ) → Bool
-are_free words = list_all is_free_word words
 
 -- the option `--swap-time`, with one value
 abbrev pub swap_time_option : Rule
@@ -49,10 +42,6 @@ line_of name.Replay = with_rule (with_rule (new_app (codes "replay")) swap_time_
 line_of name.Check = with_rule (new_app (codes "check")) simul_option
 line_of name.Make = with_rule (with_rule (new_app (codes "make")) (wanted_value (codes "count"))) (wanted_value (codes "seed"))
 
-abbrev pub has_some : Kinds → Bool
-has_some [] = false
-has_some (k ∷ ks) = true
-
 -- clap finds fault with the words of a command, of which the first is its name
 abbrev pub fault_in_line : CommandName → List (List ℕ) → Bool
 fault_in_line name words = has_some (fault_of (line_of name) words)
@@ -61,20 +50,10 @@ fault_in_line name words = has_some (fault_of (line_of name) words)
 abbrev pub value_in : CommandName → List ℕ → List (List ℕ) → Option (List ℕ)
 value_in name id words = first_of id (matches_of (line_of name) words)
 
--- a value of an option is not empty, and does not begin with `-` (45)
-abbrev pub is_value : List ℕ → Bool
-is_value [] = false
-is_value (c ∷ rest) = not (c == 45)
-
 -- a check with the value of `--simul`, if that may be one
 abbrev pub check_with : Option (List ℕ) → Option Command
 check_with None = Some (Check None)
 check_with (Some value) = if is_value value then Some (Check (Some value)) else None
-
--- the number that a value is, in decimal digits without sign and without a leading zero, if it is one from `low` up to `high`
-abbrev pub number_in : ℕ → ℕ → Option (List ℕ) → Option ℕ
-number_in low high None = None
-number_in low high (Some value) = number_named (is_between low high) value
 
 -- whether an option without a value was given
 abbrev pub is_set : Option (List ℕ) → Bool
@@ -114,10 +93,19 @@ abbrev pub command_with : Option CommandName → List (List ℕ) → Option Comm
 command_with None words = None
 command_with (Some name) words = if are_free words then taken_with name words else None
 
--- the command that the words, without the program's name, name
+-- the command that the first word names, if it is one of those but `serve`
+abbrev pub named_in : List (List ℕ) → Option Command
+named_in [] = None
+named_in (word ∷ rest) = command_with (command_named word) (word ∷ rest)
+
+-- a game that is served, by words that say how
+abbrev pub serve_with : Option Serving → Option Command
+serve_with None = None
+serve_with (Some serving) = Some (Serve serving)
+
+-- THE COMMAND that the words, without the program's name, name
 abbrev pub command_in : List (List ℕ) → Option Command
-command_in [] = None
-command_in (word ∷ rest) = command_with (command_named word) (word ∷ rest)
+command_in words = if names_serve words then serve_with (serving_in words) else named_in words
 
 -- the words name this command
 abbrev pub Name : List (String Global) → Command → Type 0
@@ -126,3 +114,7 @@ Name words command = command_in (map string_bytes words) ≡ Some command
 -- they name a command that makes a workload
 abbrev pub NameMake : List (String Global) → Type 0
 NameMake words = (count : ℕ) × (seed : ℕ) × Name words (Make count seed)
+
+-- they name one that serves players
+abbrev pub NameServe : List (String Global) → Type 0
+NameServe words = (serving : Serving) × Name words (Serve serving)

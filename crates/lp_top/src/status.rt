@@ -57,6 +57,12 @@ pub enum Status {
     OutputFault,
     /// The swap file did not give what was written: a read failed, or gave other bytes.
     SwapFault { cause: SwapCause },
+    /// The files could not be loaded, which has the path `/`, or this changed file could not be written.
+    FilesFault { path: String },
+    /// A poll of the wire failed.
+    WireFault,
+    /// The wire was polled as often as it was to be.
+    TurnsSpent,
     /// There was no memory.
     NoMemory,
 }
@@ -74,6 +80,9 @@ pub fn code(status: &Status) -> u8
         Status::InputFault => 5,
         Status::OutputFault => 6,
         Status::SwapFault { .. } => 7,
+        Status::FilesFault { .. } => 8,
+        Status::WireFault => 9,
+        Status::TurnsSpent => 10,
         Status::NoMemory => 11,
     }
 }

@@ -1,17 +1,17 @@
 //! The words of the command line.
-ghost use Rattle.std.specs.Prelude.{◌≡◌, true, false, Err, IfOk, map, string_bytes};
-ghost use Rattle.std.specs.List.{list_all};
+ghost use Rattle.std.specs.Prelude.{◌≡◌, false, Err, IfOk, Some, None, map, string_bytes};
 ghost use Rattle.std.specs.Option.{option_copied};
-ghost use Rattle.clap.specs.Words.{HasMatchesOf, app_of, fault_of, is_simple_and_free, rule_of};
-ghost use Rattle.lp_top.specs.Words.{check_with, command_in, command_named as named, has_some, is_set as is_option_set, is_free_word, is_value as may_be_value, line_of, make_with, replay_with, wanted_value as wanted, taken_with, text_of};
-ghost use Rattle.lp_top.specs.declared.words.WordsFault.TheVariants as fault;
+ghost use Rattle.clap.specs.Words.{app_of, rule_of};
+ghost use Rattle.lp_serve_words.specs.Words.{serving_in};
+ghost use Rattle.lp_serve_words.specs.declared.words.WordsFault.TheVariants as fault;
+ghost use Rattle.lp_top.specs.Words.{check_with, command_in, command_named as named, is_set as is_option_set, line_of, make_with, named_in, replay_with, serve_with, taken_with, text_of, wanted_value as wanted};
 
-use crate::number::number_in;
-use clap::error::ErrorKind;
-use clap::{Arg, ArgAction, ArgMatches, Command as Line};
+use clap::{Arg, ArgAction, Command as Line};
+use lp_serve_words::{
+    Serving, WordsFault, is_serve, is_value, matched, may_all_stand, number_in, serving_of,
+};
 use lp_tree::path::FilePath;
 use std::alloc::{AllocError, Global};
-use thiserror::Error;
 
 /// What the program is asked to do.
 #[derive(Debug, Drop)]
@@ -24,9 +24,11 @@ pub enum Command {
     Check { simul: Option<FilePath> },
     /// Writes the script of a workload of so many events, which a generator with this seed chooses.
     Make { count: u32, seed: u64 },
+    /// Serves players.
+    Serve(Serving),
 }
 
-/// The names of the commands.
+/// The names of the commands but `serve`.
 #[derive(Clone, Copy, Debug, PartialEq, Eq)]
 pub enum CommandName {
     Replay,
@@ -42,26 +44,6 @@ const MOST_SWAP_TIME: u64 = 1_000_000_000;
 
 const USUAL_SWAP_TIME: u32 = 900;
 
-/// Why words name no command.
-#[derive(Clone, Copy, Debug, PartialEq, Eq, Error)]
-pub enum WordsFault {
-    /// The first word is no command, or what stands behind it does not belong to it.
-    #[error("the words name no command")]
-    BadWords,
-    #[error("out of memory")]
-    NoMemory,
-}
-
-impl From<AllocError> for WordsFault {
-    ghost use Rattle.lp_top.specs.declared.words.WordsFault.TheVariants.{NoMemory};
-
-    ghost from_gives = { λ _ e. e ≡ NoMemory };
-
-    fn from(_fault: AllocError) -> WordsFault {
-        WordsFault::NoMemory
-    }
-}
-
 // The command that a word names. Takes no memory.
 fn command_named(word: &str) -> Option<CommandName>
     ensures { result ≡ named word.now }
@@ -76,20 +58,6 @@ fn command_named(word: &str) -> Option<CommandName>
         return Some(CommandName::Make);
     }
     None
-}
-
-// Whether a word may stand behind a command, whatever clap says of it. Takes no memory.
-fn may_stand(word: &str) -> bool
-    ensures { result ≡ is_free_word word.now }
-{
-    word != "--" && word != "-h" && word != "--help"
-}
-
-// Whether each word may stand behind a command. Takes no memory.
-fn may_all_stand(words: &[String]) -> bool
-    ensures { result ≡ list_all (λ w. is_free_word (string_bytes w)) words.now }
-{
-    words.iter().all(|word| may_stand(word.as_str()))
 }
 
 // The text of a command's name.
@@ -135,32 +103,6 @@ fn line<'a>(alloc: Global, name: CommandName) -> Result<Line<'a>, AllocError>
         CommandName::Make => line
             .arg(wanted_value(alloc, "count"))?
             .arg(wanted_value(alloc, "seed")),
-    }
-}
-
-// What clap reads in the words of a command, of which the first is its name.
-fn matched<'a>(line: Line<'a>, words: &'a [String]) -> Result<ArgMatches<'a>, WordsFault>
-    requires { is_simple_and_free (app_of line) ≡ true }
-    ensures taken { IfOk result (λ m. has_some (fault_of (app_of line.entry) (map string_bytes words.now)) ≡ false) }
-    ensures matches { IfOk result (HasMatchesOf (app_of line.entry) (map string_bytes words.now)) }
-    ensures refused { result ≡ Err fault.BadWords → has_some (fault_of (app_of line.entry) (map string_bytes words.now)) ≡ true }
-{
-    match line.try_get_matches_from(words) {
-        Ok(matches) => Ok(matches),
-        Err(error) => match error.kind() {
-            ErrorKind::OutOfMemory => Err(WordsFault::NoMemory),
-            _ => Err(WordsFault::BadWords),
-        },
-    }
-}
-
-// Whether a text may be the value of an option. Takes no memory.
-fn is_value(text: &str) -> bool
-    ensures { result ≡ may_be_value text.now }
-{
-    match text.as_bytes().first() {
-        Some(byte) => *byte != b'-',
-        None => false,
     }
 }
 
@@ -243,12 +185,10 @@ fn command_with(alloc: Global, name: CommandName, words: &[String]) -> Result<Co
     }
 }
 
-/// The command that the words, without the program's name, name.
-///
-/// `BadWords` comes exactly where they name none, or else `NoMemory`.
-pub fn command_of(alloc: Global, words: &[String]) -> Result<Command, WordsFault>
-    ensures named { IfOk result (λ c. command_in (map string_bytes words.now) ≡ Some c) }
-    ensures refused { result ≡ Err fault.BadWords → command_in (map string_bytes words.now) ≡ None }
+// The command that the first word names, with its values in the words.
+fn named_of(alloc: Global, words: &[String]) -> Result<Command, WordsFault>
+    ensures named { IfOk result (λ c. named_in (map string_bytes words.now) ≡ Some c) }
+    ensures refused { result ≡ Err fault.BadWords → named_in (map string_bytes words.now) ≡ None }
 {
     let word = match words.first() {
         Some(word) => word,
@@ -262,4 +202,28 @@ pub fn command_of(alloc: Global, words: &[String]) -> Result<Command, WordsFault
         return Err(WordsFault::BadWords);
     }
     command_with(alloc, name, words)
+}
+
+// A game that is served.
+fn serve_of(alloc: Global, words: &[String]) -> Result<Command, WordsFault>
+    ensures named { IfOk result (λ c. serve_with (serving_in (map string_bytes words.now)) ≡ Some c) }
+    ensures refused { result ≡ Err fault.BadWords → serve_with (serving_in (map string_bytes words.now)) ≡ None }
+{
+    match serving_of(alloc, words) {
+        Ok(serving) => Ok(Command::Serve(serving)),
+        Err(fault) => Err(fault),
+    }
+}
+
+/// The command that the words, without the program's name, name.
+///
+/// `BadWords` comes exactly where they name none, or else `NoMemory`.
+pub fn command_of(alloc: Global, words: &[String]) -> Result<Command, WordsFault>
+    ensures named { IfOk result (λ c. command_in (map string_bytes words.now) ≡ Some c) }
+    ensures refused { result ≡ Err fault.BadWords → command_in (map string_bytes words.now) ≡ None }
+{
+    if is_serve(words) {
+        return serve_of(alloc, words);
+    }
+    named_of(alloc, words)
 }

@@ -1,8 +1,10 @@
 use Rattle.std.proofs.Common.{◌≡◌, ◌≤◌, ◌<◌, ◌+◌, ℕ, [], true, false, rules, refl, ap, sym, subst, ◌∙◌, arith}
 use Rattle.lp_recording.specs.Recorded.{ending}
+use Rattle.lp_serving.proofs.Causes.{output_then}
 use Rattle.lp_serve.specs.declared.run.Served.{Served}
 use Rattle.lp_serve.specs.Served.{AsEnded}
-use Rattle.lp_serve.proofs.Running.{early_as, has_run, round_keeps, runs_begin, runs_more, runs_stops, runs_vain, stop_ends, written_none}
+use Rattle.lp_serve.proofs.Blaming.{blameless, early_files_as, early_output_as, early_swap_as, early_wire_as, files_since, still_wire}
+use Rattle.lp_serve.proofs.Running.{early_as, has_run, round_keeps, runs_begin, runs_more, runs_stops, runs_vain, stop_ends, stop_faults, written_none}
 use Rattle.lp_serve.proofs.run.serve.Goals as goal
 
 pub loop-polls-init : goal.loop-polls-init
@@ -12,6 +14,9 @@ loop-polls-init g c = record {
   keeps = c.new-game.ensures.keeps;
   faults = refl;
   first = refl;
+  output = (refl, refl);
+  files = omega arith;
+  swap = λ from q. q;
 }
 
 pub loop-polls-preserved : goal.loop-polls-preserved
@@ -22,6 +27,9 @@ loop-polls-preserved g c = record {
   keeps = c.round.ensures.keeps ∙ c.loop-polls.invariant.keeps;
   faults = c.in-Ok-false.ensures.faults ∙ c.loop-polls.invariant.faults;
   first = c.round.ensures.first ∙ c.loop-polls.invariant.first;
+  output = output_then false _ _ _ _ _ _ c.loop-polls.invariant.output c.in-Ok-false.ensures.output;
+  files = omega (arith, c.loop-polls.invariant.files, c.round.ensures.files);
+  swap = λ from q. c.in-Ok-false.ensures.swap from (c.loop-polls.invariant.swap from q);
 }
 
 pub returns-in-Ok-true-clause-run : goal.returns-in-Ok-true-clause-run
@@ -46,3 +54,31 @@ pub returns-in-Ok-clause-run : goal.returns-in-Ok-clause-run
 returns-in-Ok-clause-run g c = λ origin began.
     let spent : c.loop-polls.polls ≡ c.args.turns = omega (arith, c.loop-polls-test.false, c.loop-polls.auto.polls-end) in
     has_run _ c.loop-polls.polls _ _ _ c.args.keeps _ _ _ (ending c.args.keeps) _ false (λ polls. polls ≡ c.args.turns) _ _ (c.loop-polls.invariant.runs origin (g.K.Sink.written c.args.out.now)) began (λ turns r. r) c.in-Ok.ensures.whole spent
+
+pub returns-in-Ok-true-clause-output_fault : goal.returns-in-Ok-true-clause-output_fault
+returns-in-Ok-true-clause-output_fault g c = output_then _ _ _ _ _ _ _ (output_then false _ _ _ _ _ _ c.loop-polls.invariant.output c.in-Ok-true.ensures.output) c.stop.ensures.output
+
+pub returns-in-Ok-true-clause-files_fault : goal.returns-in-Ok-true-clause-files_fault
+returns-in-Ok-true-clause-files_fault g c =
+    let low : g.F.Files.faults c.args.files.now ≤ g.F.Files.faults c.round.new.files = omega (arith, c.loop-polls.invariant.files, c.round.ensures.files) in
+    files_since c.stop.result _ _ _ _ _ _ low c.stop.ensures.files
+
+pub returns-in-Ok-true-clause-complete : goal.returns-in-Ok-true-clause-complete
+returns-in-Ok-true-clause-complete g c = blameless c.stop.result _ _ _ _ _ _ _ _ _ (returns-in-Ok-true-clause-output_fault g c) (returns-in-Ok-true-clause-files_fault g c)
+    (still_wire c.stop.result _ _ (stop_faults c.stop.result _ c.stop.ensures.written) (c.in-Ok-true.ensures.faults ∙ c.loop-polls.invariant.faults))
+
+pub returns-in-Err-clause-output_fault : goal.returns-in-Err-clause-output_fault
+returns-in-Err-clause-output_fault g c = early_output_as c.served_early.result c.in-Err.early _ _ _ _ c.served_early.ensures (output_then _ _ _ _ _ _ _ c.loop-polls.invariant.output c.in-Err.ensures.output)
+
+pub returns-in-Err-clause-files_fault : goal.returns-in-Err-clause-files_fault
+returns-in-Err-clause-files_fault g c = early_files_as c.served_early.result c.in-Err.early _ _ c.served_early.ensures
+
+pub returns-in-Err-clause-swap_fault : goal.returns-in-Err-clause-swap_fault
+returns-in-Err-clause-swap_fault g c = λ from q. early_swap_as c.served_early.result c.in-Err.early _ _ c.served_early.ensures (c.in-Err.ensures.swap from (c.loop-polls.invariant.swap from q))
+
+pub returns-in-Err-clause-wire_fault : goal.returns-in-Err-clause-wire_fault
+returns-in-Err-clause-wire_fault g c = early_wire_as c.served_early.result c.in-Err.early _ _ _ c.served_early.ensures c.loop-polls.invariant.faults c.in-Err.ensures.faults
+
+pub returns-in-Err-clause-complete : goal.returns-in-Err-clause-complete
+returns-in-Err-clause-complete g c = blameless c.served_early.result _ _ _ _ (g.F.Files.faults c.args.files.now) (g.F.Files.faults c.round.new.files) _ _ (λ failed. Unit {0}) (returns-in-Err-clause-output_fault g c)
+    (early_files_as c.served_early.result c.in-Err.early _ _ c.served_early.ensures) (returns-in-Err-clause-wire_fault g c)

@@ -1,5 +1,6 @@
-use Rattle.std.proofs.Common.{◌≡◌, false, List, ℕ, Option}
+use Rattle.std.proofs.Common.{◌≡◌, ◌≤◌, false, List, ℕ, Option}
 use Rattle.lp_core.specs.Turning.{Origin}
+use Rattle.lp_serving.specs.Causes.{OutputTells}
 use Rattle.lp_serving.specs.Recorded.{Recorded}
 use Rattle.lp_serve.specs.Served.{Runs}
 use Rattle.lp_serve.proofs.run.serve.Given as goal
@@ -13,4 +14,7 @@ invariant-loop-polls g l = record {
   keeps : l.game.server.keeps ≡ l.fn.keeps;
   faults : g.N.Wire.faults l.wire ≡ g.N.Wire.faults l.fn.wire;
   first : g.N.Wire.first l.wire ≡ g.N.Wire.first l.fn.wire;
+  output : OutputTells false (g.K.Sink.faults l.fn.out) (g.K.Sink.faults l.out) (g.K.Sink.zeros l.fn.out) (g.K.Sink.zeros l.out);
+  files : g.F.Files.faults l.fn.files ≤ g.F.Files.faults l.files;
+  swap : (from : g.row.W.Denot) → g.C.Core.quiet from l.fn.swap → g.C.Core.quiet from l.swap;
 }

@@ -1,20 +1,15 @@
-use Rattle.std.proofs.Common.{◌∙◌, ap, sym, Some}
-use Rattle.lp_top.specs.Words.{command_named}
-use Rattle.lp_top.proofs.Naming.{by_first, named_command, refused_command, with_refused}
+use Rattle.std.proofs.Common.{◌∙◌, map, string_bytes, sym}
+use Rattle.lp_top.proofs.Naming.{another_named, by_another, by_serve, serve_named}
 use Rattle.lp_top.proofs.words.command_of.Goals as goal
 
-pub returns-then-not-may_all_stand-clause-refused :
-    goal.returns-then-not-may_all_stand-clause-refused
-returns-then-not-may_all_stand-clause-refused c = λ e.
-    by_first c.args.words.now c.in-Some.word.now (Some c.in-Some-command_named.name) c.in-Some.ensures.value (c.in-Some-command_named.ensures ∙ ap command_named c.as_str.ensures.value)
-    ∙ with_refused c.args.words.now c.in-Some-command_named.name (sym c.may_all_stand.ensures ∙ c.if-not-may_all_stand.true)
+pub returns-then-is_serve-clause-named : goal.returns-then-is_serve-clause-named
+returns-then-is_serve-clause-named c = serve_named c.args.words.now c.serve_of.result (sym c.is_serve.ensures ∙ c.if-is_serve.true) c.serve_of.ensures.named
+
+pub returns-then-is_serve-clause-refused : goal.returns-then-is_serve-clause-refused
+returns-then-is_serve-clause-refused c = λ e. by_serve (map string_bytes c.args.words.now) (sym c.is_serve.ensures ∙ c.if-is_serve.true) ∙ c.serve_of.ensures.refused e
 
 pub returns-clause-named : goal.returns-clause-named
-returns-clause-named c =
-    named_command c.args.words.now c.in-Some.word.now c.in-Some-command_named.name c.command_with.result c.in-Some.ensures.value (c.in-Some-command_named.ensures ∙ ap command_named c.as_str.ensures.value)
-    (sym c.may_all_stand.ensures ∙ c.if-not-may_all_stand.false) c.command_with.ensures.named
+returns-clause-named c = another_named c.args.words.now c.named_of.result (sym c.is_serve.ensures ∙ c.if-is_serve.false) c.named_of.ensures.named
 
 pub returns-clause-refused : goal.returns-clause-refused
-returns-clause-refused c = λ e.
-    refused_command c.args.words.now c.in-Some.word.now c.in-Some-command_named.name c.in-Some.ensures.value (c.in-Some-command_named.ensures ∙ ap command_named c.as_str.ensures.value)
-    (sym c.may_all_stand.ensures ∙ c.if-not-may_all_stand.false) (c.command_with.ensures.refused e)
+returns-clause-refused c = λ e. by_another (map string_bytes c.args.words.now) (sym c.is_serve.ensures ∙ c.if-is_serve.false) ∙ c.named_of.ensures.refused e

@@ -1,7 +1,8 @@
 use Rattle.std.proofs.Common.{◌∙◌, ap, sym, map, string_bytes, codes}
 use Rattle.clap.specs.Words.{fault_of, is_simple_and_free}
 use Rattle.std.proofs.lemmas.Result.{IfOk-weaker}
-use Rattle.lp_top.specs.Words.{has_some, check_with, taken_with, line_of}
+use Rattle.lp_serve_words.specs.Words.{has_some}
+use Rattle.lp_top.specs.Words.{check_with, taken_with, line_of}
 use Rattle.lp_top.specs.declared.words.CommandName.TheVariants as name
 use Rattle.lp_top.proofs.Naming.{is_simple_line, make_refused, make_taken, replay_read, value_read, taken_by}
 use Rattle.lp_top.proofs.words.command_with.Goals as goal

@@ -1,12 +1,13 @@
-use Rattle.std.proofs.Common.{◌≡◌, true, false, rules, refl, ap, ◌∙◌}
+use Rattle.std.proofs.Common.{◌≡◌, true, false, arith, rules, refl, ap, ◌∙◌}
 use Rattle.std.proofs.lemmas.List.{take_all}
 use Rattle.lp_wire.specs.Heard.{order_of}
+use Rattle.lp_serving.proofs.Causes.{output_then}
 use Rattle.lp_serve.proofs.Doing.{does_keeps, does_stops}
 use Rattle.lp_serve.proofs.Ordering.{last_order, more_orders, no_orders, order_on, orders_on}
 use Rattle.lp_serve.proofs.game.Game.orders.Goals as goal
 
 pub loop-line-init : goal.loop-line-init
-loop-line-init g c = record { running = c.requires.running; does = λ origin from. no_orders _ _ _; keeps = refl; faults = refl; first = refl }
+loop-line-init g c = record { running = c.requires.running; does = λ origin from. no_orders _ _ _; keeps = refl; faults = refl; first = refl; output = (refl, refl); files = omega arith; swap = λ from q. q }
 
 pub returns-then-branch-clause-does : goal.returns-then-branch-clause-does
 returns-then-branch-clause-does g c = λ origin from.
@@ -24,6 +25,9 @@ loop-line-preserved g c =
       keeps = c.in_ok-order.ensures.keeps ∙ c.loop-line.invariant.keeps;
       faults = c.in_ok-order.ensures.faults ∙ c.loop-line.invariant.faults;
       first = c.in_ok-order.ensures.first ∙ c.loop-line.invariant.first;
+      output = output_then false _ _ _ _ _ _ c.loop-line.invariant.output c.in_ok-order.ensures.output;
+      files = omega (arith, c.loop-line.invariant.files, c.in_ok-order.ensures.files);
+      swap = λ from q. c.in_ok-order.ensures.swap from (c.loop-line.invariant.swap from q);
     }
 
 pub returns-clause-does : goal.returns-clause-does

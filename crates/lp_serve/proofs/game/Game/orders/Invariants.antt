@@ -1,6 +1,7 @@
-use Rattle.std.proofs.Common.{◌≡◌, take, false, List, ℕ, Option}
+use Rattle.std.proofs.Common.{◌≡◌, ◌≤◌, take, false, List, ℕ, Option}
 use Rattle.lp_core.specs.Turning.{Origin}
 use Rattle.lp_wire.specs.Heard.{order_lines_heard}
+use Rattle.lp_serving.specs.Causes.{OutputTells}
 use Rattle.lp_serving.specs.Recorded.{Recorded}
 use Rattle.lp_serve.specs.Standing.{Does}
 use Rattle.lp_serve.proofs.game.Game.orders.Given as goal
@@ -14,4 +15,7 @@ invariant-loop-line g l = record {
   keeps : l.self.server.keeps ≡ l.fn.self.server.keeps;
   faults : g.N.Wire.faults l.wire ≡ g.N.Wire.faults l.fn.wire;
   first : g.N.Wire.first l.wire ≡ g.N.Wire.first l.fn.wire;
+  output : OutputTells false (g.K.Sink.faults l.fn.out) (g.K.Sink.faults l.out) (g.K.Sink.zeros l.fn.out) (g.K.Sink.zeros l.out);
+  files : g.F.Files.faults l.fn.files ≤ g.F.Files.faults l.files;
+  swap : (from : g.row.W.Denot) → g.C.Core.quiet from l.fn.swap → g.C.Core.quiet from l.swap;
 }

@@ -1,10 +1,11 @@
-use Rattle.std.proofs.Common.{refl, ◌∙◌}
+use Rattle.std.proofs.Common.{refl, false, arith, ◌∙◌}
 use Rattle.std.proofs.lemmas.List.{take_all}
+use Rattle.lp_serving.proofs.Causes.{output_then}
 use Rattle.lp_serving.proofs.LinesHeard.{no_lines, lines_on, more_lines, line_on, happens_keeps}
 use Rattle.lp_serving.proofs.server.Server.lines.Goals as goal
 
 pub loop-line-init : goal.loop-line-init
-loop-line-init g c = record { running = c.requires.running; goes = λ origin from. no_lines c.args.k _ _ _ _ _; keeps = refl; faults = refl; first = refl }
+loop-line-init g c = record { running = c.requires.running; goes = λ origin from. no_lines c.args.k _ _ _ _ _; keeps = refl; faults = refl; first = refl; output = (refl, refl); files = omega arith; swap = λ from q. q }
 
 pub loop-line-preserved : goal.loop-line-preserved
 loop-line-preserved g c = record {
@@ -14,6 +15,9 @@ loop-line-preserved g c = record {
   keeps = c.in_ok-line.ensures.keeps ∙ c.loop-line.invariant.keeps;
   faults = c.in_ok-line.ensures.faults ∙ c.loop-line.invariant.faults;
   first = c.in_ok-line.ensures.first ∙ c.loop-line.invariant.first;
+  output = output_then false _ _ _ _ _ _ c.loop-line.invariant.output c.in_ok-line.ensures.output;
+  files = omega (arith, c.loop-line.invariant.files, c.in_ok-line.ensures.files);
+  swap = λ from q. c.in_ok-line.ensures.swap from (c.loop-line.invariant.swap from q);
 }
 
 pub returns-clause-goes : goal.returns-clause-goes
