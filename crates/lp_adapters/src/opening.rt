@@ -7,6 +7,7 @@ use crate::target::Target;
 use lp_folder_files::FolderFiles;
 use lp_io::StdSink;
 use lp_mio_wire::{ListenFault, MioWire};
+use lp_wsdoor::DoorWire;
 use std::io::{ErrorKind, LineWriter, Write};
 use std::net::Net;
 use std::rt::Files as FileSystem;
@@ -24,6 +25,8 @@ pub struct Places<'a> {
     pub port: u16,
     /// The port of the operator.
     pub control: u16,
+    /// The port of players in a browser, or 0 where there is none.
+    pub ws: u16,
 }
 
 /// Why a served run cannot begin.
@@ -46,7 +49,7 @@ pub struct Opened<R: FileSystem, O: Write + Drop> {
     /// The files of the mudlib.
     pub files: FolderFiles<R>,
     /// The connections and the clock.
-    pub wire: MioWire<R>,
+    pub wire: DoorWire<MioWire<R>>,
     /// Where the record or the log goes.
     pub out: StdSink<LineWriter<Target<R::File, O>>>,
 }
@@ -59,7 +62,7 @@ fn open_target<R: FileSystem, O>(
 ) -> Result<Target<R::File, O>, OpenFault>
 where
     O: Drop,
-    ensures { IfErr result (λ fault. (port : ℕ) (control : ℕ) → IsFaultOf port control (is_some record_file.entry) fault) }
+    ensures { IfErr result (λ fault. (port : ℕ) (control : ℕ) (ws : ℕ) → IsFaultOf port control ws (is_some record_file.entry) fault) }
 {
     let name = match record_file {
         Some(name) => name,
@@ -78,7 +81,7 @@ fn open_sink<R: FileSystem + AllocGlobal, O: Write + Drop>(
     record_file: Option<&str>,
     stdout: O,
 ) -> Result<StdSink<LineWriter<Target<R::File, O>>>, OpenFault>
-    ensures { IfErr result (λ fault. (port : ℕ) (control : ℕ) → IsFaultOf port control (is_some record_file.entry) fault) }
+    ensures { IfErr result (λ fault. (port : ℕ) (control : ℕ) (ws : ℕ) → IsFaultOf port control ws (is_some record_file.entry) fault) }
 {
     let target = open_target(rt, record_file, stdout)?;
     match LineWriter::new(rt.alloc(), target) {
@@ -92,7 +95,7 @@ fn open_folder<R: FileSystem + AllocGlobal + Clone + Drop>(
     rt: &R,
     folder: &str,
 ) -> Result<FolderFiles<R>, OpenFault>
-    ensures { IfErr result (λ fault. (port : ℕ) (control : ℕ) (records : Bool) → IsFaultOf port control records fault) }
+    ensures { IfErr result (λ fault. (port : ℕ) (control : ℕ) (ws : ℕ) (records : Bool) → IsFaultOf port control ws records fault) }
 {
     let own = match rt.clone() {
         Ok(own) => own,
@@ -110,18 +113,23 @@ fn open_wire<R: AllocGlobal + Net + Clock + Clone + Drop>(
     rt: &R,
     port: u16,
     control: u16,
-) -> Result<MioWire<R>, ListenFault>
-    ensures { IfErr result (Names port control) }
+    ws: u16,
+) -> Result<DoorWire<MioWire<R>>, ListenFault>
+    ensures { IfErr result (Names port control ws) }
 {
-    match rt.clone() {
-        Ok(own) => MioWire::listen(own, rt.alloc(), port, control),
-        Err(_) => Err(ListenFault::NoMemory),
+    let own = match rt.clone() {
+        Ok(own) => own,
+        Err(_) => return Err(ListenFault::NoMemory),
+    };
+    match MioWire::listen(own, rt.alloc(), port, control, ws) {
+        Ok(wire) => Ok(DoorWire::new(rt.alloc(), wire)),
+        Err(fault) => Err(fault),
     }
 }
 
 // A fault of the connections as one of the whole.
 fn wire_fault(fault: ListenFault) -> OpenFault
-    ensures { (port : ℕ) (control : ℕ) (records : Bool) → Names port control fault → IsFaultOf port control records result }
+    ensures { (port : ℕ) (control : ℕ) (ws : ℕ) (records : Bool) → Names port control ws fault → IsFaultOf port control ws records result }
 {
     match fault {
         ListenFault::Port { port, kind } => OpenFault::Wire(ListenFault::Port { port, kind }),
@@ -137,13 +145,13 @@ pub fn open<R: FileSystem + AllocGlobal + Net + Clock + Clone + Drop, O: Write +
     places: Places<'_>,
     stdout: O,
 ) -> Result<Opened<R, O>, OpenFault>
-    ensures names { IfErr result (IsFaultOf places.entry.port places.entry.control (is_some places.entry.record_file)) }
+    ensures names { IfErr result (IsFaultOf places.entry.port places.entry.control places.entry.ws (is_some places.entry.record_file)) }
 {
     let files = match open_folder(rt, places.folder) {
         Ok(files) => files,
         Err(fault) => return Err(fault),
     };
-    let wire = match open_wire(rt, places.port, places.control) {
+    let wire = match open_wire(rt, places.port, places.control, places.ws) {
         Ok(wire) => wire,
         Err(fault) => {
             drop(files);

@@ -6,7 +6,14 @@ use std::io::ErrorKind;
 pub fn tell_listening<R: Eprint>(rt: &R, places: Places<'_>) {
     let port = places.port;
     let control = places.control;
-    let _ = eprintln!(rt; "mud: listening on 127.0.0.1:{port}, control on 127.0.0.1:{control}");
+    let ws = places.ws;
+    if ws == 0 {
+        let _ = eprintln!(rt; "mud: listening on 127.0.0.1:{port}, control on 127.0.0.1:{control}");
+    } else {
+        let _ = eprintln!(rt;
+            "mud: listening on 127.0.0.1:{port}, control on 127.0.0.1:{control}, browsers on 127.0.0.1:{ws}"
+        );
+    }
 }
 
 // Tells that a file or a folder cannot be opened.

@@ -72,7 +72,7 @@ fn operators_come<N: Wire>(rt: &HostRuntime, wire: &mut N) -> io::Result<bool> {
 
 #[test]
 fn a_player_and_two_operators(rt: HostRuntime) -> Result<(), Fail> {
-    let mut wire = match MioWire::listen(rt.clone()?, rt.alloc(), PORT, CONTROL) {
+    let mut wire = match MioWire::listen(rt.clone()?, rt.alloc(), PORT, CONTROL, 0) {
         Ok(wire) => wire,
         Err(_) => panic!(rt; "the ports are taken"),
     };

@@ -15,8 +15,6 @@ pub enum Stop {
     NoMemory,
     /// The swap file failed, or gave other bytes.
     Swap,
-    /// Something was asked that is not carried out yet.
-    NotYet,
 }
 
 /// A driver that has started. It works over a swap file of type `W`, which is handed to each turn, and has a store of files. `ran` says

@@ -1,5 +1,5 @@
-//! The driver asks: its names, its arguments, and who it is.
-ghost use Rattle.std.specs.Prelude.{◌≡◌, ◌++◌, IfOk, IfErr, IfSome, OnOk, length, string_bytes};
+//! The driver asks: its arguments, and who it is.
+ghost use Rattle.std.specs.Prelude.{◌≡◌, ◌++◌, IfOk, IfErr, OnOk, length};
 ghost use Rattle.lp_vm.specs.declared.fault.VmFault.TheVariants.{NoMemory};
 ghost use Rattle.lp_driver.specs.Carrying.{IsDriver};
 
@@ -8,21 +8,7 @@ use lp_efuns::caller::Turn;
 use lp_values::id::ObjId;
 use lp_values::value::Value;
 use lp_vm::fault::VmFault;
-use std::alloc::{AllocError, Global};
-
-/// Letters as a text of the program, if all are of ASCII: they are its bytes then.
-pub(crate) fn ascii_of(alloc: Global, letters: &[char]) -> Result<Option<String>, AllocError>
-    ensures { IfOk result (λ o. IfSome o (λ s. string_bytes s ≡ letters.now)) }
-{
-    let mut text = String::new(alloc);
-    for letter in letters {
-        if !letter.is_ascii() {
-            return Ok(None);
-        }
-        text.push(*letter)?;
-    }
-    Ok(Some(text))
-}
+use std::alloc::Global;
 
 /// Who asks where the driver does, for a `this_player()` and a `this_interactive()`. Takes no memory.
 pub(crate) fn asker_for(alloc: Global, player: Option<ObjId>, interactive: Option<ObjId>) -> Asker

@@ -13,7 +13,7 @@ ghost use Rattle.lp_vm.specs.Causes.{Tells, read_of};
 ghost use Rattle.lp_vm.specs.ObjectLoading.{IsLoadAnswer};
 ghost use Rattle.lp_driver.specs.Carrying.{Carries, CarriesOut, RestsForOne};
 
-use crate::asking::{ascii_of, asker_for, lay};
+use crate::asking::{asker_for, lay};
 use crate::commanding::carry_command;
 use lp_asking::ending::Ending;
 use lp_asking::truth::Truthful;
@@ -31,13 +31,13 @@ use lp_world::live::Live;
 /// The full budget of each call of the driver.
 pub(crate) const FULL_BUDGET: u64 = 1000000;
 
-/// A function of an object is applied, by a name of ASCII.
-fn apply_named<W: Truthful>(
+/// A function of an object is applied. There is none by a name with letters beyond ASCII.
+fn apply<W: Truthful>(
     live: &mut Live,
     swap: &mut W,
     stack: &mut Vec<Value>,
     o: ObjId,
-    name: &str,
+    name: &Text,
     player: Option<ObjId>,
     interactive: Option<ObjId>,
     arguments: Vec<Value>,
@@ -73,48 +73,6 @@ fn apply_named<W: Truthful>(
         &mut budget,
     )?;
     Ok(CallEnd::Ended(ending))
-}
-
-/// A function of an object is applied.
-///
-/// # Errors
-/// `NotYet` where its name is not of ASCII.
-fn apply<W: Truthful>(
-    live: &mut Live,
-    swap: &mut W,
-    stack: &mut Vec<Value>,
-    o: ObjId,
-    name: &Text,
-    player: Option<ObjId>,
-    interactive: Option<ObjId>,
-    arguments: Vec<Value>,
-) -> Result<CallEnd, VmFault>
-    requires closed { IsClosed live.old }
-    requires empty { stack.old.items ≡ [] }
-    requires rests { RestsForOne (W.content swap.old) live.old }
-    requires object { IsSome (row_at live.old.objects o.0) }
-    requires values { All (IsThere live.old.cells) arguments.items }
-    ensures carries { IfOk result (λ e. CarriesOut (course.Apply o name.now) player interactive arguments.items (W.content swap.old) live.old (W.content swap.new) live.new e) }
-    ensures there { IfOk result (λ e. IsCallEndThere live.new.cells e) }
-    ensures closed { OnOk result (IsClosed live.new) }
-    ensures empty { OnOk result (stack.new.items ≡ []) }
-    ensures rests { OnOk result (RestsForOne (W.content swap.new) live.new) }
-    ensures tells { Tells (W.content swap.new) (W.last swap.new) (W.read_faults swap.old) (W.read_faults swap.new) (W.write_faults swap.old) (W.write_faults swap.new)
-        (W.is_truthful swap.old) (W.is_truthful swap.new) (W.is_honest swap.old) (W.is_honest swap.new) live.new (read_of result) }
-{
-    match ascii_of(live.alloc, name.as_slice())? {
-        Some(text) => apply_named(
-            live,
-            swap,
-            stack,
-            o,
-            text.as_str(),
-            player,
-            interactive,
-            arguments,
-        ),
-        None => Err(VmFault::NotYet),
-    }
 }
 
 /// How a load ended, as how a call of the driver does.
@@ -169,7 +127,7 @@ fn load<W: Truthful>(
 ///
 /// # Errors
 /// `NoMemory`, also where the swap file gave other bytes of the same digest; `Swap` where it failed or gave bytes of another
-/// digest; `NotYet` where something is asked that is not carried out yet. Nothing is said of the state then.
+/// digest. Nothing is said of the state then.
 pub(crate) fn carry<W: Truthful>(
     live: &mut Live,
     swap: &mut W,

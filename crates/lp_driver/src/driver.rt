@@ -79,8 +79,7 @@ fn carry_turn<W: Truthful>(live: &mut Live, swap: &mut W, event: &Event) -> Resu
 ///
 /// # Errors
 /// `NoMemory`, also where the swap file gave other bytes of the same digest; `Swap` where it failed or gave bytes of another
-/// digest; `NotYet` where something is asked that is not carried out yet; for a swap item `NoMemory` alone. Nothing is said of the
-/// state then.
+/// digest; for a swap item `NoMemory` alone. Nothing is said of the state then.
 pub fn turn<W: Truthful>(
     live: &mut Live,
     swap: &mut W,
@@ -131,7 +130,7 @@ fn finish(mut live: Live, end: Started) -> Result<(Live, Outs), StartFault>
 /// # Errors
 /// `NoMaster` where no object of the master's name was made, with the faults of the file at which its load ended, or that of an
 /// aborted load. `Stopped` with `NoMemory`, also where the swap file gave other bytes of the same digest; with `Swap` where it
-/// failed or gave bytes of another digest; with `NotYet` where something is asked that is not carried out yet.
+/// failed or gave bytes of another digest.
 pub fn start<W: Truthful>(
     alloc: Global,
     store: Store,

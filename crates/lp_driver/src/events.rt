@@ -77,7 +77,10 @@ fn line<W: Truthful>(
     run_step(live, swap, stack, step)
 }
 
-/// A file has a new text. Its path is to be of ASCII.
+/// A file has a new text.
+///
+/// # Errors
+/// `NoMemory`, also where the path has letters beyond ASCII, which no event of a script and no order of an operator names.
 fn reload<W: Truthful>(
     live: &mut Live,
     swap: &mut W,
@@ -92,7 +95,7 @@ fn reload<W: Truthful>(
         (W.is_truthful swap.old) (W.is_truthful swap.new) (W.is_honest swap.old) (W.is_honest swap.new) live.new (read_of result) }
 {
     if !path.is_ascii() {
-        return Err(VmFault::NotYet);
+        return Err(VmFault::NoMemory);
     }
     reloads::reload(live, path, bytes)?;
     Ok(())
@@ -102,7 +105,7 @@ fn reload<W: Truthful>(
 ///
 /// # Errors
 /// `NoMemory`, also where the swap file gave other bytes of the same digest; `Swap` where it failed or gave bytes of another
-/// digest; `NotYet` where something is asked that is not carried out yet. Nothing is said of the state then.
+/// digest. Nothing is said of the state then.
 pub(crate) fn carry_out<W: Truthful>(
     live: &mut Live,
     swap: &mut W,

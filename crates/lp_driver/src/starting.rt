@@ -78,7 +78,7 @@ fn tell_start<W: Truthful>(
 /// A call that the start asks for is carried out, and the start is told how it ended.
 ///
 /// # Errors
-/// As where a call is carried out; `NotYet` too where after the first load of the master an object is known no longer, which no
+/// As where a call is carried out; `NoMemory` also where after the first load of the master an object is known no longer, which no
 /// call brings about.
 fn ask<W: Truthful>(
     live: &mut Live,
@@ -105,7 +105,7 @@ fn ask<W: Truthful>(
     outcomes_can_be();
     let end = carry(live, swap, stack, call)?;
     if !knows_for(live, &waiting) {
-        return Err(VmFault::NotYet);
+        return Err(VmFault::NoMemory);
     }
     tell_start(live, swap, waiting, end)
 }

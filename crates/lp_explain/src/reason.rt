@@ -64,8 +64,6 @@ pub(crate) enum Reason {
     EndsFiling,
     #[error("the script ends without `end`")]
     EndsRunning,
-    #[error("something is asked in its turn that is not carried out yet")]
-    NotYet,
     #[error("no item stands here")]
     Unknown,
 }

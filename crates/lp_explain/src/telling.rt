@@ -58,7 +58,7 @@ fn reason_behind(
     number: u64,
 ) -> Result<Reason, AllocError> {
     let stop = match read_item(alloc, before, bytes) {
-        Ok(_) => return Ok(Reason::NotYet),
+        Ok(_) => return Ok(Reason::Unknown),
         Err(ReadError::NoMemory) => return Err(AllocError),
         Err(ReadError::Stop(stop)) => stop,
     };
@@ -121,8 +121,8 @@ fn told(alloc: Global, number: u64, line: &[u8], reason: &str) -> Result<String,
 /// One line, without its end, on why no item of this script stands at the byte `at`, counted from 0, that may stand there: the
 /// number of the line in which that byte stands, from 1, what the item's first line holds, at most 60 characters of it, and the reason.
 ///
-/// The script may end before its end, as where a reader took no more of it. Where an item stands there that may stand there, the reason
-/// is that something is asked in its turn that is not carried out yet; where none of the reasons fits, it is `no item stands here`.
+/// The script may end before its end, as where a reader took no more of it. Where none of the reasons fits, as
+/// where an item stands there that may stand there, the reason is `no item stands here`.
 ///
 /// The items before are read once more. It takes time in proportion to the bytes, and memory for one item. It fails only for want
 /// of memory.

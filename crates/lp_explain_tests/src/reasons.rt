@@ -302,7 +302,7 @@ const ROWS: [(&str, u64, &str); 60] = [
     (
         "mudscript 1 0 5\nstart\ntick 9\nend\n",
         22,
-        "line 3, tick 9: something is asked in its turn that is not carried out yet",
+        "line 3, tick 9: no item stands here",
     ),
     (
         "mudscript 1 0 5\nstart\ntick 9\nend\n",

@@ -34,7 +34,7 @@ use Rattle.lp_world.specs.declared.live.Live.{Live}
 use Rattle.lp_host.specs.Causes.{BlamesFiles, IsInOrder, IsNoMaster, IsQuiet, NothingFailed, SwapTells, is_output_end, is_read_end, is_wire_end}
 use Rattle.lp_host.specs.Hosting.{IsUnloaded, ended_of, hosted_of, stopped_of, unstarted_of}
 use Rattle.lp_host.specs.declared.run.Hosted.{Hosted}
-use Rattle.lp_host.specs.declared.run.Hosted.TheVariants.{Done, NoMaster, OutputFault, SwapFault, FilesFault, WireFault, TurnsSpent, NotYet, NoMemory}
+use Rattle.lp_host.specs.declared.run.Hosted.TheVariants.{Done, NoMaster, OutputFault, SwapFault, FilesFault, WireFault, TurnsSpent, NoMemory}
 
 -- The swap file
 
@@ -58,7 +58,6 @@ module _ {told : Option Bytes} {last : Last} {r0 r1 : ℕ} {t0 t1 h0 h1 : Type 0
   -- a turn that was not carried out
   pub turn_blames : (f : TurnFault) (live : Live) → TurnTells told last r0 r1 t0 t1 h0 h1 live (Err (read_fault f)) → SwapTells (ended_of f) told last r0 r1 t0 t1 h0 h1
   turn_blames faults.HasFailed live t = record { cause = tt; faults = t.faults; truthful = t.truthful; honest = λ y. ((t.honest y).0, λ z. tt) }
-  turn_blames faults.NotYet live t = record { cause = tt; faults = t.faults; truthful = t.truthful; honest = λ y. ((t.honest y).0, λ z. tt) }
   turn_blames faults.NoMemory live t = record { cause = tt; faults = t.faults; truthful = t.truthful; honest = λ y. ((t.honest y).0, λ z. tt) }
   turn_blames (faults.Swap Read) live t = record { cause = (live, t.cause); faults = t.faults; truthful = t.truthful; honest = t.honest }
   turn_blames (faults.Swap (Changed owner found)) live t = record { cause = (live, t.cause); faults = t.faults; truthful = t.truthful; honest = t.honest }
@@ -70,7 +69,6 @@ module _ {told : Option Bytes} {last : Last} {r0 r1 : ℕ} {t0 t1 h0 h1 : Type 0
   pub start_blames : {w0 w1 : ℕ} (f : StartFault) → StartTells told last r0 r1 w0 w1 t0 t1 h0 h1 (start_answer {A = Unit {0}} (Err f)) → SwapTells (unstarted_of f) told last r0 r1 t0 t1 h0 h1
   start_blames (start.NoMaster fs) s = record { cause = tt; faults = s.1.faults; truthful = s.1.truthful; honest = λ y. ((s.1.honest y).0, λ z. tt) }
   start_blames (start.Stopped driver.NoMemory) s = record { cause = tt; faults = s.1.faults; truthful = s.1.truthful; honest = λ y. ((s.1.honest y).0, λ z. tt) }
-  start_blames (start.Stopped driver.NotYet) s = record { cause = tt; faults = s.1.faults; truthful = s.1.truthful; honest = λ y. ((s.1.honest y).0, λ z. tt) }
   start_blames (start.Stopped (driver.Swap Read)) s = record { cause = (s.0, s.1.cause); faults = s.1.faults; truthful = s.1.truthful; honest = s.1.honest }
   start_blames (start.Stopped (driver.Swap (Changed owner found))) s = record { cause = (s.0, s.1.cause); faults = s.1.faults; truthful = s.1.truthful; honest = s.1.honest }
 
@@ -96,25 +94,21 @@ stopped_output : (why : Stop) (cause : Option SwapCause) (f z : ℕ) → is_outp
 stopped_output stops.NoMemory cause f z = refl
 stopped_output stops.Swap (Some cause) f z = refl
 stopped_output stops.Swap None f z = refl
-stopped_output stops.NotYet cause f z = refl
 
 stopped_wire : (why : Stop) (cause : Option SwapCause) → is_wire_end (stopped_of why cause) ≡ false
 stopped_wire stops.NoMemory cause = refl
 stopped_wire stops.Swap (Some cause) = refl
 stopped_wire stops.Swap None = refl
-stopped_wire stops.NotYet cause = refl
 
 stopped_files : (why : Stop) (cause : Option SwapCause) (a b : ℕ) → BlamesFiles (stopped_of why cause) a b
 stopped_files stops.NoMemory cause a b = tt
 stopped_files stops.Swap (Some cause) a b = tt
 stopped_files stops.Swap None a b = tt
-stopped_files stops.NotYet cause a b = tt
 
 stopped_master : (why : Stop) (cause : Option SwapCause) (has : List Fault → Type 0) (unserved : Type 0) → IsNoMaster (stopped_of why cause) has unserved
 stopped_master stops.NoMemory cause has unserved = tt
 stopped_master stops.Swap (Some cause) has unserved = tt
 stopped_master stops.Swap None has unserved = tt
-stopped_master stops.NotYet cause has unserved = tt
 
 pub hosted_output : (s : Served) (cause : Option SwapCause) (f0 f1 z0 z1 : ℕ) → OutputTells (ends.is_output_fault s) f0 f1 z0 z1 → OutputTells (is_output_end (hosted_of s cause)) f0 f1 z0 z1
 hosted_output served.Done cause f0 f1 z0 z1 t = t
@@ -160,7 +154,6 @@ master_as (SwapFault cause) has has1 unserved unserved1 f u m = tt
 master_as (FilesFault path) has has1 unserved unserved1 f u m = tt
 master_as WireFault has has1 unserved unserved1 f u m = tt
 master_as TurnsSpent has has1 unserved unserved1 f u m = tt
-master_as NotYet has has1 unserved unserved1 f u m = tt
 master_as NoMemory has has1 unserved unserved1 f u m = tt
 
 -- A start that was not carried out
@@ -169,19 +162,16 @@ pub unstarted_output : (f : StartFault) (a z : ℕ) → OutputTells (is_output_e
 unstarted_output (start.NoMaster fs) a z = (refl, refl)
 unstarted_output (start.Stopped driver.NoMemory) a z = (refl, refl)
 unstarted_output (start.Stopped (driver.Swap cause)) a z = (refl, refl)
-unstarted_output (start.Stopped driver.NotYet) a z = (refl, refl)
 
 pub unstarted_files : (f : StartFault) (a b : ℕ) → BlamesFiles (unstarted_of f) a b
 unstarted_files (start.NoMaster fs) a b = tt
 unstarted_files (start.Stopped driver.NoMemory) a b = tt
 unstarted_files (start.Stopped (driver.Swap cause)) a b = tt
-unstarted_files (start.Stopped driver.NotYet) a b = tt
 
 pub unstarted_wire : (f : StartFault) (a : ℕ) → Counts (is_wire_end (unstarted_of f)) a a
 unstarted_wire (start.NoMaster fs) a = refl
 unstarted_wire (start.Stopped driver.NoMemory) a = refl
 unstarted_wire (start.Stopped (driver.Swap cause)) a = refl
-unstarted_wire (start.Stopped driver.NotYet) a = refl
 
 -- the faults of a start, where there is no master
 abbrev pub IfNoMaster : StartFault → (List Fault → Type 0) → Type 0
@@ -192,7 +182,6 @@ pub unstarted_master : (f : StartFault) (has : List Fault → Type 0) (unserved 
 unstarted_master (start.NoMaster fs) has unserved h u = (h, u)
 unstarted_master (start.Stopped driver.NoMemory) has unserved h u = tt
 unstarted_master (start.Stopped (driver.Swap cause)) has unserved h u = tt
-unstarted_master (start.Stopped driver.NotYet) has unserved h u = tt
 
 -- Where nothing failed
 
@@ -202,7 +191,6 @@ in_order Done told last f0 f1 z0 z1 i0 i1 n0 n1 r0 r1 t0 t1 h0 h1 o f w s none =
 in_order TurnsSpent told last f0 f1 z0 z1 i0 i1 n0 n1 r0 r1 t0 t1 h0 h1 o f w s none = tt
 in_order (NoMaster faults) told last f0 f1 z0 z1 i0 i1 n0 n1 r0 r1 t0 t1 h0 h1 o f w s none = tt
 in_order NoMemory told last f0 f1 z0 z1 i0 i1 n0 n1 r0 r1 t0 t1 h0 h1 o f w s none = tt
-in_order NotYet told last f0 f1 z0 z1 i0 i1 n0 n1 r0 r1 t0 t1 h0 h1 o f w s none = tt
 in_order OutputFault told last f0 f1 z0 z1 i0 i1 n0 n1 r0 r1 t0 t1 h0 h1 o f w s none = elim o [ inl rose ↦ none.output rose | inr rose ↦ none.zeros rose ]
 in_order (FilesFault path) told last f0 f1 z0 z1 i0 i1 n0 n1 r0 r1 t0 t1 h0 h1 o f w s none = none.files f
 in_order WireFault told last f0 f1 z0 z1 i0 i1 n0 n1 r0 r1 t0 t1 h0 h1 o f w s none = none.wire w
@@ -226,7 +214,6 @@ unloaded_so P WireFault u f m = absurd u
 unloaded_so P OutputFault u f m = absurd u
 unloaded_so P (NoMaster faults) u f m = absurd u
 unloaded_so P (SwapFault cause) u f m = absurd u
-unloaded_so P NotYet u f m = absurd u
 
 pub still_swap : (told : Option Bytes) (last : Last) (reads : ℕ) (truthful honest : Type 0) (path : String Global) → SwapTells (FilesFault path) told last reads reads truthful truthful honest honest
 still_swap told last reads truthful honest path = record { cause = tt; faults = refl; truthful = λ y. y; honest = λ y. (y, λ z. tt) }

@@ -24,14 +24,13 @@ use Rattle.lp_serve.specs.declared.run.Served.TheVariants as served
 use Rattle.lp_host.specs.Hosting.{AsHosted, IsUnloaded, hosted_of, stopped_of, unstarted_of}
 use Rattle.lp_host.specs.Playing.{world_file, world_files}
 use Rattle.lp_host.specs.declared.run.Hosted.{Hosted}
-use Rattle.lp_host.specs.declared.run.Hosted.TheVariants.{Done, NoMaster, OutputFault, SwapFault, FilesFault, WireFault, TurnsSpent, NotYet, NoMemory}
+use Rattle.lp_host.specs.declared.run.Hosted.TheVariants.{Done, NoMaster, OutputFault, SwapFault, FilesFault, WireFault, TurnsSpent, NoMemory}
 
 stopped_as : (why : Stop) (cause : Option SwapCause) (Q : List ℕ → Bool → (ℕ → Type 0) → (Store → Type 0) → Type 0) (left : Option (String Global) → Store → Type 0) (unserved : Type 0) (end : List ℕ) (turns : ℕ)
     → AsHosted (stopped_of why cause) Q left unserved end turns
 stopped_as stops.NoMemory cause Q left unserved end turns = tt
 stopped_as stops.Swap (Some cause) Q left unserved end turns = tt
 stopped_as stops.Swap None Q left unserved end turns = tt
-stopped_as stops.NotYet cause Q left unserved end turns = tt
 
 -- the loop ended as the whole does
 pub ended_as : (s : Served) (cause : Option SwapCause) (P : List ℕ → Bool → (ℕ → Type 0) → Type 0) (Q : List ℕ → Bool → (ℕ → Type 0) → (Store → Type 0) → Type 0) (left : Option (String Global) → Store → Type 0) (store : Store)
@@ -50,7 +49,6 @@ pub unstarted_as : (f : StartFault) (Q : List ℕ → Bool → (ℕ → Type 0) 
 unstarted_as (start.NoMaster faults) Q left unserved end turns = tt
 unstarted_as (start.Stopped driver.NoMemory) Q left unserved end turns = tt
 unstarted_as (start.Stopped (driver.Swap cause)) Q left unserved end turns = tt
-unstarted_as (start.Stopped driver.NotYet) Q left unserved end turns = tt
 
 -- where the files could not be loaded it was not served
 pub unloaded_as : (s : Hosted) (Q : List ℕ → Bool → (ℕ → Type 0) → (Store → Type 0) → Type 0) (left : Option (String Global) → Store → Type 0) (unserved : Type 0) (end : List ℕ) (turns : ℕ) → IsUnloaded s → unserved → AsHosted s Q left unserved end turns
@@ -62,7 +60,6 @@ unloaded_as OutputFault Q left unserved end turns h u = absurd h
 unloaded_as (SwapFault cause) Q left unserved end turns h u = absurd h
 unloaded_as WireFault Q left unserved end turns h u = absurd h
 unloaded_as TurnsSpent Q left unserved end turns h u = absurd h
-unloaded_as NotYet Q left unserved end turns h u = absurd h
 
 -- what is known of a run is told otherwise
 pub hosted_as : (s : Hosted) (P Q : List ℕ → Bool → (ℕ → Type 0) → (Store → Type 0) → Type 0) (left : Option (String Global) → Store → Type 0) (unserved unserved1 : Type 0) (end : List ℕ) (turns : ℕ)
@@ -75,7 +72,6 @@ hosted_as (FilesFault path) P Q left unserved unserved1 end turns f u (inl e) = 
 hosted_as (FilesFault path) P Q left unserved unserved1 end turns f u (inr h) = inr (f _ _ _ _ h)
 hosted_as WireFault P Q left unserved unserved1 end turns f u h = f _ _ _ _ h
 hosted_as TurnsSpent P Q left unserved unserved1 end turns f u h = f _ _ _ _ h
-hosted_as NotYet P Q left unserved unserved1 end turns f u h = tt
 hosted_as NoMemory P Q left unserved unserved1 end turns f u h = tt
 
 -- the files of a store are those that were loaded

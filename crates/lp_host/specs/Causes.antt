@@ -18,7 +18,7 @@ use Rattle.lp_recording.specs.Recorded.{files_in}
 use Rattle.lp_serve.specs.Causes.{HasNotRisen}
 use Rattle.lp_host.specs.Playing.{world_files}
 use Rattle.lp_host.specs.declared.run.Hosted.{Hosted}
-use Rattle.lp_host.specs.declared.run.Hosted.TheVariants.{Done, NoMaster, OutputFault, SwapFault, FilesFault, WireFault, TurnsSpent, NotYet, NoMemory}
+use Rattle.lp_host.specs.declared.run.Hosted.TheVariants.{Done, NoMaster, OutputFault, SwapFault, FilesFault, WireFault, TurnsSpent, NoMemory}
 
 -- the output failed
 abbrev pub is_output_end : Hosted → Bool
@@ -93,7 +93,6 @@ IsInOrder Done = ⊤
 IsInOrder TurnsSpent = ⊤
 IsInOrder (NoMaster faults) = ⊤
 IsInOrder NoMemory = ⊤
-IsInOrder NotYet = ⊤
 IsInOrder OutputFault = ⊥
 IsInOrder (FilesFault path) = ⊥
 IsInOrder WireFault = ⊥

@@ -27,7 +27,7 @@ use Rattle.lp_state.specs.declared.fault.TurnFault.{TurnFault}
 use Rattle.lp_state.specs.declared.fault.TurnFault.TheVariants as faults
 use Rattle.lp_host.specs.Playing.{IsPlayed}
 use Rattle.lp_host.specs.declared.run.Hosted.{Hosted}
-use Rattle.lp_host.specs.declared.run.Hosted.TheVariants.{Done, NoMaster, OutputFault, SwapFault, FilesFault, WireFault, TurnsSpent, NotYet, NoMemory}
+use Rattle.lp_host.specs.declared.run.Hosted.TheVariants.{Done, NoMaster, OutputFault, SwapFault, FilesFault, WireFault, TurnsSpent, NoMemory}
 
 -- what is written before the first happening: the head, the files and the start of a record, or the log of the start
 abbrev pub opening_written : Keeps → ℕ → ℕ → List Loaded → List Out → List ℕ
@@ -48,13 +48,11 @@ abbrev pub stopped_of : Stop → Option SwapCause → Hosted
 stopped_of stops.NoMemory cause = NoMemory
 stopped_of stops.Swap (Some cause) = SwapFault cause
 stopped_of stops.Swap None = NoMemory
-stopped_of stops.NotYet cause = NotYet
 
 -- the end of a turn that was not carried out, by its fault
 abbrev pub ended_of : TurnFault → Hosted
 ended_of faults.HasFailed = NoMemory
 ended_of (faults.Swap cause) = SwapFault cause
-ended_of faults.NotYet = NotYet
 ended_of faults.NoMemory = NoMemory
 
 abbrev pub hosted_of : Served → Option SwapCause → Hosted
@@ -80,7 +78,6 @@ AsHosted OutputFault run left unserved ending turns = ⊤
 AsHosted (FilesFault path) run left unserved ending turns = ((string_bytes path ≡ codes "/") × unserved) ⊎ run ending true (λ polls. polls ≤ turns) (left (Some path))
 AsHosted (NoMaster faults) run left unserved ending turns = ⊤
 AsHosted (SwapFault cause) run left unserved ending turns = ⊤
-AsHosted NotYet run left unserved ending turns = ⊤
 AsHosted NoMemory run left unserved ending turns = ⊤
 
 -- the end where the start was not carried out
@@ -88,7 +85,6 @@ abbrev pub unstarted_of : StartFault → Hosted
 unstarted_of (start.NoMaster faults) = NoMaster faults
 unstarted_of (start.Stopped driver.NoMemory) = NoMemory
 unstarted_of (start.Stopped (driver.Swap cause)) = SwapFault cause
-unstarted_of (start.Stopped driver.NotYet) = NotYet
 
 -- the end where the files could not be loaded
 abbrev pub IsUnloaded : Hosted → Type 0
@@ -100,4 +96,3 @@ IsUnloaded WireFault = ⊥
 IsUnloaded OutputFault = ⊥
 IsUnloaded (NoMaster faults) = ⊥
 IsUnloaded (SwapFault cause) = ⊥
-IsUnloaded NotYet = ⊥

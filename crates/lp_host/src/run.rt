@@ -66,8 +66,6 @@ pub enum Hosted {
     WireFault,
     /// The wire was polled as often as it was to be.
     TurnsSpent,
-    /// In a turn something was asked that is not carried out yet.
-    NotYet,
     /// There was no memory.
     NoMemory,
 }
@@ -85,10 +83,6 @@ fn stopped(why: Stop, cause: Option<SwapCause>) -> Hosted
             Some(cause) => Hosted::SwapFault { cause },
             None => Hosted::NoMemory,
         },
-        Stop::NotYet => {
-            drop(cause);
-            Hosted::NotYet
-        }
     }
 }
 
@@ -143,7 +137,6 @@ fn not_started(fault: StartFault) -> Hosted
         StartFault::NoMaster { faults } => Hosted::NoMaster { faults },
         StartFault::Stopped(VmFault::NoMemory) => Hosted::NoMemory,
         StartFault::Stopped(VmFault::Swap(cause)) => Hosted::SwapFault { cause },
-        StartFault::Stopped(VmFault::NotYet) => Hosted::NotYet,
     }
 }
 

@@ -51,7 +51,6 @@ impl HostedState {
                 self.cause = Some(cause);
                 Stop::Swap
             }
-            TurnFault::NotYet => Stop::NotYet,
             TurnFault::HasFailed => Stop::NoMemory,
             TurnFault::NoMemory => Stop::NoMemory,
         }

@@ -1,10 +1,8 @@
 -- What was brought into memory for a load, from one call to the next.
-use Rattle.std.proofs.Common.{◌≡◌, ◌∙◌, ◌++◌, ◌∷◌, ℕ, List, [], Option, Some, None, Result, Ok, Err, IfErr, IsSome, refl, ap, sym, subst, unwrap_or, slice_get}
+use Rattle.std.proofs.Common.{◌≡◌, ◌∙◌, ◌++◌, ◌∷◌, ℕ, List, [], Option, Some, None, Result, Ok, Err, IfErr, refl, ap, sym, subst, unwrap_or, slice_get}
 use Rattle.std.specs.Prelude.{IsErrAnd}
 use Rattle.lp_code.specs.declared.program.RawProgram.{RawProgram}
 use Rattle.lp_language.specs.World as world
-use Rattle.lp_language.specs.World.{World, named_from}
-use Rattle.lp_targets.specs.Callees.{IsWorldOf}
 use Rattle.lp_swapfile.specs.Device.{Bytes, Last}
 use Rattle.lp_residence.specs.declared.answers.EnterFault.{EnterFault}
 use Rattle.lp_residence.specs.declared.answers.EnterFault.TheVariants as enters
@@ -19,10 +17,10 @@ use Rattle.lp_residence.specs.Owners.{program_of}
 use Rattle.lp_making.specs.Versions.{StandsWithVersion}
 use Rattle.lp_meaning.specs.WorldSteps.{with_new_version as with_more}
 use Rattle.lp_beginning.specs.Beginning as objects
-use Rattle.lp_beginning.specs.Beginning.{BringsFirst, IsRefusedFor, OnSwap, StandsStill}
+use Rattle.lp_beginning.specs.Beginning.{BringsFirst, OnSwap, StandsStill}
 use Rattle.lp_beginning.specs.declared.fault.MakingFault.{MakingFault}
 use Rattle.lp_beginning.specs.declared.fault.MakingFault.TheVariants as makings
-use Rattle.lp_loading.specs.Telling.{IsReadless, IsTakenFor, IsTakenIn, IsUntaken, StandsFor, brought_as, brought_by, fault_of}
+use Rattle.lp_loading.specs.Telling.{IsDeviceless, StandsFor, brought_as, brought_by, fault_of}
 use Rattle.lp_loading.specs.Steps.{fault_of as refused_as}
 use Rattle.lp_loading.specs.declared.job.LoadFault.{LoadFault}
 use Rattle.lp_loading.specs.declared.job.LoadFault.TheVariants as faults
@@ -33,25 +31,22 @@ none_brought told last reads writes truth honest live = record { stays = stays_s
 
 -- What was brought so far stays so, where no fault follows that a read has.
 pub fault_still : {told0 told1 : Option Bytes} {last : Last} {reads0 reads1 writes0 writes1 : ℕ} {true0 true1 honest0 honest1 : Type 0} {old mid : Live} (new : Live) (f : LoadFault)
-    → Brings {A = Unit {0}} told0 told1 last reads0 reads1 writes0 writes1 true0 true1 honest0 honest1 old mid (Ok tt) → StaysInMemory mid new → IsReadless f
+    → Brings {A = Unit {0}} told0 told1 last reads0 reads1 writes0 writes1 true0 true1 honest0 honest1 old mid (Ok tt) → StaysInMemory mid new → IsDeviceless f
     → Brings told0 told1 last reads0 reads1 writes0 writes1 true0 true1 honest0 honest1 old new (brought_as f)
 fault_still new (faults.Swap cause) h s i = absurd i
-fault_still new faults.TooLarge h s i = brings_ok h s
-fault_still new faults.NameTaken h s i = absurd i
-fault_still new faults.NotYet h s i = brings_ok h s
 fault_still new faults.NoMemory h s i = brings_no_memory (brings_ok {B = Unit {0}} {y = tt} h s)
 
 pub brought_still : {A : Type 0} {told0 told1 : Option Bytes} {last : Last} {reads0 reads1 writes0 writes1 : ℕ} {true0 true1 honest0 honest1 : Type 0} {old mid : Live} (new : Live) (r : Result A LoadFault)
-    → Brings {A = Unit {0}} told0 told1 last reads0 reads1 writes0 writes1 true0 true1 honest0 honest1 old mid (Ok tt) → StaysInMemory mid new → IfErr r IsReadless
+    → Brings {A = Unit {0}} told0 told1 last reads0 reads1 writes0 writes1 true0 true1 honest0 honest1 old mid (Ok tt) → StaysInMemory mid new → IfErr r IsDeviceless
     → Brings told0 told1 last reads0 reads1 writes0 writes1 true0 true1 honest0 honest1 old new (brought_by r)
 brought_still new (Ok x) h s i = brings_ok h s
 brought_still new (Err f) h s i = fault_still new f h s i
 
-pub none_failed : (told : Option Bytes) (last : Last) (reads writes : ℕ) (truth honest : Type 0) (live : Live) (f : LoadFault) → IsReadless f
+pub none_failed : (told : Option Bytes) (last : Last) (reads writes : ℕ) (truth honest : Type 0) (live : Live) (f : LoadFault) → IsDeviceless f
     → Brings told told last reads reads writes writes truth truth honest honest live live (brought_as f)
 none_failed told last reads writes truth honest live f i = fault_still live f (none_brought told last reads writes truth honest live) (stays_same live) i
 
-nothing_brought : {A : Type 0} (told : Option Bytes) (last : Last) (reads writes : ℕ) (truth honest : Type 0) (live : Live) (r : Result A LoadFault) → IfErr r IsReadless
+nothing_brought : {A : Type 0} (told : Option Bytes) (last : Last) (reads writes : ℕ) (truth honest : Type 0) (live : Live) (r : Result A LoadFault) → IfErr r IsDeviceless
     → Brings told told last reads reads writes writes truth truth honest honest live live (brought_by r)
 nothing_brought told last reads writes truth honest live r i = brought_still live r (none_brought told last reads writes truth honest live) (stays_same live) i
 
@@ -79,15 +74,6 @@ pub fault_brought : (e : EnterFault) → entered_as e ≡ brought_as (fault_of e
 fault_brought (enters.Swap cause) = refl
 fault_brought enters.NoMemory = refl
 
--- no read has a part in want of memory
-pub readless_exit : {A : Type 0} (r : Result A LoadFault) → IsErrAnd r (λ g. g ≡ faults.NoMemory) → IfErr r IsReadless
-readless_exit (Ok x) e = tt
-readless_exit (Err g) e = subst IsReadless (sym e) tt
-
-pub readless_on : {A : Type 0} (r : Result A LoadFault) (f : LoadFault) → IsErrAnd r (λ g. g ≡ f) → IsReadless f → IfErr r IsReadless
-readless_on (Ok x) f e i = tt
-readless_on (Err g) f e i = subst IsReadless (sym e) i
-
 -- Before something else changes
 
 on_swap_same : {P : Type 0} (r : Result (Unit {0}) EnterFault) → P → OnSwap r P
@@ -95,27 +81,24 @@ on_swap_same (Ok x) p = tt
 on_swap_same (Err (enters.Swap cause)) p = p
 on_swap_same (Err enters.NoMemory) p = tt
 
-on_fault : (P : Type 0) (f : LoadFault) → IsReadless f → OnSwap (brought_as f) P
+on_fault : (P : Type 0) (f : LoadFault) → IsDeviceless f → OnSwap (brought_as f) P
 on_fault P (faults.Swap cause) i = absurd i
-on_fault P faults.TooLarge i = tt
-on_fault P faults.NameTaken i = absurd i
-on_fault P faults.NotYet i = tt
 on_fault P faults.NoMemory i = tt
 
-on_readless : {A : Type 0} (P : Type 0) (r : Result A LoadFault) → IfErr r IsReadless → OnSwap (brought_by r) P
-on_readless P (Ok x) i = tt
-on_readless P (Err f) i = on_fault P f i
+on_deviceless : {A : Type 0} (P : Type 0) (r : Result A LoadFault) → IfErr r IsDeviceless → OnSwap (brought_by r) P
+on_deviceless P (Ok x) i = tt
+on_deviceless P (Err f) i = on_fault P f i
 
 -- nothing is read at all, whatever changes
 pub first_none : (told : Option Bytes) (last : Last) (reads writes : ℕ) (truth honest : Type 0) (live new : Live) → BringsFirst told told last reads reads writes writes truth truth honest honest live new (Ok tt)
 first_none told last reads writes truth honest live new = record { between = live; brings = none_brought told last reads writes truth honest live; still = tt }
 
-pub first_failed : (told : Option Bytes) (last : Last) (reads writes : ℕ) (truth honest : Type 0) (live new : Live) (f : LoadFault) → IsReadless f → BringsFirst told told last reads reads writes writes truth truth honest honest live new (brought_as f)
+pub first_failed : (told : Option Bytes) (last : Last) (reads writes : ℕ) (truth honest : Type 0) (live new : Live) (f : LoadFault) → IsDeviceless f → BringsFirst told told last reads reads writes writes truth truth honest honest live new (brought_as f)
 first_failed told last reads writes truth honest live new f i = record { between = live; brings = none_failed told last reads writes truth honest live f i; still = on_fault (new ≡ live) f i }
 
-pub first_nothing : {A : Type 0} (told : Option Bytes) (last : Last) (reads writes : ℕ) (truth honest : Type 0) (live new : Live) (r : Result A LoadFault) → IfErr r IsReadless
+pub first_nothing : {A : Type 0} (told : Option Bytes) (last : Last) (reads writes : ℕ) (truth honest : Type 0) (live new : Live) (r : Result A LoadFault) → IfErr r IsDeviceless
     → BringsFirst told told last reads reads writes writes truth truth honest honest live new (brought_by r)
-first_nothing told last reads writes truth honest live new r i = record { between = live; brings = nothing_brought told last reads writes truth honest live r i; still = on_readless (new ≡ live) r i }
+first_nothing told last reads writes truth honest live new r i = record { between = live; brings = nothing_brought told last reads writes truth honest live r i; still = on_deviceless (new ≡ live) r i }
 
 -- what is brought is all
 pub first_alone : {told0 told1 : Option Bytes} {last : Last} {reads0 reads1 writes0 writes1 : ℕ} {true0 true1 honest0 honest1 : Type 0} {old new : Live} {r : Result (Unit {0}) EnterFault}
@@ -147,10 +130,12 @@ first_changed {told0 = told0} {old = old} {mid = mid} s m k = record {
 }
 
 -- as why no object was made
-pub refusal_brought : (e : MakingFault) → objects.brought_as e ≡ brought_as (refused_as e)
-refusal_brought makings.NameTaken = refl
-refusal_brought (makings.Swap cause) = refl
-refusal_brought makings.NoMemory = refl
+pub refusal_brought : {told0 told1 : Option Bytes} {last : Last} {reads0 reads1 writes0 writes1 : ℕ} {true0 true1 honest0 honest1 : Type 0} {old new : Live} (e : MakingFault)
+    → BringsFirst told0 told1 last reads0 reads1 writes0 writes1 true0 true1 honest0 honest1 old new (objects.brought_as e)
+    → BringsFirst told0 told1 last reads0 reads1 writes0 writes1 true0 true1 honest0 honest1 old new (brought_as (refused_as e))
+refusal_brought makings.NameTaken h = record { between = h.between; brings = brings_no_memory h.brings; still = tt }
+refusal_brought (makings.Swap cause) h = h
+refusal_brought makings.NoMemory h = h
 
 -- A version more
 
@@ -175,56 +160,3 @@ pub version_stands : (old new : Live) (file : List ℕ) (p : RawProgram) → Sta
 version_stands old new file p s told programs w h =
     let v : world.Version = record { path = file; items = []; parents = p.tables.parents; pragmas = p.tables.pragmas; simuls = []; latest = w.clock } in
     (programs ++ p ∷ [], with_more w v, s told programs w v h (record { path = refl; parents = refl; latest = refl }), refl)
-
--- Names that are taken
-
-pub if_err : {A : Type 0} (r : Result A LoadFault) (P Q : LoadFault → Type 0) → ((f : LoadFault) → P f → Q f) → IfErr r P → IfErr r Q
-if_err (Ok x) P Q g h = tt
-if_err (Err f) P Q g h = g f h
-
--- as why no object was made
-pub refusal_taken : (told : Option Bytes) (live : Live) (name : List ℕ) (e : MakingFault) → IsRefusedFor told live name e → IsTakenFor told live name (refused_as e)
-refusal_taken told live name makings.NameTaken h = h
-refusal_taken told live name (makings.Swap cause) h = tt
-refusal_taken told live name makings.NoMemory h = tt
-
--- objects are the same before a version came
-pub taken_before : (told : Option Bytes) (old new : Live) (name : List ℕ) (f : LoadFault) → StandsFor old new → IsTakenFor told new name f → IsTakenIn told old name f
-taken_before told old new name (faults.Swap cause) s h = tt
-taken_before told old new name faults.TooLarge s h = tt
-taken_before told old new name faults.NameTaken s h = λ programs w i. let x = s told programs w i.stands in subst (λ os. IsSome (named_from name 0 os)) x.3 (h x.0 x.1 x.2)
-taken_before told old new name faults.NotYet s h = tt
-taken_before told old new name faults.NoMemory s h = tt
-
--- and where the state stood for the same worlds
-pub taken_still : (told0 told1 : Option Bytes) (old new : Live) (name : List ℕ) (f : LoadFault) → ((programs : List RawProgram) (w : World) → IsWorldOf told0 programs old w → IsWorldOf told1 programs new w) → IsTakenIn told1 new name f → IsTakenIn told0 old name f
-taken_still told0 told1 old new name (faults.Swap cause) k h = tt
-taken_still told0 told1 old new name faults.TooLarge k h = tt
-taken_still told0 told1 old new name faults.NameTaken k h = λ programs w i. h programs w (k programs w i)
-taken_still told0 told1 old new name faults.NotYet k h = tt
-taken_still told0 told1 old new name faults.NoMemory k h = tt
-
-pub untaken_in : (told : Option Bytes) (live : Live) (name : List ℕ) (f : LoadFault) → IsUntaken f → IsTakenIn told live name f
-untaken_in told live name (faults.Swap cause) i = tt
-untaken_in told live name faults.TooLarge i = tt
-untaken_in told live name faults.NameTaken i = absurd i
-untaken_in told live name faults.NotYet i = tt
-untaken_in told live name faults.NoMemory i = tt
-
-pub readless_in : (told : Option Bytes) (live : Live) (name : List ℕ) (f : LoadFault) → IsReadless f → IsTakenIn told live name f
-readless_in told live name (faults.Swap cause) i = absurd i
-readless_in told live name faults.TooLarge i = tt
-readless_in told live name faults.NameTaken i = absurd i
-readless_in told live name faults.NotYet i = tt
-readless_in told live name faults.NoMemory i = tt
-
-pub entered_untaken : (e : EnterFault) → IsUntaken (fault_of e)
-entered_untaken (enters.Swap cause) = tt
-entered_untaken enters.NoMemory = tt
-
-pub readless_untaken : (f : LoadFault) → IsReadless f → IsUntaken f
-readless_untaken (faults.Swap cause) i = tt
-readless_untaken faults.TooLarge i = tt
-readless_untaken faults.NameTaken i = i
-readless_untaken faults.NotYet i = tt
-readless_untaken faults.NoMemory i = tt

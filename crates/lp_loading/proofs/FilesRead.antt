@@ -2,9 +2,9 @@
 use Rattle.std.proofs.Common.{◌≡◌, ◌∙◌, ◌++◌, ◌⊎◌, ℕ, zero, suc, List, Option, Result, Ok, Err, IfOk, OnOk, Vec, Global, refl, ap, sym, subst, map, length, arith}
 use Rattle.std.specs.Prelude.{false, nat_lt}
 use Rattle.std.specs.Prelude.{codes}
-use Rattle.std.specs.Str.{IsAscii}
+use Rattle.std.specs.Str.{IsUtf8, chars}
 use Rattle.std.proofs.lemmas.List.{append_assoc}
-use Rattle.std.proofs.lemmas.Str.{encodes-IsAscii}
+use Rattle.std.proofs.lemmas.Str.{encodes-chars}
 use Rattle.lp_tree.specs.declared.fault.Fault.{Fault}
 use Rattle.lp_values.specs.declared.id.ProgId.{ProgId}
 use Rattle.lp_code.specs.declared.program.RawProgram.{RawProgram}
@@ -42,6 +42,7 @@ use Rattle.lp_loading.specs.Reads.{HasRead}
 use Rattle.lp_loading.specs.Readings.{FaultyEnds}
 use Rattle.lp_loading.specs.Simuls.{SeesSimuls}
 use Rattle.lp_loading.proofs.Growth.{grows_same}
+use Rattle.lp_loading.proofs.Worlds.{file_is_bytes}
 
 -- as many numbers were given out as the world has versions
 versions_same : (told0 told1 : Option Bytes) (programs : List RawProgram) (live0 live1 : Live) (w : World) → Stands told0 programs live0 w → Stands told1 programs live1 w → length live0.versions ≡ length live1.versions
@@ -164,6 +165,6 @@ asks_parent file job loads told0 told1 live0 live1 name h f away shallow = recor
   shallow = shallow;
 }
 
--- a path of letters of ASCII that ends in `.c` is the file of what is before that
-pub file_of_front : (path front : List ℕ) → IsAscii path → path ≡ front ++ codes ".c" → path ≡ file_bytes front
-file_of_front path front a e = e ∙ sym (encodes-IsAscii (file_of_name front) (subst IsAscii e a))
+-- a path that ends in `.c` is the file of what is before that
+pub file_of_front : (path front : List ℕ) → IsUtf8 front → path ≡ front ++ codes ".c" → path ≡ file_bytes (chars front)
+file_of_front path front u e = e ∙ ap file_of_name (sym (encodes-chars front u)) ∙ file_is_bytes (chars front)

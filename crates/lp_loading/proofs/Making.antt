@@ -40,15 +40,15 @@ have_still programs more (n ∷ ns) (t ∷ ts) h = (record { program = h.0.progr
 ascii_dot_c : IsAscii (file_of_name [])
 ascii_dot_c = ascii_text (file_of_name []) refl
 
-pub ascii_file : (name : List ℕ) → IsAscii name → IsAscii (file_of_name name)
+ascii_file : (name : List ℕ) → IsAscii name → IsAscii (file_of_name name)
 ascii_file name a = IsAscii-append name (file_of_name []) a ascii_dot_c
 
-pub file_is_bytes : (name : List ℕ) → IsAscii name → file_of_name name ≡ file_bytes name
-file_is_bytes name a = sym (encodes-IsAscii (file_of_name name) (ascii_file name a))
+file_same : (name : List ℕ) → IsAscii name → file_of_name name ≡ file_bytes name
+file_same name a = sym (encodes-IsAscii (file_of_name name) (ascii_file name a))
 
 pub version_comes : NewVersionFits → CallsFindRows → (old new : Live) (name file : List ℕ) (p : RawProgram) (number : ProgId) → file ≡ file_of_name name → IsClosed new → number.0 ≡ length old.versions → IsNewVersion old new file p
-    → StandsWithVersionOf old new file p → length p.instrs < 2 ^ 32 → MakesVersion old new name p number
-version_comes fits finds old new name file p number same closed is after stands few told programs w front made own simuls h n a f =
+    → StandsWithVersionOf old new file p → length p.instrs < 2 ^ 32 → IsAscii name → MakesVersion old new name p number
+version_comes fits finds old new name file p number same closed is after stands few a told programs w front made own simuls h n f =
     let ts : List Tables = f.compiles.parents in
     let parents : List ProgId = map (version_known w made) (parents_in f.compiles.items) in
     let v : world.Version = version_now w name f.compiles.items f.compiles.pragmas parents simuls in
@@ -62,7 +62,7 @@ version_comes fits finds old new name file p number same closed is after stands 
         stands = kept;
         compiled = fits old.store (file_bytes name) own f.known simuls programs w.versions p v h.compiled (n ∙ many) (record {
           compiled = f.compiles;
-          path_is = file_is_bytes name a;
+          path_is = file_same name a;
           items = refl;
           pragmas = refl;
           simuls_are = refl;

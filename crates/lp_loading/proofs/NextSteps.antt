@@ -1,6 +1,5 @@
 -- What a load does next.
 use Rattle.std.proofs.Common.{◌≡◌, ◌∙◌, ◌++◌, ℕ, zero, suc, List, [], ◌∷◌, Option, refl, ap, sym, subst, map, arith}
-use Rattle.std.specs.Str.{IsAscii}
 use Rattle.lp_values.specs.declared.id.ProgId.{ProgId}
 use Rattle.lp_code.specs.declared.program.RawProgram.{RawProgram}
 use Rattle.lp_events.specs.declared.out.Out.{Out}
@@ -32,7 +31,7 @@ use Rattle.lp_loading.specs.Loads.{kind_of, loads_of}
 use Rattle.lp_loading.specs.Present.{all_made}
 use Rattle.lp_loading.specs.Readings.{SoundGoesOn}
 use Rattle.lp_loading.specs.Reads.{HasRead}
-use Rattle.lp_loading.specs.Steps.{AsksAscii, AsksInOrder, AsksOrFails, MakesFor, MakesHome}
+use Rattle.lp_loading.specs.Steps.{AsksInOrder, AsksOrFails, MakesFor, MakesHome}
 use Rattle.lp_loading.specs.Versions.{MakesVersion}
 use Rattle.lp_loading.proofs.Growth.{grows_more}
 
@@ -70,11 +69,11 @@ leads_back (steps.Ends a) front job c0 c1 old mid told before live turn budget b
 )
 
 -- A FILE WITHOUT FAULTS becomes a version, and an object of that is made.
-pub sound_leads : SoundGoesOn → (p : RawProgram) (r : Step) (job : LoadJob) (loads : List Loading) (number : ProgId) (told0 told1 told2 : Option Bytes) (live0 live1 live2 live3 : Live) (budget : ℕ) (turn : Turn) → IsAscii job.name
+pub sound_leads : SoundGoesOn → (p : RawProgram) (r : Step) (job : LoadJob) (loads : List Loading) (number : ProgId) (told0 told1 told2 : Option Bytes) (live0 live1 live2 live3 : Live) (budget : ℕ) (turn : Turn)
     → MakesVersion live1 live2 job.name p number → live2.outputs ≡ live1.outputs → MakesAs r job number told1 live2 told2 live3 → HasRead (compiled.Made p) job loads told0 live0 told1 live1
     → Goes r job goings.Read loads told0 live0 budget told2 live3 budget turn
-sound_leads sound p r job loads number told0 told1 told2 live0 live1 live2 live3 budget turn a v o m h front programs before by s zero real at under l = absurd (omega (arith, l))
-sound_leads sound p r job loads number told0 told1 told2 live0 live1 live2 live3 budget turn a v o m h front programs before by s (suc n) real at under l =
+sound_leads sound p r job loads number told0 told1 told2 live0 live1 live2 live3 budget turn v o m h front programs before by s zero real at under l = absurd (omega (arith, l))
+sound_leads sound p r job loads number told0 told1 told2 live0 live1 live2 live3 budget turn v o m h front programs before by s (suc n) real at under l =
     let c = h.is programs s.world at.world in
     let made : List Made = all_made job.made.items in
     let simuls : List (List ℕ) = simul_names s.world (loads_of loads) in
@@ -83,7 +82,7 @@ sound_leads sound p r job loads number told0 told1 told2 live0 live1 live2 live3
     let pragmas = f.compiles.pragmas in
     let parents : List ProgId = map (version_known s.world made) (parents_in items) in
     let t : State = record s { world = with_new_version s.world (version_now s.world job.name items pragmas parents simuls) } in
-    let k = v told1 programs s.world front made h.own simuls c.world h.next a f in
+    let k = v told1 programs s.world front made h.own simuls c.world h.next f in
     let there : IsAt (setting told1 (programs ++ p ∷ []) before) live2 turn budget t = record {
       at = record { stands = k.world.stands; left = at.at.left; outputs = o ∙ h.outputs ∙ at.at.outputs; player = at.at.player; commands = at.at.commands };
       world = k.world;
@@ -97,12 +96,6 @@ sound_leads sound p r job loads number told0 told1 told2 live0 live1 live2 live3
     (m front (programs ++ p ∷ []) before by t turn budget there)
 
 -- Steps
-
-pub fails_ascii : (r : Step) → AsksOrFails r → AsksAscii r
-fails_ascii (steps.Asks name waitings.Simul) h = absurd h
-fails_ascii (steps.Asks name (waitings.Parent parent)) h = h
-fails_ascii (steps.Makes object) h = tt
-fails_ascii (steps.Ends a) h = tt
 
 pub fails_order : (going : Going) (r : Step) → AsksOrFails r → AsksInOrder going r
 fails_order going (steps.Asks name waitings.Simul) h = absurd h

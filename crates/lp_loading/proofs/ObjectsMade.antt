@@ -33,7 +33,7 @@ use Rattle.lp_loading.specs.declared.job.Purpose.{Purpose}
 use Rattle.lp_loading.specs.declared.job.Purpose.TheVariants as purposes
 use Rattle.lp_loading.specs.Going.{IsAnswerOf, IsAnswerThere, IsAt, MakesAs, setting}
 use Rattle.lp_loading.specs.Loads.{kind_of}
-use Rattle.lp_loading.specs.Steps.{AsksAscii, AsksInOrder, MakesFor, MakesHome, answer_of, making_kind, step_of}
+use Rattle.lp_loading.specs.Steps.{AsksInOrder, MakesFor, MakesHome, answer_of, making_kind, step_of}
 use Rattle.lp_loading.proofs.Growth.{grows_same}
 use Rattle.lp_loading.proofs.Telling.{over_ends}
 
@@ -118,10 +118,6 @@ made_leads (begun.Ends ending) job name version told0 told1 live0 live1 kept n h
     )
 
 -- Steps
-
-pub begun_ascii : (r : Begun) → AsksAscii (step_of r)
-begun_ascii (begun.Ends ending) = tt
-begun_ascii (begun.Runs object) = tt
 
 pub begun_order : (going : Going) (r : Begun) → AsksInOrder going (step_of r)
 begun_order going (begun.Ends ending) = tt

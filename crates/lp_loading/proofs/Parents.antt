@@ -1,9 +1,9 @@
 -- What compiling a file gives a load, by what the front end tells.
 use Rattle.std.proofs.Common.{◌≡◌, ◌∙◌, ◌⊎◌, inl, inr, ℕ, true, All, List, [], ◌∷◌, Option, Some, None, Result, Ok, Err, IfOk, OnOk, refl, ap, sym, subst, map, cond, unwrap_or, string_bytes}
-use Rattle.std.specs.Char.{is_ascii}
-use Rattle.std.specs.List.{list_all}
+use Rattle.std.specs.Str.{is_utf8}
 use Rattle.std.specs.Prelude.{MatchOption, is_some, not}
 use Rattle.std.proofs.lemmas.List.Elements.{All-nil, All-cons}
+use Rattle.std.proofs.lemmas.Str.{IsUtf8-string_bytes, is_utf8-from_IsUtf8}
 use Rattle.lp_files.specs.declared.store.Store.{Store}
 use Rattle.lp_tree.specs.declared.fault.Fault.{Fault}
 use Rattle.lp_tree.specs.declared.pragma.Pragmas.{Pragmas}
@@ -127,7 +127,7 @@ module _ (sound : CompiledIsSound) (told_refusals : RefusedIsTold) (reads : Stor
     unread fs u = record { first = u.first; read = there.faulty u.first u.fault; alone = u.alone }
 
     -- the first parent that is missing
-    first_lacks : (ps : List Parent) (file : List ℕ) → list_all is_ascii file ≡ true → version_of_file made live file ≡ None → IsFirstMissing mem (map by_file ps) file
+    first_lacks : (ps : List Parent) (file : List ℕ) → is_utf8 file ≡ true → version_of_file made live file ≡ None → IsFirstMissing mem (map by_file ps) file
         → (p : Parent) × (first_missing w made ps ≡ Some p) × (file ≡ file_bytes p.name)
     first_lacks [] file a n m = absurd m
     first_lacks (p ∷ ps) file a n m = by (first_lacks ps file a n) (mem (file_bytes p.name)) refl m
@@ -135,20 +135,20 @@ module _ (sound : CompiledIsSound) (told_refusals : RefusedIsTold) (reads : Stor
         by : (IsFirstMissing mem (map by_file ps) file → (q : Parent) × (first_missing w made ps ≡ Some q) × (file ≡ file_bytes q.name)) → (o : Option Tables) → mem (file_bytes p.name) ≡ o → IsMissingThere o (file_bytes p.name) file (IsFirstMissing mem (map by_file ps) file) → (q : Parent) × (first_missing w made (p ∷ ps) ≡ Some q) × (file ≡ file_bytes q.name)
         by ih None e k =
             let lacks : known_version w made p.name ≡ None =
-            what_is_not told programs live w made p.name h.stands (ap (list_all is_ascii) (sym k) ∙ a) (ap (version_of_file made live) (sym k) ∙ n) in
+            what_is_not told programs live w made p.name h.stands (ap is_utf8 (sym k) ∙ a) (ap (version_of_file made live) (sym k) ∙ n) in
             (p, ap (λ (o : Option ProgId). cond (not (is_some o)) (Some p) (first_missing w made ps)) lacks, k)
         by ih (Some t) e k =
             let q = ih k in
             let has = (what_is_known told programs live w made p.name t h e).known in
             (q.0, ap (λ (o : Option ProgId). cond (not (is_some o)) (Some p) (first_missing w made ps)) has ∙ q.1, q.2)
 
-    missing : (file : List ℕ) → list_all is_ascii file ≡ true → version_of_file made live file ≡ None → Needs live.store (file_bytes name) mem file → IsMissing front w made path file
+    missing : (file : List ℕ) → is_utf8 file ≡ true → version_of_file made live file ≡ None → Needs live.store (file_bytes name) mem file → IsMissing front w made path file
     missing file a n r =
         let q = first_lacks (parents_in r.items) file a n (subst (λ ps. IsFirstMissing mem ps file) (names r.items) r.missing) in
         record { items = r.items; pragmas = r.pragmas; read = there.declared r.items r.pragmas r.declares; parent = q.0; missing = q.1; file_is = q.2 }
 
     refused_to : (own : ProgId) (f : CompileFault) → IsRefused live.store (file_bytes name) mem simuls f → (r : Compiled) → IsRefusedTo r f made live → IsCompiledTo r front live.store programs w made name own simuls
-    refused_to own (refusals.Need file) n (compiled.Missing g) t = subst (λ x. IsMissing front w made path x) (sym t.0) (missing (string_bytes file) t.1 t.2 n)
+    refused_to own (refusals.Need file) n (compiled.Missing g) t = subst (λ x. IsMissing front w made path x) (sym t.0) (missing (string_bytes file) (is_utf8-from_IsUtf8 (string_bytes file) (IsUtf8-string_bytes file)) t.1 n)
     refused_to own (refusals.Need file) n (compiled.Made p) t = absurd t
     refused_to own (refusals.Need file) n (compiled.Faulty fs) t = absurd t
     refused_to own (refusals.Faults gs) (inl u) (compiled.Faulty fs) t = subst (λ x. IsFaultyFile front w path x.items ⊎ IsFaultyUnit front w made path simuls x.items) (sym t) (inl (unread gs.items u))

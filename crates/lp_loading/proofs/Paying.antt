@@ -1,6 +1,5 @@
 -- How a load begins.
 use Rattle.std.proofs.Common.{◌≡◌, ◌∙◌, ◌-◌, ◌<◌, ◌≤◌, ◌++◌, ℕ, suc, List, [], ◌∷◌, Option, Some, None, IfSome, refl, ap, sym, map, reverse, if◌then◌else◌}
-use Rattle.std.specs.Str.{IsAscii}
 use Rattle.std.proofs.lemmas.Bool.{lt-ltb, le-ltb}
 use Rattle.std.proofs.lemmas.List.{map-append, reverse-append}
 use Rattle.lp_language.specs.Course as course
@@ -54,11 +53,10 @@ pub spent_begins : (a : Ask) (name : List ℕ) (purpose : Purpose) (budget : ℕ
 spent_begins a name purpose budget l z =
     (ap (λ b. if b then not_paid a else paid a name (kind_of purpose) (nested_in (kind_of purpose) a.loads) [] (a.budget - load_price)) (lt-ltb a.budget load_price l), z)
 
-pub load_begins : (a : Ask) (name : List ℕ) (purpose : Purpose) (loads : List Loading) (job : LoadJob) (budget : ℕ) → load_price ≤ a.budget → budget ≡ a.budget - load_price → job.name ≡ name → IsAscii job.name → job.purpose ≡ purpose
+pub load_begins : (a : Ask) (name : List ℕ) (purpose : Purpose) (loads : List Loading) (job : LoadJob) (budget : ℕ) → load_price ≤ a.budget → budget ≡ a.budget - load_price → job.name ≡ name → job.purpose ≡ purpose
     → job.nested ≡ nested_in (kind_of purpose) a.loads → job.made.items ≡ [] → HasBegun job name purpose loads a budget
-load_begins a name purpose loads job budget l left n i p k m = record {
+load_begins a name purpose loads job budget l left n p k m = record {
   name_is = n;
-  ascii = i;
   course =
       ap (λ b. if b then not_paid a else paid a name (kind_of purpose) (nested_in (kind_of purpose) a.loads) [] (a.budget - load_price)) (le-ltb a.budget load_price l)
       ∙ ap (λ b. paid a name (kind_of purpose) (nested_in (kind_of purpose) a.loads) [] b) (sym left)

@@ -1,7 +1,5 @@
 -- What a load has of compiling its file.
-use Rattle.std.specs.Prelude.{◌≡◌, ◌⊎◌, ⊤, ℕ, true, List, [], Option, None, map, string_bytes}
-use Rattle.std.specs.Char.{is_ascii}
-use Rattle.std.specs.List.{list_all}
+use Rattle.std.specs.Prelude.{◌≡◌, ◌⊎◌, ⊤, ℕ, List, [], Option, None, map, string_bytes}
 use Rattle.lp_files.specs.declared.store.Store.{Store}
 use Rattle.lp_values.specs.declared.id.ProgId.{ProgId}
 use Rattle.lp_code.specs.declared.program.RawProgram.{RawProgram}
@@ -57,9 +55,9 @@ IsUnknown (refusals.Faults fs) made live = ⊤
 IsUnknown refusals.TooLarge made live = ⊤
 IsUnknown refusals.NoMemory made live = ⊤
 
--- The answer is this file, of letters of ASCII, of which the state has no version, nor has the load made one.
+-- The answer is this file, of which the state has no version, nor has the load made one.
 abbrev pub IsMissingHere : Compiled → List Made → Live → List ℕ → Type 0
-IsMissingHere (compiled.Missing file) made live needed = (file ≡ needed) × (list_all is_ascii needed ≡ true) × (version_of_file made live needed ≡ None)
+IsMissingHere (compiled.Missing file) made live needed = (file ≡ needed) × (version_of_file made live needed ≡ None)
 IsMissingHere (compiled.Made p) made live needed = ⊥
 IsMissingHere (compiled.Faulty fs) made live needed = ⊥
 

@@ -1,6 +1,5 @@
 -- How loads begin, go on, and take what was answered.
 use Rattle.std.specs.Prelude.{◌≡◌, ◌+◌, ◌<◌, ◌≤◌, ⊤, ℕ, List, [], Option}
-use Rattle.std.specs.Str.{IsAscii}
 use Rattle.lp_values.specs.declared.id.ProgId.{ProgId}
 use Rattle.lp_cells.specs.Cells.{IsThere, Store}
 use Rattle.lp_code.specs.declared.program.RawProgram.{RawProgram}
@@ -142,7 +141,6 @@ Takes r job0 waiting a told live job1 turn budget =
 -- A load begins: its price is paid, and it is the innermost under way.
 pub record HasBegun (job : LoadJob) (name : List ℕ) (purpose : Purpose) (loads : List Loading) (a : Ask) (budget : ℕ) : Type 0 where
   pub name_is : job.name ≡ name
-  pub ascii : IsAscii job.name
   pub course : load_call a name (kind_of purpose) ≡ going_course 0 job goings.Simul (under_way (asker_of a) job.name job.nested) (record (state_of a) { budget = budget })
 
 -- or its price cannot be paid

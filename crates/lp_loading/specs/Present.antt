@@ -1,8 +1,7 @@
 -- What a file that is compiled for a load meets of the live state: the versions that the load made for parents, and the live
 -- blueprints of other files, with the tables of their programs.
 use Rattle.std.specs.Prelude.{◌≡◌, ◌+◌, ℕ, List, ◌∷◌, [], Bool, true, false, Option, Some, None, map, if◌then◌else◌}
-use Rattle.std.specs.Char.{is_ascii}
-use Rattle.std.specs.List.{list_all}
+use Rattle.std.specs.Str.{chars, is_utf8}
 use Rattle.lp_values.specs.declared.id.ProgId.{ProgId}
 use Rattle.lp_code.specs.declared.program.RawProgram.{RawProgram}
 use Rattle.lp_instr.specs.EfunList.{is_name}
@@ -29,16 +28,16 @@ made_of m = record { name = m.name; version = m.version }
 abbrev pub all_made : List MadeFor → List Made
 all_made ms = map made_of ms
 
--- The version of a parent, by its name: the one that the load made for it, and else that of its live blueprint.
+-- The version of a parent, by its name in UTF-8: the one that the load made for it, and else that of its live blueprint.
 abbrev pub version_named : List Made → Live → List ℕ → Option ProgId
-version_named made live name = or_else (made_for made name) (version_at live (serial_of live.names name))
+version_named made live name = or_else (made_for made (chars name)) (version_at live (serial_of live.names name))
 
--- The same by its file, whose path ends in `.c` and has letters of ASCII alone.
+-- The same by its file, whose path ends in `.c`.
 abbrev pub version_in_file : List Made → Live → List ℕ → Option ProgId
 version_in_file made live path = if is_name (without_c path) path then None else version_named made live (without_c path)
 
 abbrev pub version_of_file : List Made → Live → List ℕ → Option ProgId
-version_of_file made live path = if list_all is_ascii path then version_in_file made live path else None
+version_of_file made live path = if is_utf8 path then version_in_file made live path else None
 
 -- the tables of that version, where its program is in memory
 abbrev pub known_of : List Made → Live → Known

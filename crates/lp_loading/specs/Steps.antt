@@ -1,6 +1,5 @@
 -- What a load does next, beside its course; and how it hands an object over that is made for it.
 use Rattle.std.specs.Prelude.{◌≡◌, ⊤, List, Option, IsSome}
-use Rattle.std.specs.Str.{IsAscii}
 use Rattle.lp_cells.specs.Cells.{Store}
 use Rattle.lp_world.specs.declared.objects.Object.{Object}
 use Rattle.lp_world.specs.Rows.{variables_at}
@@ -46,19 +45,13 @@ abbrev pub step_of : Begun → Step
 step_of (begun.Ends ending) = steps.Ends (answer_of ending)
 step_of (begun.Runs making) = steps.Makes making
 
--- why it is not carried out whose object was not made
+-- why it is not carried out whose object was not made: for want of memory too where the name is taken
 abbrev pub fault_of : MakingFault → LoadFault
-fault_of makings.NameTaken = faults.NameTaken
+fault_of makings.NameTaken = faults.NoMemory
 fault_of (makings.Swap cause) = faults.Swap cause
 fault_of makings.NoMemory = faults.NoMemory
 
 -- Steps
-
--- a name that is asked for has letters of ASCII alone
-abbrev pub AsksAscii : Step → Type 0
-AsksAscii (steps.Asks name waiting) = IsAscii name
-AsksAscii (steps.Makes making) = ⊤
-AsksAscii (steps.Ends a) = ⊤
 
 -- the simul-efun object is asked for only where a turn is left for that
 abbrev pub AsksInOrder : Going → Step → Type 0
@@ -82,7 +75,7 @@ MakesFor purpose (steps.Ends a) = ⊤
 -- It asks for a parent, or ends with faults of its file.
 abbrev pub AsksOrFails : Step → Type 0
 AsksOrFails (steps.Asks name waitings.Simul) = ⊥
-AsksOrFails (steps.Asks name (waitings.Parent parent)) = IsAscii name
+AsksOrFails (steps.Asks name (waitings.Parent parent)) = ⊤
 AsksOrFails (steps.Makes making) = ⊥
 AsksOrFails (steps.Ends (answers.Value v)) = ⊥
 AsksOrFails (steps.Ends (answers.Faulty fs)) = ⊤

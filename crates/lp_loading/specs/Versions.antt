@@ -1,6 +1,5 @@
 -- A compiled file becomes a version.
 use Rattle.std.specs.Prelude.{◌≡◌, ◌∷◌, ◌++◌, ℕ, List, [], Option, length, map}
-use Rattle.std.specs.Str.{IsAscii}
 use Rattle.lp_values.specs.declared.id.ProgId.{ProgId}
 use Rattle.lp_code.specs.declared.program.RawProgram.{RawProgram}
 use Rattle.lp_swapfile.specs.Device.{Bytes}
@@ -21,5 +20,5 @@ pub record IsMadeIn (told : Option Bytes) (live : Live) (programs : List RawProg
 abbrev pub MakesVersion : Live → Live → List ℕ → RawProgram → ProgId → Type 0
 MakesVersion old new name p number =
     (told : Option Bytes) (programs : List RawProgram) (w : World) (front : FrontEnd) (made : List Made) (own : ProgId) (simuls : List (List ℕ))
-    → IsWorldOf told programs old w → own.0 ≡ length old.versions → IsAscii name → (f : IsProgramFor front old.store programs w made name own simuls p)
+    → IsWorldOf told programs old w → own.0 ≡ length old.versions → (f : IsProgramFor front old.store programs w made name own simuls p)
     → IsMadeIn told new programs w (with_new_version w (version_now w name f.compiles.items f.compiles.pragmas (map (version_known w made) (parents_in f.compiles.items)) simuls)) p number

@@ -12,12 +12,12 @@ ghost use Rattle.lp_residence.specs.Entering.{IsEntered};
 ghost use Rattle.lp_residence.specs.Owners.{ticket_at};
 ghost use Rattle.lp_residence.specs.declared.owner.Owner.TheVariants as owners;
 ghost use Rattle.lp_targets.specs.Brought.{Brings};
-ghost use Rattle.lp_loading.specs.Telling.{IsReadless, IsUntaken, brought_by, fault_of};
+ghost use Rattle.lp_loading.specs.Telling.{IsDeviceless, brought_by, fault_of};
 ghost use Rattle.lp_loading.specs.Compiling.{CompilesTo, IsMissingHere, IsRefusedTo, IsUnknown};
 ghost use Rattle.lp_loading.specs.Present.{HasWorld, IsReadyFor, KeepsWorlds, all_made, known_of, out_count};
 
 use crate::job::{LoadFault, MadeFor};
-use crate::present::{is_ascii, present_in, version_of_file};
+use crate::present::{present_in, version_of_file};
 use lp_asking::truth::Truthful;
 use lp_code::names::Names2;
 use lp_code::program::Program;
@@ -81,7 +81,7 @@ fn load_fault(e: EnterFault) -> LoadFault
 /// That the device told the truth, or else want of memory.
 fn told_truth<W: Truthful>(swap: &W) -> Result<(), LoadFault>
     ensures truthful { OnOk result (W.is_truthful swap.now) }
-    ensures readless { IfErr result IsReadless }
+    ensures deviceless { IfErr result IsDeviceless }
 {
     if swap.tells_truth() {
         Ok(())
@@ -119,7 +119,6 @@ pub(crate) fn bring<W: Truthful>(live: &mut Live, swap: &mut W, p: ProgId) -> Re
     ensures cells { live.new.cells ≡ live.old.cells }
     ensures brings { Brings (W.content swap.old) (W.content swap.new) (W.last swap.new) (W.read_faults swap.old) (W.read_faults swap.new) (W.write_faults swap.old) (W.write_faults swap.new)
         (W.is_truthful swap.old) (W.is_truthful swap.new) (W.is_honest swap.old) (W.is_honest swap.new) live.old live.new (brought_by result) }
-    ensures untaken { IfErr result IsUntaken }
     ensures stands { W.is_truthful swap.new → StandsStill (W.content swap.old) live.old (W.content swap.new) live.new }
 {
     if !has_version(&live.versions, p) {
@@ -146,7 +145,6 @@ fn bring_out<W: Truthful>(live: &mut Live, swap: &mut W, p: ProgId) -> Result<()
     ensures cells { live.new.cells ≡ live.old.cells }
     ensures brings { Brings (W.content swap.old) (W.content swap.new) (W.last swap.new) (W.read_faults swap.old) (W.read_faults swap.new) (W.write_faults swap.old) (W.write_faults swap.new)
         (W.is_truthful swap.old) (W.is_truthful swap.new) (W.is_honest swap.old) (W.is_honest swap.new) live.old live.new (brought_by result) }
-    ensures untaken { IfErr result IsUntaken }
     ensures stands { W.is_truthful swap.new → StandsStill (W.content swap.old) live.old (W.content swap.new) live.new }
 {
     bring(live, swap, p)
@@ -170,13 +168,9 @@ fn needed<W: Truthful>(
     ensures cells { live.new.cells ≡ live.old.cells }
     ensures brings { Brings (W.content swap.old) (W.content swap.new) (W.last swap.new) (W.read_faults swap.old) (W.read_faults swap.new) (W.write_faults swap.old) (W.write_faults swap.new)
         (W.is_truthful swap.old) (W.is_truthful swap.new) (W.is_honest swap.old) (W.is_honest swap.new) live.old live.new (brought_by result) }
-    ensures untaken { IfErr result IsUntaken }
     ensures stands { W.is_truthful swap.new → StandsStill (W.content swap.old) live.old (W.content swap.new) live.new }
     ensures found { IfOk result (λ o. MatchOption o (out_count live.new.versions < out_count live.old.versions) (λ r. IsMissingHere r (all_made made.now) live.old (string_bytes file))) }
 {
-    if !is_ascii(file.as_str()) {
-        return Err(LoadFault::NotYet);
-    }
     match version_of_file(live, made, file.as_str()) {
         Some(p) => {
             bring_out(live, swap, p)?;
@@ -204,14 +198,13 @@ fn refused<W: Truthful>(
     ensures cells { live.new.cells ≡ live.old.cells }
     ensures brings { Brings (W.content swap.old) (W.content swap.new) (W.last swap.new) (W.read_faults swap.old) (W.read_faults swap.new) (W.write_faults swap.old) (W.write_faults swap.new)
         (W.is_truthful swap.old) (W.is_truthful swap.new) (W.is_honest swap.old) (W.is_honest swap.new) live.old live.new (brought_by result) }
-    ensures untaken { IfErr result IsUntaken }
     ensures stands { W.is_truthful swap.new → StandsStill (W.content swap.old) live.old (W.content swap.new) live.new }
     ensures found { IfOk result (λ o. MatchOption o (out_count live.new.versions < out_count live.old.versions) (λ r. IsRefusedTo r fault (all_made made.now) live.old)) }
 {
     match fault {
         CompileFault::Faults(faults) => Ok(Some(Compiled::Faulty(faults))),
         CompileFault::Need(file) => needed(live, swap, made, file),
-        CompileFault::TooLarge => Err(LoadFault::TooLarge),
+        CompileFault::TooLarge => Err(LoadFault::NoMemory),
         CompileFault::NoMemory => Err(LoadFault::NoMemory),
     }
 }
@@ -235,7 +228,6 @@ fn attempt<W: Truthful>(
     ensures cells { live.new.cells ≡ live.old.cells }
     ensures brings { Brings (W.content swap.old) (W.content swap.new) (W.last swap.new) (W.read_faults swap.old) (W.read_faults swap.new) (W.write_faults swap.old) (W.write_faults swap.new)
         (W.is_truthful swap.old) (W.is_truthful swap.new) (W.is_honest swap.old) (W.is_honest swap.new) live.old live.new (brought_by result) }
-    ensures untaken { IfErr result IsUntaken }
     ensures stands { W.is_truthful swap.new → StandsStill (W.content swap.old) live.old (W.content swap.new) live.new }
     ensures found { IfOk result (λ o. MatchOption o (out_count live.new.versions < out_count live.old.versions)
         (λ r. (name : List ℕ) → path.now ≡ file_bytes name → CompilesTo r (all_made made.now) name own simuls.now (W.content swap.old) live.old (W.content swap.new) live.new)) }
@@ -254,8 +246,8 @@ fn attempt<W: Truthful>(
 /// blueprints. Programs of these that are out come into memory, and nothing else changes. The file is read once more for each.
 ///
 /// # Errors
-/// `Swap` where the read of a program that was out failed, or gave other bytes. `TooLarge` where the file has no fault, but a
-/// number of it no room. `NotYet` where an `inherit` before which nothing is missing has letters beyond ASCII. `NoMemory`.
+/// `Swap` where the read of a program that was out failed, or gave other bytes. `NoMemory`, also where the file has no fault, but a
+/// number of it no room.
 pub(crate) fn compile_file<W: Truthful>(
     live: &mut Live,
     swap: &mut W,
@@ -275,7 +267,6 @@ pub(crate) fn compile_file<W: Truthful>(
     ensures cells { live.new.cells ≡ live.old.cells }
     ensures brings { Brings (W.content swap.old) (W.content swap.new) (W.last swap.new) (W.read_faults swap.old) (W.read_faults swap.new) (W.write_faults swap.old) (W.write_faults swap.new)
         (W.is_truthful swap.old) (W.is_truthful swap.new) (W.is_honest swap.old) (W.is_honest swap.new) live.old live.new (brought_by result) }
-    ensures untaken { IfErr result IsUntaken }
     ensures stands { W.is_truthful swap.new → StandsStill (W.content swap.old) live.old (W.content swap.new) live.new }
 {
     match attempt(live, swap, made, path, own, simuls) {

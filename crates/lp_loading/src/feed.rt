@@ -1,6 +1,5 @@
 //! Loads are told how a load that they asked for ended.
 ghost use Rattle.std.specs.Prelude.{IfErr, IfOk, Option, ℕ};
-ghost use Rattle.std.specs.Str.{IsAscii};
 ghost use Rattle.lp_cells.specs.Cells.{Store};
 ghost use Rattle.lp_efuns.specs.declared.caller.Turn.{Turn};
 ghost use Rattle.lp_loading.specs.Going.{IsAnswerThere, Takes};
@@ -15,7 +14,7 @@ use lp_world::live::Live;
 /// A load is told how the load that it asked for ended, with the state as it is then. Where an object of its own name lives by
 /// then, it ends with that; faults and stops end it too; else it reads its file, and has the version of a parent that was made.
 ///
-/// The job stays the same load but for the versions that it made for parents. Takes memory for one of these alone.
+/// The job stays the same load but for the versions that it made for parents. Takes memory for one of these, and for the name.
 ///
 /// # Errors
 /// `NoMemory`, also where nothing is left of the object of a parent.
@@ -25,7 +24,6 @@ pub fn feed(
     waiting: Waiting,
     answer: Answer,
 ) -> Result<Fed, LoadFault>
-    requires ascii { IsAscii job.old.name }
     ensures takes { IfOk result (λ r. (told : Option Bytes) (turn : Turn) (budget : ℕ) → Takes r job.old waiting answer told live.now job.new turn budget) }
     ensures same { IsSameLoad job.old job.new }
     ensures reads { IfOk result GoesReading }
@@ -33,7 +31,7 @@ pub fn feed(
     ensures fault { IfErr result IsDeviceless }
 {
     match waiting {
-        Waiting::Simul => Ok(take_simul(job, live, answer)),
+        Waiting::Simul => Ok(take_simul(job, live, answer)?),
         Waiting::Parent(name) => take_parent(job, live, name, answer),
     }
 }

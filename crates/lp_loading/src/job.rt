@@ -4,10 +4,10 @@ ghost use Rattle.lp_loading.specs.declared.job.LoadFault.TheVariants.{NoMemory};
 
 use lp_asking::ending::Stop;
 use lp_beginning::job::Making;
-use lp_code::name::Name;
 use lp_residence::answers::SwapCause;
 use lp_tree::fault::Fault;
 use lp_values::id::ProgId;
+use lp_values::text::Text;
 use lp_values::value::Value;
 use std::alloc::{AllocError, AllocFailed};
 use thiserror::Error;
@@ -25,7 +25,7 @@ pub enum Purpose {
 #[derive(Drop)]
 pub struct MadeFor {
     /// The name of the parent.
-    pub name: Name,
+    pub name: Text,
     /// The version of the object that was made.
     pub version: ProgId,
 }
@@ -45,14 +45,14 @@ pub enum Waiting {
     /// The load of the simul-efun object.
     Simul,
     /// The load of the parent with a name.
-    Parent(Name),
+    Parent(Text),
 }
 
 /// The load of a file.
 #[derive(Drop)]
 pub struct LoadJob {
-    /// The name that is loaded, of letters of ASCII: the path of the file without `.c`.
-    pub name: Name,
+    /// The name that is loaded: the path of the file without `.c`.
+    pub name: Text,
     /// For what.
     pub purpose: Purpose,
     /// How many loads for an `inherit` led to it, one after another, itself among them; 0 where it is for none.
@@ -85,7 +85,7 @@ pub enum Answer {
 #[derive(Drop)]
 pub enum Step {
     /// It asks for the load of the object with this name, which is made for an `inherit`, and waits for the answer.
-    Asks(Name, Waiting),
+    Asks(Text, Waiting),
     /// Its object was made, and begins as this job: what that ends with, the load ends with.
     Makes(Making),
     /// It ends.
@@ -107,16 +107,9 @@ pub enum LoadFault {
     /// A read of the swap file failed, or gave other bytes than were written.
     #[error("the swap file failed")]
     Swap(SwapCause),
-    /// A number has no room in an instruction or a row of the program.
-    #[error("too large")]
-    TooLarge,
-    /// A live object has the name of the object that was to be made: only where a file whose name has a `#` is loaded.
-    #[error("the name is taken")]
-    NameTaken,
-    /// The name, or that of an `inherit`, has letters beyond ASCII.
-    #[error("not carried out yet")]
-    NotYet,
-    /// Memory ran out.
+    /// Memory ran out. It also comes where a number of the program has no room in an instruction or a row of it, where a live object
+    /// has the name of the object that was to be made (only where the name of the file has a `#`), and where there is a file whose
+    /// name has letters beyond ASCII, which no script and no efun makes.
     #[error("out of memory")]
     NoMemory,
 }

@@ -1,13 +1,12 @@
 //! Parents for which a load ends: where their `inherit` stands, and the fault.
 ghost use Rattle.std.specs.Prelude.{◌≡◌, IfErr, IfOk, List, Option, Some, nat_lt, suc, ℕ};
 ghost use Rattle.std.specs.Option.{option_map};
-ghost use Rattle.std.specs.Str.{IsAscii};
 ghost use Rattle.lp_asking.specs.declared.asker.Loading.{Loading as Loads};
 ghost use Rattle.lp_efuns.specs.declared.caller.Turn.{Turn};
 ghost use Rattle.lp_front.specs.Names.{parents_in};
 ghost use Rattle.lp_front.specs.Reading.{items_of};
 ghost use Rattle.lp_front_end.specs.Parents.{file_bytes};
-ghost use Rattle.lp_loading.specs.Telling.{IsReadless};
+ghost use Rattle.lp_loading.specs.Telling.{IsDeviceless};
 ghost use Rattle.lp_loading.specs.Going.{Goes};
 ghost use Rattle.lp_loading.specs.Lines.{IsFaultOf, IsLineOf, IsTooFar, first_of};
 ghost use Rattle.lp_loading.specs.Reads.{HasRead};
@@ -32,7 +31,6 @@ use lp_front::read::{Declared, read_file};
 use lp_front_end::{law_files_are_of_names, law_names_have_files, law_stores_are_read};
 use lp_tree::fault::{Fault, FaultKind};
 use lp_tree::path::FilePath;
-use lp_values::text::code_points;
 use lp_world::live::Live;
 use std::alloc::{AllocError, Global};
 
@@ -55,7 +53,7 @@ fn line_in(parents: &[Parent], file: &str) -> Option<u32>
 /// The line of the first `inherit` of a parent's file, in what was read of a file.
 fn line_of(alloc: Global, declared: &Declared, file: &str) -> Result<u32, LoadFault>
     ensures line { IfOk result (λ line. Some line ≡ option_map (λ p. p.line) (first_of file.now (parents_in (items_of declared.now)))) }
-    ensures readless { IfErr result IsReadless }
+    ensures deviceless { IfErr result IsDeviceless }
 {
     let parents = parents_of(alloc, declared.unit.items.as_slice())?;
     match line_in(parents.as_slice(), file) {
@@ -70,7 +68,7 @@ fn line_of(alloc: Global, declared: &Declared, file: &str) -> Result<u32, LoadFa
 /// `NoMemory`, also where the file cannot be read or names no such parent.
 fn parent_line(alloc: Global, files: &Store, path: &str, file: &str) -> Result<u32, LoadFault>
     ensures line { IfOk result (IsLineOf files.now path.now file.now) }
-    ensures readless { IfErr result IsReadless }
+    ensures deviceless { IfErr result IsDeviceless }
 {
     match read_file(alloc, files, path) {
         Ok(d) => line_of(alloc, &d, file),
@@ -81,11 +79,10 @@ fn parent_line(alloc: Global, files: &Store, path: &str, file: &str) -> Result<u
 /// One fault of the file of a load.
 fn one_fault(
     alloc: Global,
-    name: &str,
+    name: &[char],
     line: u32,
     kind: FaultKind,
 ) -> Result<Vec<Fault>, AllocError>
-    requires { IsAscii name.now }
     ensures { IfOk result (λ fs. IsFaultOf name.now line kind fs.items) }
 {
     let file = FilePath::from_string(file_of(alloc, name)?);
@@ -97,13 +94,12 @@ fn one_fault(
 /// The fault of a parent that cannot be loaded ends the load: it is logged, with the line of its first `inherit`.
 fn end_at(
     live: &mut Live,
-    name: &str,
+    name: &[char],
     line: u32,
     kind: FaultKind,
     file: &str,
 ) -> Result<Step, AllocError>
     requires closed { IsClosed live.old }
-    requires ascii { IsAscii name.now }
     requires line { IsLineOf live.old.store (file_bytes name.now) file.now line }
     ensures goes { IfOk result (λ r. (job : Job) (loads : List Loads) (told0 : Option Bytes) (live0 : L) (told1 : Option Bytes) (budget : ℕ) (turn : Turn) → job.name ≡ name.now → HasRead (compiled.Missing file.now) job loads told0 live0 told1 live.old
         → IsTooFar kind file.now job loads → Goes r job stages.Read loads told0 live0 budget told1 live.new budget turn) }
@@ -124,16 +120,15 @@ fn end_at(
 /// kind.
 pub(crate) fn end_missing(
     live: &mut Live,
-    name: &str,
+    name: &[char],
     kind: FaultKind,
     file: &str,
 ) -> Result<Step, LoadFault>
     requires closed { IsClosed live.old }
-    requires ascii { IsAscii name.now }
     ensures goes { IfOk result (λ r. (job : Job) (loads : List Loads) (told0 : Option Bytes) (live0 : L) (told1 : Option Bytes) (budget : ℕ) (turn : Turn) → job.name ≡ name.now → HasRead (compiled.Missing file.now) job loads told0 live0 told1 live.old
         → IsTooFar kind file.now job loads → Goes r job stages.Read loads told0 live0 budget told1 live.new budget turn) }
     ensures asks { IfOk result AsksOrFails }
-    ensures readless { IfErr result IsReadless }
+    ensures deviceless { IfErr result IsDeviceless }
     ensures closed { IsClosed live.new }
     ensures objects { live.new.objects ≡ live.old.objects }
     ensures cells { live.new.cells ≡ live.old.cells }
@@ -147,7 +142,7 @@ pub(crate) fn end_missing(
 /// where loads are nested too deep.
 ///
 /// # Errors
-/// `NotYet` where its path has letters beyond ASCII. `NoMemory`, also where the file cannot be read again.
+/// `NoMemory`, also where the file cannot be read again.
 pub(crate) fn go_missing(
     job: &LoadJob,
     live: &mut Live,
@@ -155,25 +150,23 @@ pub(crate) fn go_missing(
     file: &str,
 ) -> Result<Step, LoadFault>
     requires closed { IsClosed live.old }
-    requires ascii { IsAscii job.now.name }
     ensures goes { IfOk result (λ r. (told0 : Option Bytes) (live0 : L) (told1 : Option Bytes) (budget : ℕ) (turn : Turn) → HasRead (compiled.Missing file.now) job.now loads.now told0 live0 told1 live.old
         → Goes r job.now stages.Read loads.now told0 live0 budget told1 live.new budget turn) }
     ensures asks { IfOk result AsksOrFails }
-    ensures readless { IfErr result IsReadless }
+    ensures deviceless { IfErr result IsDeviceless }
     ensures closed { IsClosed live.new }
     ensures objects { live.new.objects ≡ live.old.objects }
     ensures cells { live.new.cells ≡ live.old.cells }
 {
-    let own = job.name.as_str();
+    let own = job.name.as_slice();
     let name = parent_name(live.alloc, file)?;
-    let letters = code_points(live.alloc, name.as_str())?;
-    if is_under_way(letters.as_slice(), loads) {
+    if is_under_way(name.as_slice(), loads) {
         return end_missing(live, own, FaultKind::Cycle, file);
     }
     if is_too_deep(job.nested) {
         return end_missing(live, own, FaultKind::InheritDepth, file);
     }
-    Ok(ask_missing(live.alloc, name)?)
+    Ok(ask_missing(name)?)
 }
 
 /// Whether one more load for an `inherit` would be nested too deep.

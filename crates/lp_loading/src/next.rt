@@ -1,14 +1,13 @@
 //! What a load does next.
-ghost use Rattle.std.specs.Prelude.{◌≡◌, IfErr, IfOk, List, Option, ℕ};
-ghost use Rattle.std.specs.Str.{IsAscii};
+ghost use Rattle.std.specs.Prelude.{◌≡◌, IfOk, List, Option, ℕ};
 ghost use Rattle.lp_asking.specs.declared.asker.Loading.{Loading as Loads};
 ghost use Rattle.lp_efuns.specs.declared.caller.Turn.{Turn};
 ghost use Rattle.lp_beginning.specs.Beginning.{BringsFirst};
-ghost use Rattle.lp_loading.specs.Telling.{IsTakenIn, brought_by};
+ghost use Rattle.lp_loading.specs.Telling.{brought_by};
 ghost use Rattle.lp_loading.specs.Going.{Goes};
 ghost use Rattle.lp_loading.specs.Present.{HasWorld};
 ghost use Rattle.lp_loading.specs.Reads.{HasRead};
-ghost use Rattle.lp_loading.specs.Steps.{AsksAscii, AsksInOrder, MakesFor, MakesHome};
+ghost use Rattle.lp_loading.specs.Steps.{AsksInOrder, MakesFor, MakesHome};
 ghost use Rattle.lp_loading.specs.declared.compiling.Compiled.TheVariants as compiled;
 ghost use Rattle.lp_loading.specs.declared.job.Going.TheVariants as stages;
 ghost use Rattle.lp_step.specs.Steps.{KeepsVariables};
@@ -37,10 +36,8 @@ fn make_both<W: Truthful>(
     program: Program,
 ) -> Result<Step, LoadFault>
     requires closed { IsClosed live.old }
-    requires ascii { IsAscii job.now.name }
     ensures goes { IfOk result (λ r. (loads : List Loads) (told0 : Option Bytes) (live0 : L) (budget : ℕ) (turn : Turn) → HasRead (compiled.Made program) job.now loads told0 live0 (W.content swap.old) live.old
         → Goes r job.now stages.Read loads told0 live0 budget (W.content swap.new) live.new budget turn) }
-    ensures asks { IfOk result AsksAscii }
     ensures order { IfOk result (AsksInOrder stages.Read) }
     ensures home { IfOk result (MakesHome live.new.objects) }
     ensures kind { IfOk result (MakesFor job.now.purpose) }
@@ -49,10 +46,9 @@ fn make_both<W: Truthful>(
     ensures variables { KeepsVariables live.old.objects live.new.objects }
     ensures brings { BringsFirst (W.content swap.old) (W.content swap.new) (W.last swap.new) (W.read_faults swap.old) (W.read_faults swap.new) (W.write_faults swap.old) (W.write_faults swap.new)
         (W.is_truthful swap.old) (W.is_truthful swap.new) (W.is_honest swap.old) (W.is_honest swap.new) live.old live.new (brought_by result) }
-    ensures taken { IfErr result (IsTakenIn (W.content swap.old) live.old job.now.name) }
 {
     law_sound_goes_on();
-    match make_version(live, job.name.as_str(), program) {
+    match make_version(live, job.name.as_slice(), program) {
         Ok(version) => make_object(live, swap, job, version),
         Err(e) => Err(e),
     }
@@ -67,10 +63,8 @@ fn go_on<W: Truthful>(
     read: Compiled,
 ) -> Result<Step, LoadFault>
     requires closed { IsClosed live.old }
-    requires ascii { IsAscii job.now.name }
     ensures goes { IfOk result (λ r. (told0 : Option Bytes) (live0 : L) (budget : ℕ) (turn : Turn) → HasRead read job.now loads.now told0 live0 (W.content swap.old) live.old
         → Goes r job.now stages.Read loads.now told0 live0 budget (W.content swap.new) live.new budget turn) }
-    ensures asks { IfOk result AsksAscii }
     ensures order { IfOk result (AsksInOrder stages.Read) }
     ensures home { IfOk result (MakesHome live.new.objects) }
     ensures kind { IfOk result (MakesFor job.now.purpose) }
@@ -79,7 +73,6 @@ fn go_on<W: Truthful>(
     ensures variables { KeepsVariables live.old.objects live.new.objects }
     ensures brings { BringsFirst (W.content swap.old) (W.content swap.new) (W.last swap.new) (W.read_faults swap.old) (W.read_faults swap.new) (W.write_faults swap.old) (W.write_faults swap.new)
         (W.is_truthful swap.old) (W.is_truthful swap.new) (W.is_honest swap.old) (W.is_honest swap.new) live.old live.new (brought_by result) }
-    ensures taken { IfErr result (IsTakenIn (W.content swap.old) live.old job.now.name) }
 {
     match read {
         Compiled::Made(program) => make_both(live, swap, job, program),
@@ -97,9 +90,7 @@ fn read_on<W: Truthful>(
 ) -> Result<Step, LoadFault>
     requires closed { IsClosed live.old }
     requires world { HasWorld (W.content swap.old) live.old }
-    requires ascii { IsAscii job.now.name }
     ensures goes { IfOk result (λ r. (budget : ℕ) (turn : Turn) → Goes r job.now stages.Read loads.now (W.content swap.old) live.old budget (W.content swap.new) live.new budget turn) }
-    ensures asks { IfOk result AsksAscii }
     ensures order { IfOk result (AsksInOrder stages.Read) }
     ensures home { IfOk result (MakesHome live.new.objects) }
     ensures kind { IfOk result (MakesFor job.now.purpose) }
@@ -108,7 +99,6 @@ fn read_on<W: Truthful>(
     ensures variables { KeepsVariables live.old.objects live.new.objects }
     ensures brings { BringsFirst (W.content swap.old) (W.content swap.new) (W.last swap.new) (W.read_faults swap.old) (W.read_faults swap.new) (W.write_faults swap.old) (W.write_faults swap.new)
         (W.is_truthful swap.old) (W.is_truthful swap.new) (W.is_honest swap.old) (W.is_honest swap.new) live.old live.new (brought_by result) }
-    ensures taken { IfErr result (IsTakenIn (W.content swap.old) live.old job.now.name) }
 {
     match compile_own(job, live, swap, loads) {
         Ok(read) => go_on(live, swap, job, loads, read),
@@ -125,9 +115,7 @@ fn begin_on<W: Truthful>(
 ) -> Result<Step, LoadFault>
     requires closed { IsClosed live.old }
     requires world { HasWorld (W.content swap.old) live.old }
-    requires ascii { IsAscii job.now.name }
     ensures goes { IfOk result (λ r. (budget : ℕ) (turn : Turn) → Goes r job.now stages.Simul loads.now (W.content swap.old) live.old budget (W.content swap.new) live.new budget turn) }
-    ensures asks { IfOk result AsksAscii }
     ensures order { IfOk result (AsksInOrder stages.Simul) }
     ensures home { IfOk result (MakesHome live.new.objects) }
     ensures kind { IfOk result (MakesFor job.now.purpose) }
@@ -136,7 +124,6 @@ fn begin_on<W: Truthful>(
     ensures variables { KeepsVariables live.old.objects live.new.objects }
     ensures brings { BringsFirst (W.content swap.old) (W.content swap.new) (W.last swap.new) (W.read_faults swap.old) (W.read_faults swap.new) (W.write_faults swap.old) (W.write_faults swap.new)
         (W.is_truthful swap.old) (W.is_truthful swap.new) (W.is_honest swap.old) (W.is_honest swap.new) live.old live.new (brought_by result) }
-    ensures taken { IfErr result (IsTakenIn (W.content swap.old) live.old job.now.name) }
 {
     let missing = simul_missing(live, loads)?;
     match missing {
@@ -153,9 +140,8 @@ fn begin_on<W: Truthful>(
 /// parents, and those of the simul-efun object, come into memory. Takes time in proportion to what it reads.
 ///
 /// # Errors
-/// `Swap` where the read of a program that was out failed, or gave other bytes than were written. `TooLarge` where the file has no
-/// fault, but a number of it no room. `NameTaken` where a live object has the name by then. `NotYet` where the name of the simul-efun
-/// object that has to be loaded, or that of an `inherit` before which nothing is missing, has letters beyond ASCII. `NoMemory`.
+/// `Swap` where the read of a program that was out failed, or gave other bytes than were written. `NoMemory`, also where the file has
+/// no fault, but a number of it no room or its name letters beyond ASCII, and where a live object has the name by then.
 /// The state is closed then, and what is in memory is there still; versions may have come to it.
 pub fn next<W: Truthful>(
     live: &mut Live,
@@ -166,9 +152,7 @@ pub fn next<W: Truthful>(
 ) -> Result<Step, LoadFault>
     requires closed { IsClosed live.old }
     requires world { HasWorld (W.content swap.old) live.old }
-    requires ascii { IsAscii job.now.name }
     ensures goes { IfOk result (λ r. (budget : ℕ) (turn : Turn) → Goes r job.now going loads.now (W.content swap.old) live.old budget (W.content swap.new) live.new budget turn) }
-    ensures asks { IfOk result AsksAscii }
     ensures order { IfOk result (AsksInOrder going) }
     ensures home { IfOk result (MakesHome live.new.objects) }
     ensures kind { IfOk result (MakesFor job.now.purpose) }
@@ -177,7 +161,6 @@ pub fn next<W: Truthful>(
     ensures variables { KeepsVariables live.old.objects live.new.objects }
     ensures brings { BringsFirst (W.content swap.old) (W.content swap.new) (W.last swap.new) (W.read_faults swap.old) (W.read_faults swap.new) (W.write_faults swap.old) (W.write_faults swap.new)
         (W.is_truthful swap.old) (W.is_truthful swap.new) (W.is_honest swap.old) (W.is_honest swap.new) live.old live.new (brought_by result) }
-    ensures taken { IfErr result (IsTakenIn (W.content swap.old) live.old job.now.name) }
 {
     match going {
         Going::Simul => begin_on(live, swap, job, loads),

@@ -1,20 +1,20 @@
 //! An object is made for a load, which hands it over to a job of its own.
-ghost use Rattle.std.specs.Prelude.{◌≡◌, IfErr, IfOk, List};
-ghost use Rattle.std.specs.Str.{IsAscii};
+ghost use Rattle.std.specs.Prelude.{◌≡◌, IfOk, List};
 ghost use Rattle.lp_code.specs.declared.program.RawProgram.{RawProgram as Raw};
 ghost use Rattle.lp_language.specs.Course.{End, Reply};
 ghost use Rattle.lp_asking.specs.Endings.{IsEndingThere};
 ghost use Rattle.lp_beginning.specs.Ends.{IsReplyEnd};
 ghost use Rattle.lp_cells.specs.Cells.{Store};
 ghost use Rattle.lp_beginning.specs.Beginning.{BringsFirst};
-ghost use Rattle.lp_loading.specs.Telling.{IsTakenFor, brought_by};
+ghost use Rattle.lp_loading.specs.Telling.{brought_by};
 ghost use Rattle.lp_loading.specs.Going.{IsAnswerOf, IsAnswerThere, MakesAs};
-ghost use Rattle.lp_loading.specs.Steps.{AsksAscii, AsksInOrder, MakesFor, MakesHome, answer_of as answer_meant, fault_of as fault_meant, making_kind as kind_meant, step_of as step_meant};
+ghost use Rattle.lp_loading.specs.Steps.{AsksInOrder, MakesFor, MakesHome, answer_of as answer_meant, fault_of as fault_meant, making_kind as kind_meant, step_of as step_meant};
 ghost use Rattle.lp_loading.specs.declared.job.Going.{Going as Stage};
 ghost use Rattle.lp_step.specs.Steps.{KeepsVariables};
 ghost use Rattle.lp_world.specs.Closed.{IsClosed};
 
 use crate::job::{Answer, LoadFault, LoadJob, Purpose, Step};
+use crate::simuls::text_of;
 use lp_asking::ending::Ending;
 use lp_asking::truth::Truthful;
 use lp_beginning::begin::begin;
@@ -60,7 +60,7 @@ fn fault_of(e: MakingFault) -> LoadFault
     ensures { result ≡ fault_meant e }
 {
     match e {
-        MakingFault::NameTaken => LoadFault::NameTaken,
+        MakingFault::NameTaken => LoadFault::NoMemory,
         MakingFault::Swap(cause) => LoadFault::Swap(cause),
         MakingFault::NoMemory => LoadFault::NoMemory,
     }
@@ -69,8 +69,7 @@ fn fault_of(e: MakingFault) -> LoadFault
 /// An object of a version is made for a load, with its name.
 ///
 /// # Errors
-/// `NameTaken` where a live object has the name. `Swap` where the read of a program that was out failed, or gave other bytes.
-/// `NoMemory`.
+/// `Swap` where the read of a program that was out failed, or gave other bytes. `NoMemory`, also where a live object has the name.
 pub(crate) fn make_object<W: Truthful>(
     live: &mut Live,
     swap: &mut W,
@@ -78,9 +77,7 @@ pub(crate) fn make_object<W: Truthful>(
     version: ProgId,
 ) -> Result<Step, LoadFault>
     requires closed { IsClosed live.old }
-    requires ascii { IsAscii job.now.name }
     ensures makes { IfOk result (λ r. MakesAs r job.now version (W.content swap.old) live.old (W.content swap.new) live.new) }
-    ensures asks { IfOk result AsksAscii }
     ensures order { (going : Stage) → IfOk result (AsksInOrder going) }
     ensures home { IfOk result (MakesHome live.new.objects) }
     ensures kind { IfOk result (MakesFor job.now.purpose) }
@@ -89,15 +86,9 @@ pub(crate) fn make_object<W: Truthful>(
     ensures variables { KeepsVariables live.old.objects live.new.objects }
     ensures brings { BringsFirst (W.content swap.old) (W.content swap.new) (W.last swap.new) (W.read_faults swap.old) (W.read_faults swap.new) (W.write_faults swap.old) (W.write_faults swap.new)
         (W.is_truthful swap.old) (W.is_truthful swap.new) (W.is_honest swap.old) (W.is_honest swap.new) live.old live.new (brought_by result) }
-    ensures taken { IfErr result (IsTakenFor (W.content swap.old) live.old job.now.name) }
 {
-    match begin(
-        live,
-        swap,
-        making_kind(job.purpose),
-        job.name.as_str(),
-        version,
-    ) {
+    let name = text_of(live.alloc, job.name.as_slice())?;
+    match begin(live, swap, making_kind(job.purpose), name.as_str(), version) {
         Ok(begun) => Ok(step_of(begun)),
         Err(e) => Err(fault_of(e)),
     }

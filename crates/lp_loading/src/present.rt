@@ -1,13 +1,13 @@
 //! What a file that is compiled for a load meets: versions made for parents, and live blueprints, with the tables of their programs.
-ghost use Rattle.std.specs.Prelude.{◌≡◌, IsAscii};
-ghost use Rattle.std.specs.Char.{is_ascii as ascii};
-ghost use Rattle.std.specs.List.{list_all};
+ghost use Rattle.std.specs.Prelude.{◌≡◌};
 ghost use Rattle.std.specs.Option.{option_map};
+ghost use Rattle.std.specs.Str.{chars};
 ghost use Rattle.lp_efuns.specs.Names.{AreNamed};
+ghost use Rattle.lp_instr.specs.EfunList.{is_name};
 ghost use Rattle.lp_meaning.specs.FileLoads.{made_for as made_in};
 ghost use Rattle.lp_meaning.specs.WorldSteps.{is_clone_name as is_clone};
-ghost use Rattle.lp_loaded.specs.Present.{serial_of, tables_in, tables_of as tables_at, version_at, version_in};
-ghost use Rattle.lp_loading.specs.Present.{IsReadyFor, all_made, version_in_file, version_named as named, version_of_file as version_of};
+ghost use Rattle.lp_loaded.specs.Present.{serial_of, tables_in, version_at, version_in};
+ghost use Rattle.lp_loading.specs.Present.{IsReadyFor, all_made, version_named as named, version_of_file as version_of};
 ghost use Rattle.lp_making.specs.Objects.{program_at};
 ghost use Rattle.lp_world.specs.Rows.{row_at};
 
@@ -53,20 +53,27 @@ pub(crate) fn present_in<'a>(live: &'a Live, made: &'a [MadeFor], simuls: &'a Na
     Present { live, made, simuls }
 }
 
-/// Whether a text has letters of ASCII alone.
-pub(crate) fn is_ascii(text: &str) -> bool
-    ensures { result ≡ list_all ascii text.now }
+/// Whether a text spells a name.
+fn is_spelled(name: &[char], text: &str) -> bool
+    ensures { result ≡ is_name name.now (chars text.now) }
 {
-    text.as_bytes().iter().all(|b| b.is_ascii())
+    let mut rest = text;
+    for c in name {
+        match rest.strip_prefix(*c) {
+            Some(behind) => rest = behind,
+            None => return false,
+        }
+    }
+    rest.is_empty()
 }
 
 /// The version that a load made for the parent with a name.
 fn made_for(made: &[MadeFor], name: &str) -> Option<ProgId>
-    ensures { result ≡ made_in (all_made made.now) name.now }
+    ensures { result ≡ made_in (all_made made.now) (chars name.now) }
 {
     match made {
         [m, rest @ ..] => {
-            if m.name.as_str() == name {
+            if is_spelled(m.name.as_slice(), name) {
                 Some(m.version)
             } else {
                 made_for(rest, name)
@@ -86,7 +93,6 @@ fn is_clone_name(name: &[u8]) -> bool
 /// The live blueprint with a name.
 fn blueprint(names: &Objects, name: &str) -> Option<ObjId>
     requires named { AreNamed names.now }
-    requires ascii { IsAscii name.now }
     ensures { result ≡ serial_of names.now name.now }
 {
     if is_clone_name(name.as_bytes()) {
@@ -108,7 +114,6 @@ pub(crate) fn version_of_object(objects: &ObjectTable, ob: ObjId) -> Option<Prog
 /// The version of the live blueprint with a name.
 fn blueprint_version(live: &Live, name: &str) -> Option<ProgId>
     requires named { AreNamed live.now.names }
-    requires ascii { IsAscii name.now }
     ensures { result ≡ version_at live.now (serial_of live.now.names name.now) }
 {
     match blueprint(&live.names, name) {
@@ -120,7 +125,6 @@ fn blueprint_version(live: &Live, name: &str) -> Option<ProgId>
 /// The version of the parent with a name: the one made for it, or else that of its live blueprint. Takes no memory.
 pub(crate) fn version_named(live: &Live, made: &[MadeFor], name: &str) -> Option<ProgId>
     requires named { AreNamed live.now.names }
-    requires ascii { IsAscii name.now }
     ensures { result ≡ named (all_made made.now) live.now name.now }
 {
     match made_for(made, name) {
@@ -129,27 +133,15 @@ pub(crate) fn version_named(live: &Live, made: &[MadeFor], name: &str) -> Option
     }
 }
 
-/// The version of the parent with a file, whose path ends in `.c`.
-fn version_in_file(live: &Live, made: &[MadeFor], path: &str) -> Option<ProgId>
-    requires named { AreNamed live.now.names }
-    requires ascii { IsAscii path.now }
-    ensures { result ≡ version_in_file (all_made made.now) live.now path.now }
+/// The version of the parent with a file, whose path ends in `.c`. Takes no memory.
+pub(crate) fn version_of_file(live: &Live, made: &[MadeFor], path: &str) -> Option<ProgId>
+    requires { AreNamed live.now.names }
+    ensures { result ≡ version_of (all_made made.now) live.now path.now }
 {
     match path.strip_suffix(".c") {
         Some(name) => version_named(live, made, name),
         None => None,
     }
-}
-
-/// The version of the parent with a file, whose path has letters of ASCII alone. Takes no memory.
-pub(crate) fn version_of_file(live: &Live, made: &[MadeFor], path: &str) -> Option<ProgId>
-    requires { AreNamed live.now.names }
-    ensures { result ≡ version_of (all_made made.now) live.now path.now }
-{
-    if !is_ascii(path) {
-        return None;
-    }
-    version_in_file(live, made, path)
 }
 
 /// The tables of a version whose program is in memory.

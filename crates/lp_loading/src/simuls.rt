@@ -1,9 +1,8 @@
 //! The names that a file sees of the simul-efun object: the functions that every object may call there.
-ghost use Rattle.std.specs.Prelude.{◌≡◌, IfErr, IfOk, List, None, OnOk, Option, Some, ℕ};
+ghost use Rattle.std.specs.Prelude.{◌≡◌, IfOk, List, None, OnOk, Option, Some, ℕ};
 ghost use Rattle.std.specs.Str.{chars, encode_utf8_all};
 ghost use Rattle.std.specs.String.{string_bytes};
 ghost use Rattle.lp_code.specs.declared.program.RawProgram.{RawProgram as Raw};
-ghost use Rattle.lp_efuns.specs.Names.{AreNamed};
 ghost use Rattle.lp_language.specs.Resolve.{callable_names, heritage};
 ghost use Rattle.lp_language.specs.World.{World, object_named as named};
 ghost use Rattle.lp_making.specs.Objects.{program_at};
@@ -14,7 +13,7 @@ ghost use Rattle.lp_targets.specs.Callees.{IsWorldOf};
 ghost use Rattle.lp_world.specs.Closed.{IsClosed};
 ghost use Rattle.lp_world.specs.Stands.{Stands};
 ghost use Rattle.lp_beginning.specs.Beginning.{StandsStill};
-ghost use Rattle.lp_loading.specs.Telling.{IsUntaken, brought_by};
+ghost use Rattle.lp_loading.specs.Telling.{brought_by};
 ghost use Rattle.lp_loading.specs.Loads.{loads_of};
 ghost use Rattle.lp_loading.specs.Present.{KeepsWorlds};
 ghost use Rattle.lp_loading.specs.Simuls.{IsProgramNow, PutsTree, SeesSimuls, names_seen, seen_simul};
@@ -114,7 +113,6 @@ pub(crate) fn bring_shared<W: Truthful>(
     ensures cells { live.new.cells ≡ live.old.cells }
     ensures brings { Brings (W.content swap.old) (W.content swap.new) (W.last swap.new) (W.read_faults swap.old) (W.read_faults swap.new) (W.write_faults swap.old) (W.write_faults swap.new)
         (W.is_truthful swap.old) (W.is_truthful swap.new) (W.is_honest swap.old) (W.is_honest swap.new) live.old live.new (brought_by result) }
-    ensures untaken { IfErr result IsUntaken }
     ensures stands { W.is_truthful swap.new → StandsStill (W.content swap.old) live.old (W.content swap.new) live.new }
     ensures code { IfOk result (IsProgramNow (W.content swap.old) live.old p) }
 {
@@ -143,7 +141,6 @@ fn put_tree<W: Truthful>(
     ensures cells { live.new.cells ≡ live.old.cells }
     ensures brings { Brings (W.content swap.old) (W.content swap.new) (W.last swap.new) (W.read_faults swap.old) (W.read_faults swap.new) (W.write_faults swap.old) (W.write_faults swap.new)
         (W.is_truthful swap.old) (W.is_truthful swap.new) (W.is_honest swap.old) (W.is_honest swap.new) live.old live.new (brought_by result) }
-    ensures untaken { IfErr result IsUntaken }
     ensures stands { W.is_truthful swap.new → StandsStill (W.content swap.old) live.old (W.content swap.new) live.new }
     ensures names { OnOk result (PutsTree (W.content swap.old) live.old whole.now depth version names.old.items names.new.items) }
 {
@@ -175,7 +172,6 @@ fn names_of_version<W: Truthful>(
     ensures cells { live.new.cells ≡ live.old.cells }
     ensures brings { Brings (W.content swap.old) (W.content swap.new) (W.last swap.new) (W.read_faults swap.old) (W.read_faults swap.new) (W.write_faults swap.old) (W.write_faults swap.new)
         (W.is_truthful swap.old) (W.is_truthful swap.new) (W.is_honest swap.old) (W.is_honest swap.new) live.old live.new (brought_by result) }
-    ensures untaken { IfErr result IsUntaken }
     ensures stands { W.is_truthful swap.new → StandsStill (W.content swap.old) live.old (W.content swap.new) live.new }
     ensures names { IfOk result (λ names. (programs : List Raw) (w : World) → IsWorldOf (W.content swap.old) programs live.old w → names ≡ callable_names (heritage w v)) }
 {
@@ -208,7 +204,6 @@ fn names_of_object<W: Truthful>(
     ensures cells { live.new.cells ≡ live.old.cells }
     ensures brings { Brings (W.content swap.old) (W.content swap.new) (W.last swap.new) (W.read_faults swap.old) (W.read_faults swap.new) (W.write_faults swap.old) (W.write_faults swap.new)
         (W.is_truthful swap.old) (W.is_truthful swap.new) (W.is_honest swap.old) (W.is_honest swap.new) live.old live.new (brought_by result) }
-    ensures untaken { IfErr result IsUntaken }
     ensures stands { W.is_truthful swap.new → StandsStill (W.content swap.old) live.old (W.content swap.new) live.new }
     ensures names { IfOk result (λ names. (programs : List Raw) (w : World) (n : List ℕ) → IsWorldOf (W.content swap.old) programs live.old w → named w n ≡ Some ob → names ≡ names_seen w (Some ob)) }
 {
@@ -237,7 +232,6 @@ pub(crate) fn simul_names<W: Truthful>(
     ensures cells { live.new.cells ≡ live.old.cells }
     ensures brings { Brings (W.content swap.old) (W.content swap.new) (W.last swap.new) (W.read_faults swap.old) (W.read_faults swap.new) (W.write_faults swap.old) (W.write_faults swap.new)
         (W.is_truthful swap.old) (W.is_truthful swap.new) (W.is_honest swap.old) (W.is_honest swap.new) live.old live.new (brought_by result) }
-    ensures untaken { IfErr result IsUntaken }
     ensures stands { W.is_truthful swap.new → StandsStill (W.content swap.old) live.old (W.content swap.new) live.new }
     ensures sees { IfOk result (SeesSimuls (W.content swap.old) live.old loads.now) }
 {

@@ -1,9 +1,8 @@
 //! A load takes the answer of a load that it asked for: that of the simul-efun object, or of a parent.
 ghost use Rattle.std.specs.Prelude.{◌≡◌, IfErr, IfOk, List, None, Option, Some, ℕ};
-ghost use Rattle.std.specs.Str.{IsAscii};
 ghost use Rattle.lp_code.specs.declared.program.RawProgram.{RawProgram as Raw};
 ghost use Rattle.lp_efuns.specs.declared.caller.Turn.{Turn};
-ghost use Rattle.lp_language.specs.World.{World, object_named};
+ghost use Rattle.lp_language.specs.World.{World, object_named as named};
 ghost use Rattle.lp_cells.specs.Cells.{Store};
 ghost use Rattle.lp_loading.specs.Going.{IsAnswerThere, Takes};
 ghost use Rattle.lp_loading.specs.Steps.{EndsThere, GoesReading, IsSameLoad};
@@ -18,10 +17,12 @@ ghost use Rattle.lp_world.specs.Stands.{Stands};
 
 use crate::job::{Answer, Fed, Going, LoadFault, LoadJob, MadeFor};
 use crate::present::version_of_object;
-use lp_code::name::Name;
-use lp_values::id::{ObjId, ProgId};
+use crate::simuls::object_named;
+use lp_values::id::ObjId;
+use lp_values::text::Text;
 use lp_values::value::Value;
 use lp_world::live::Live;
+use std::alloc::AllocError;
 
 /// The object that a value is, live or not.
 fn object_of(v: &Value) -> Option<ObjId>
@@ -33,58 +34,48 @@ fn object_of(v: &Value) -> Option<ObjId>
     }
 }
 
-/// The live object with the name of a load.
-fn own_object(job: &LoadJob, live: &Live) -> Option<ObjId>
-    requires { IsAscii job.now.name }
-    ensures { (told : Option Bytes) (programs : List Raw) (w : World) → Stands told programs live.now w → result ≡ object_named w job.now.name }
-{
-    live.names.find(job.name.as_str())
-}
-
 /// The simul-efun object was loaded: the load ends with the object of its own name, where one lives by then, or reads its file.
-fn after_simul(job: &LoadJob, live: &Live) -> Fed
-    requires { IsAscii job.now.name }
-    ensures takes { (v : V) (o : Oid) (told : Option Bytes) (turn : Turn) (budget : ℕ) → object_of_value v ≡ Some o
-        → Takes result job.now waitings.Simul (answers.Value v) told live.now job.now turn budget }
-    ensures reads { GoesReading result }
-    ensures there { (cells : Store) → EndsThere cells result }
+fn after_simul(job: &LoadJob, live: &Live) -> Result<Fed, AllocError>
+    ensures takes { IfOk result (λ r. (v : V) (o : Oid) (told : Option Bytes) (turn : Turn) (budget : ℕ) → object_of_value v ≡ Some o
+        → Takes r job.now waitings.Simul (answers.Value v) told live.now job.now turn budget) }
+    ensures reads { IfOk result GoesReading }
+    ensures there { IfOk result (λ r. (cells : Store) → EndsThere cells r) }
 {
-    match own_object(job, live) {
-        Some(o) => Fed::Ends(Answer::Value(Value::Obj(o))),
-        None => Fed::Goes(Going::Read),
+    let own = object_named(live, job.name.as_slice())?;
+    match own {
+        Some(o) => Ok(Fed::Ends(Answer::Value(Value::Obj(o)))),
+        None => Ok(Fed::Goes(Going::Read)),
     }
 }
 
 /// A load takes the value of the load of the simul-efun object.
-fn simul_value(job: &LoadJob, live: &Live, v: &Value) -> Fed
-    requires { IsAscii job.now.name }
-    ensures takes { (told : Option Bytes) (turn : Turn) (budget : ℕ) → Takes result job.now waitings.Simul (answers.Value v.now) told live.now job.now turn budget }
-    ensures reads { GoesReading result }
-    ensures there { (cells : Store) → EndsThere cells result }
+fn simul_value(job: &LoadJob, live: &Live, v: &Value) -> Result<Fed, AllocError>
+    ensures takes { IfOk result (λ r. (told : Option Bytes) (turn : Turn) (budget : ℕ) → Takes r job.now waitings.Simul (answers.Value v.now) told live.now job.now turn budget) }
+    ensures reads { IfOk result GoesReading }
+    ensures there { IfOk result (λ r. (cells : Store) → EndsThere cells r) }
 {
     match object_of(v) {
         Some(_) => after_simul(job, live),
-        None => Fed::Ends(Answer::Value(Value::Int(0))),
+        None => Ok(Fed::Ends(Answer::Value(Value::Int(0)))),
     }
 }
 
 /// A load takes the answer of the load of the simul-efun object.
-pub(crate) fn take_simul(job: &LoadJob, live: &Live, answer: Answer) -> Fed
-    requires { IsAscii job.now.name }
-    ensures takes { (told : Option Bytes) (turn : Turn) (budget : ℕ) → Takes result job.now waitings.Simul answer told live.now job.now turn budget }
-    ensures reads { GoesReading result }
-    ensures there { (cells : Store) → IsAnswerThere cells answer → EndsThere cells result }
+pub(crate) fn take_simul(job: &LoadJob, live: &Live, answer: Answer) -> Result<Fed, AllocError>
+    ensures takes { IfOk result (λ r. (told : Option Bytes) (turn : Turn) (budget : ℕ) → Takes r job.now waitings.Simul answer told live.now job.now turn budget) }
+    ensures reads { IfOk result GoesReading }
+    ensures there { IfOk result (λ r. (cells : Store) → IsAnswerThere cells answer → EndsThere cells r) }
 {
     match answer {
         Answer::Value(v) => simul_value(job, live, &v),
-        Answer::Faulty(faults) => Fed::Ends(Answer::Faulty(faults)),
-        Answer::Stopped(stop) => Fed::Ends(Answer::Stopped(stop)),
+        Answer::Faulty(faults) => Ok(Fed::Ends(Answer::Faulty(faults))),
+        Answer::Stopped(stop) => Ok(Fed::Ends(Answer::Stopped(stop))),
     }
 }
 
 /// A parent was loaded, and no object of the load's own name lives: its version is noted, and the file is read again.
-fn note_parent(job: &mut LoadJob, live: &Live, name: Name, ob: ObjId) -> Result<Fed, LoadFault>
-    requires none { (told : Option Bytes) (programs : List Raw) (w : World) → Stands told programs live.now w → None ≡ object_named w job.old.name }
+fn note_parent(job: &mut LoadJob, live: &Live, name: Text, ob: ObjId) -> Result<Fed, LoadFault>
+    requires none { (told : Option Bytes) (programs : List Raw) (w : World) → Stands told programs live.now w → None ≡ named w job.old.name }
     ensures takes { IfOk result (λ r. (v : V) (told : Option Bytes) (turn : Turn) (budget : ℕ) → object_of_value v ≡ Some ob
         → Takes r job.old (waitings.Parent name) (answers.Value v) told live.now job.new turn budget) }
     ensures same { IsSameLoad job.old job.new }
@@ -102,8 +93,7 @@ fn note_parent(job: &mut LoadJob, live: &Live, name: Name, ob: ObjId) -> Result<
 }
 
 /// A parent was loaded: the load ends with the object of its own name, where one lives by then, or reads its file again.
-fn after_parent(job: &mut LoadJob, live: &Live, name: Name, ob: ObjId) -> Result<Fed, LoadFault>
-    requires { IsAscii job.old.name }
+fn after_parent(job: &mut LoadJob, live: &Live, name: Text, ob: ObjId) -> Result<Fed, LoadFault>
     ensures takes { IfOk result (λ r. (v : V) (told : Option Bytes) (turn : Turn) (budget : ℕ) → object_of_value v ≡ Some ob
         → Takes r job.old (waitings.Parent name) (answers.Value v) told live.now job.new turn budget) }
     ensures same { IsSameLoad job.old job.new }
@@ -111,15 +101,15 @@ fn after_parent(job: &mut LoadJob, live: &Live, name: Name, ob: ObjId) -> Result
     ensures there { IfOk result (λ r. (cells : Store) → EndsThere cells r) }
     ensures fault { IfErr result IsDeviceless }
 {
-    match own_object(job, live) {
+    let own = object_named(live, job.name.as_slice())?;
+    match own {
         Some(o) => Ok(Fed::Ends(Answer::Value(Value::Obj(o)))),
         None => note_parent(job, live, name, ob),
     }
 }
 
 /// A load takes the value of the load of a parent.
-fn parent_value(job: &mut LoadJob, live: &Live, name: Name, v: &Value) -> Result<Fed, LoadFault>
-    requires { IsAscii job.old.name }
+fn parent_value(job: &mut LoadJob, live: &Live, name: Text, v: &Value) -> Result<Fed, LoadFault>
     ensures takes { IfOk result (λ r. (told : Option Bytes) (turn : Turn) (budget : ℕ)
         → Takes r job.old (waitings.Parent name) (answers.Value v.now) told live.now job.new turn budget) }
     ensures same { IsSameLoad job.old job.new }
@@ -140,10 +130,9 @@ fn parent_value(job: &mut LoadJob, live: &Live, name: Name, v: &Value) -> Result
 pub(crate) fn take_parent(
     job: &mut LoadJob,
     live: &Live,
-    name: Name,
+    name: Text,
     answer: Answer,
 ) -> Result<Fed, LoadFault>
-    requires { IsAscii job.old.name }
     ensures takes { IfOk result (λ r. (told : Option Bytes) (turn : Turn) (budget : ℕ)
         → Takes r job.old (waitings.Parent name) answer told live.now job.new turn budget) }
     ensures same { IsSameLoad job.old job.new }

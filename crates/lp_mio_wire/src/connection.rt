@@ -34,6 +34,8 @@ pub(crate) enum Came {
 pub(crate) struct Connection {
     stream: TcpStream,
     pub(crate) number: u32,
+    /// It came in where WebSockets are expected.
+    pub(crate) is_web: bool,
     pub(crate) phase: Phase,
     pub(crate) is_listed: bool,
     /// A write failed: once what had come before is read, it is lost.
@@ -44,10 +46,11 @@ pub(crate) struct Connection {
 
 impl Connection {
     /// An open connection.
-    pub(crate) fn new(stream: TcpStream, number: u32) -> Connection {
+    pub(crate) fn new(stream: TcpStream, number: u32, is_web: bool) -> Connection {
         Connection {
             stream,
             number,
+            is_web,
             phase: Phase::Open,
             is_listed: false,
             is_broken: false,

@@ -21,6 +21,9 @@ pub(crate) const PLAYERS: usize = usize::MAX;
 /// The token of the operator's listener.
 pub(crate) const OPERATOR: usize = usize::MAX - 1;
 
+/// The token of the listener of WebSockets.
+pub(crate) const WEB: usize = usize::MAX - 2;
+
 /// The most bytes of one piece.
 const PIECE: usize = 4096;
 
@@ -50,6 +53,7 @@ pub(crate) struct Sockets {
     events: Events,
     players: Door,
     operator: Door,
+    web: Option<Door>,
     connections: Connections,
     highest: u32,
     refused: u64,
@@ -65,9 +69,9 @@ impl Connections {
         }
     }
 
-    // Makes room in the ring for one more connection and both listeners.
+    // Makes room in the ring for one more connection and all listeners.
     fn make_room(&mut self) -> Result<(), AllocError> {
-        self.ring.make_room(self.slots.len().saturating_add(3))
+        self.ring.make_room(self.slots.len().saturating_add(4))
     }
 
     // Takes a connection in under its number. All room is made first, so that its key can always be listed.
@@ -76,6 +80,7 @@ impl Connections {
         registry: &Registry,
         mut stream: TcpStream,
         number: u32,
+        is_web: bool,
     ) -> io::Result<()> {
         let key = self.slots.vacant_key();
         let _ = stream.set_nodelay(true);
@@ -85,13 +90,25 @@ impl Connections {
         let both = Interest::READABLE | Interest::WRITABLE;
         match registry.register(&mut stream, Token(key), both) {
             Ok(()) => {
-                self.slots.insert_reserved(Connection::new(stream, number));
+                self.slots
+                    .insert_reserved(Connection::new(stream, number, is_web));
                 Ok(())
             }
             Err(e) => {
                 self.keys.remove(&number);
                 Err(e)
             }
+        }
+    }
+
+    /// Whether a connection that was not told as lost came in at the listener of WebSockets.
+    pub(crate) fn is_web(&self, number: u32) -> bool {
+        match self.keys.get(&number) {
+            Some(key) => match self.slots.get(*key) {
+                Some(connection) => connection.is_web,
+                None => false,
+            },
+            None => false,
         }
     }
 
@@ -228,17 +245,26 @@ impl Connections {
     }
 }
 
+// Has the listener of WebSockets looked at, where there is one.
+fn list_web(web: &mut Option<Door>, connections: &mut Connections) {
+    if let Some(web) = web {
+        web.list(WEB, &mut connections.ring);
+    }
+}
+
 // Has all looked at of which the system told.
 fn list_told(
     events: &Events,
     players: &mut Door,
     operator: &mut Door,
+    web: &mut Option<Door>,
     connections: &mut Connections,
 ) {
     for event in events {
         match event.token().0 {
             PLAYERS => players.list(PLAYERS, &mut connections.ring),
             OPERATOR => operator.list(OPERATOR, &mut connections.ring),
+            WEB => list_web(web, connections),
             key => connections.list(key),
         }
     }
@@ -252,6 +278,7 @@ impl Sockets {
         events: Events,
         players: Door,
         operator: Door,
+        web: Option<Door>,
     ) -> Sockets
         ensures { result.highest ≡ 0 }
     {
@@ -261,6 +288,7 @@ impl Sockets {
             events,
             players,
             operator,
+            web,
             connections: Connections::new(alloc),
             highest: 0,
             refused: 0,
@@ -288,6 +316,7 @@ impl Sockets {
             &self.events,
             &mut self.players,
             &mut self.operator,
+            &mut self.web,
             &mut self.connections,
         );
         self.connections.ring.begin();
@@ -305,6 +334,12 @@ impl Sockets {
         if self.operator.is_put_off {
             self.operator.is_put_off = false;
             self.operator.list(OPERATOR, &mut self.connections.ring);
+        }
+        if let Some(web) = &mut self.web {
+            if web.is_put_off {
+                web.is_put_off = false;
+                web.list(WEB, &mut self.connections.ring);
+            }
         }
     }
 
@@ -333,6 +368,7 @@ impl Sockets {
         match key {
             PLAYERS => Ok(self.accept_player()),
             OPERATOR => Ok(self.accept_operator()),
+            WEB => Ok(self.accept_web()),
             _ => match self.connections.turn(key) {
                 Some(Phase::Open) => self.connections.read(self.alloc, key),
                 Some(Phase::Closed) => Ok(self.connections.tell_lost(key)),
@@ -357,11 +393,38 @@ impl Sockets {
         match self.players.knock() {
             Knock::Peer(stream) => {
                 self.players.list(PLAYERS, &mut self.connections.ring);
-                self.take_in(stream, self.highest + 1)
+                self.take_in(stream, self.highest + 1, false)
             }
             Knock::Nobody => None,
             Knock::Refused => {
                 self.players.is_put_off = true;
+                self.refuse()
+            }
+        }
+    }
+
+    // The next who waits at the listener of WebSockets, under the next number.
+    fn accept_web(&mut self) -> Option<Happening>
+        ensures { MayCome result self.old.highest self.new.highest }
+    {
+        let is_full = self.connections.slots.len() >= MOST || self.highest == u32::MAX;
+        let web = match &mut self.web {
+            Some(web) => web,
+            None => return None,
+        };
+        web.is_listed = false;
+        if is_full {
+            web.is_put_off = true;
+            return None;
+        }
+        match web.knock() {
+            Knock::Peer(stream) => {
+                web.list(WEB, &mut self.connections.ring);
+                self.take_in(stream, self.highest + 1, true)
+            }
+            Knock::Nobody => None,
+            Knock::Refused => {
+                web.is_put_off = true;
                 self.refuse()
             }
         }
@@ -382,7 +445,7 @@ impl Sockets {
                 if self.connections.keys.contains_key(&0) {
                     return None;
                 }
-                self.take_in(stream, 0)
+                self.take_in(stream, 0, false)
             }
             Knock::Nobody => None,
             Knock::Refused => {
@@ -393,13 +456,13 @@ impl Sockets {
     }
 
     // Takes a connection in, which is the operator's or has the next number.
-    fn take_in(&mut self, stream: TcpStream, number: u32) -> Option<Happening>
+    fn take_in(&mut self, stream: TcpStream, number: u32, is_web: bool) -> Option<Happening>
         requires { (number ≡ 0) ⊎ (number ≡ self.old.highest + 1) }
         ensures { MayCome result self.old.highest self.new.highest }
     {
         match self
             .connections
-            .take_in(self.poll.registry(), stream, number)
+            .take_in(self.poll.registry(), stream, number, is_web)
         {
             Ok(()) => {
                 self.highest = self.highest.max(number);
@@ -423,6 +486,11 @@ impl Sockets {
         ensures { result ≡ self.now.refused }
     {
         self.refused
+    }
+
+    /// Whether a connection that was not told as lost came in at the listener of WebSockets.
+    pub(crate) fn is_web(&self, number: u32) -> bool {
+        self.connections.is_web(number)
     }
 
     /// Has those looked at that leave and whose time is over.

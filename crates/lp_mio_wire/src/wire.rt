@@ -6,7 +6,8 @@ ghost use Rattle.lp_mio_wire.specs.Given.{IsBounded, IsDue, IsNumbered};
 ghost use Rattle.lp_mio_wire.specs.Faults.{Names};
 
 use crate::door::Door;
-use crate::sockets::{OPERATOR, PLAYERS, Sockets};
+use crate::entrances::Entrances;
+use crate::sockets::{OPERATOR, PLAYERS, Sockets, WEB};
 use lp_wire::happening::Happening;
 use lp_wire::wire::{Wire, WireError};
 use mio::{Events, Poll, Token};
@@ -48,7 +49,7 @@ pub struct MioWire<R> {
 
 // Listens at a port.
 fn open_door<R: Net>(rt: &R, poll: &Poll, port: u16, token: usize) -> Result<Door, ListenFault>
-    ensures { IfErr result (Names port port) }
+    ensures { IfErr result (Names port port port) }
 {
     match Door::open(rt, poll, port, Token(token)) {
         Ok(door) => Ok(door),
@@ -59,15 +60,29 @@ fn open_door<R: Net>(rt: &R, poll: &Poll, port: u16, token: usize) -> Result<Doo
     }
 }
 
-// Listens at both ports.
+// Listens at the port of WebSockets, unless that is 0.
+fn open_web<R: Net>(rt: &R, poll: &Poll, ws: u16) -> Result<Option<Door>, ListenFault>
+    ensures { IfErr result (Names ws ws ws) }
+{
+    if ws == 0 {
+        return Ok(None);
+    }
+    match open_door(rt, poll, ws, WEB) {
+        Ok(door) => Ok(Some(door)),
+        Err(fault) => Err(fault),
+    }
+}
+
+// Listens at all ports.
 fn open_sockets<R: Net>(
     rt: &R,
     alloc: Global,
     port: u16,
     control: u16,
+    ws: u16,
 ) -> Result<Sockets, ListenFault>
     ensures highest { IfOk result (λ sockets. sockets.highest ≡ 0) }
-    ensures names { IfErr result (Names port control) }
+    ensures names { IfErr result (Names port control ws) }
 {
     let events = match Events::with_capacity(alloc, 256) {
         Ok(events) => events,
@@ -79,23 +94,30 @@ fn open_sockets<R: Net>(
     };
     let players = open_door(rt, &poll, port, PLAYERS)?;
     let operator = open_door(rt, &poll, control, OPERATOR)?;
-    Ok(Sockets::new(alloc, poll, events, players, operator))
+    let web = open_web(rt, &poll, ws)?;
+    Ok(Sockets::new(alloc, poll, events, players, operator, web))
 }
 
 impl<R: Net + Clock + Drop> MioWire<R> {
-    /// A wire that listens at two ports of loopback, the players' and the operator's, and whose first moment is the present second.
-    /// The fault names the port at which nothing can listen.
-    pub fn listen(rt: R, alloc: Global, port: u16, control: u16) -> Result<MioWire<R>, ListenFault>
+    /// A wire that listens at ports of loopback, the players' and the operator's, and one for WebSockets unless that is 0, and whose
+    /// first moment is the present second. The fault names the port at which nothing can listen.
+    pub fn listen(
+        rt: R,
+        alloc: Global,
+        port: u16,
+        control: u16,
+        ws: u16,
+    ) -> Result<MioWire<R>, ListenFault>
         ensures faults { IfOk result (λ wire. wire.faults ≡ 0) }
         ensures second { IfOk result (λ wire. wire.second ≡ wire.opening) }
         ensures highest { IfOk result (λ wire. wire.sockets.highest ≡ 0) }
-        ensures names { IfErr result (Names port control) }
+        ensures names { IfErr result (Names port control ws) }
     {
         let opening = match rt.since_1970() {
             Ok(now) => now.as_secs(),
             Err(e) => return Err(ListenFault::System(e.kind())),
         };
-        let sockets = open_sockets(&rt, alloc, port, control)?;
+        let sockets = open_sockets(&rt, alloc, port, control, ws)?;
         Ok(MioWire {
             rt,
             sockets,
@@ -186,5 +208,11 @@ impl<R: Net + Clock> Wire for MioWire<R> {
         ensures highest { self.new.sockets.highest ≡ self.old.sockets.highest }
     {
         self.sockets.close(k, self.second.saturating_add(LEAVE));
+    }
+}
+
+impl<R: Net + Clock> Entrances for MioWire<R> {
+    fn is_web(&self, k: u32) -> bool {
+        self.sockets.is_web(k)
     }
 }

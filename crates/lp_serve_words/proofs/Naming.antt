@@ -38,6 +38,7 @@ values_read words line m e h =
     let lib = value_read (codes "lib") words line m e h in
     let port = value_read (codes "port") words line m e h in
     let control = value_read (codes "control") words line m e h in
+    let ws = value_read (codes "ws") words line m e h in
     let time = value_read (codes "swap-time") words line m e h in
     let seed = value_read (codes "seed") words line m e h in
     let file = value_read (codes "record") words line m e h in
@@ -73,29 +74,29 @@ words_stand ws o e f k =
     ∙ k
 
 -- a value that is wanting or wrong
-pub no_lib : (a : Option (List ℕ)) (b : Option (ℕ × ℕ)) (c d : Option ℕ) (e : Option (Option (List ℕ))) (f : Option ℕ) → a ≡ None → serving_from a b c d e f ≡ None
+pub no_lib : (a : Option (List ℕ)) (b : Option ((ℕ × ℕ) × ℕ)) (c d : Option ℕ) (e : Option (Option (List ℕ))) (f : Option ℕ) → a ≡ None → serving_from a b c d e f ≡ None
 no_lib None b c d e f h = refl
 no_lib (Some x) b c d e f h = absurd cc
 
-pub no_ports : (a : Option (List ℕ)) (b : Option (ℕ × ℕ)) (c d : Option ℕ) (e : Option (Option (List ℕ))) (f : Option ℕ) → b ≡ None → serving_from a b c d e f ≡ None
+pub no_ports : (a : Option (List ℕ)) (b : Option ((ℕ × ℕ) × ℕ)) (c d : Option ℕ) (e : Option (Option (List ℕ))) (f : Option ℕ) → b ≡ None → serving_from a b c d e f ≡ None
 no_ports None b c d e f h = refl
 no_ports (Some x) None c d e f h = refl
 no_ports (Some x) (Some y) c d e f h = absurd cc
 
-pub no_time : (a : Option (List ℕ)) (b : Option (ℕ × ℕ)) (c d : Option ℕ) (e : Option (Option (List ℕ))) (f : Option ℕ) → c ≡ None → serving_from a b c d e f ≡ None
+pub no_time : (a : Option (List ℕ)) (b : Option ((ℕ × ℕ) × ℕ)) (c d : Option ℕ) (e : Option (Option (List ℕ))) (f : Option ℕ) → c ≡ None → serving_from a b c d e f ≡ None
 no_time None b c d e f h = refl
 no_time (Some x) None c d e f h = refl
 no_time (Some x) (Some y) None d e f h = refl
 no_time (Some x) (Some y) (Some z) d e f h = absurd cc
 
-pub no_seed : (a : Option (List ℕ)) (b : Option (ℕ × ℕ)) (c d : Option ℕ) (e : Option (Option (List ℕ))) (f : Option ℕ) → d ≡ None → serving_from a b c d e f ≡ None
+pub no_seed : (a : Option (List ℕ)) (b : Option ((ℕ × ℕ) × ℕ)) (c d : Option ℕ) (e : Option (Option (List ℕ))) (f : Option ℕ) → d ≡ None → serving_from a b c d e f ≡ None
 no_seed None b c d e f h = refl
 no_seed (Some x) None c d e f h = refl
 no_seed (Some x) (Some y) None d e f h = refl
 no_seed (Some x) (Some y) (Some z) None e f h = refl
 no_seed (Some x) (Some y) (Some z) (Some u) e f h = absurd cc
 
-pub no_file : (a : Option (List ℕ)) (b : Option (ℕ × ℕ)) (c d : Option ℕ) (e : Option (Option (List ℕ))) (f : Option ℕ) → e ≡ None → serving_from a b c d e f ≡ None
+pub no_file : (a : Option (List ℕ)) (b : Option ((ℕ × ℕ) × ℕ)) (c d : Option ℕ) (e : Option (Option (List ℕ))) (f : Option ℕ) → e ≡ None → serving_from a b c d e f ≡ None
 no_file None b c d e f h = refl
 no_file (Some x) None c d e f h = refl
 no_file (Some x) (Some y) None d e f h = refl
@@ -103,7 +104,7 @@ no_file (Some x) (Some y) (Some z) None e f h = refl
 no_file (Some x) (Some y) (Some z) (Some u) None f h = refl
 no_file (Some x) (Some y) (Some z) (Some u) (Some v) f h = absurd cc
 
-pub no_turns : (a : Option (List ℕ)) (b : Option (ℕ × ℕ)) (c d : Option ℕ) (e : Option (Option (List ℕ))) (f : Option ℕ) → f ≡ None → serving_from a b c d e f ≡ None
+pub no_turns : (a : Option (List ℕ)) (b : Option ((ℕ × ℕ) × ℕ)) (c d : Option ℕ) (e : Option (Option (List ℕ))) (f : Option ℕ) → f ≡ None → serving_from a b c d e f ≡ None
 no_turns None b c d e f h = refl
 no_turns (Some x) None c d e f h = refl
 no_turns (Some x) (Some y) None d e f h = refl
@@ -113,12 +114,12 @@ no_turns (Some x) (Some y) (Some z) (Some u) (Some v) None h = refl
 no_turns (Some x) (Some y) (Some z) (Some u) (Some v) (Some w) h = absurd cc
 
 -- all values are there
-pub all_there : (s : Serving) (a : Option (List ℕ)) (b : Option (ℕ × ℕ)) (c d : Option ℕ) (e : Option (Option (List ℕ))) (f : Option ℕ)
-    → a ≡ Some s.lib → b ≡ Some (s.port, s.control) → c ≡ Some s.swap_time → d ≡ Some s.seed → e ≡ Some s.record_file → f ≡ Some s.turns → serving_from a b c d e f ≡ Some s
+pub all_there : (s : Serving) (a : Option (List ℕ)) (b : Option ((ℕ × ℕ) × ℕ)) (c d : Option ℕ) (e : Option (Option (List ℕ))) (f : Option ℕ)
+    → a ≡ Some s.lib → b ≡ Some ((s.port, s.control), s.ws) → c ≡ Some s.swap_time → d ≡ Some s.seed → e ≡ Some s.record_file → f ≡ Some s.turns → serving_from a b c d e f ≡ Some s
 all_there s a b c d e f ea eb ec ed ee ef =
     ap (λ x. serving_from x b c d e f) ea
     ∙ ap (λ x. serving_from (Some s.lib) x c d e f) eb
-    ∙ ap (λ x. serving_from (Some s.lib) (Some (s.port, s.control)) x d e f) ec
-    ∙ ap (λ x. serving_from (Some s.lib) (Some (s.port, s.control)) (Some s.swap_time) x e f) ed
-    ∙ ap (λ x. serving_from (Some s.lib) (Some (s.port, s.control)) (Some s.swap_time) (Some s.seed) x f) ee
-    ∙ ap (λ x. serving_from (Some s.lib) (Some (s.port, s.control)) (Some s.swap_time) (Some s.seed) (Some s.record_file) x) ef
+    ∙ ap (λ x. serving_from (Some s.lib) (Some ((s.port, s.control), s.ws)) x d e f) ec
+    ∙ ap (λ x. serving_from (Some s.lib) (Some ((s.port, s.control), s.ws)) (Some s.swap_time) x e f) ed
+    ∙ ap (λ x. serving_from (Some s.lib) (Some ((s.port, s.control), s.ws)) (Some s.swap_time) (Some s.seed) x f) ee
+    ∙ ap (λ x. serving_from (Some s.lib) (Some ((s.port, s.control), s.ws)) (Some s.swap_time) (Some s.seed) (Some s.record_file) x) ef

@@ -35,8 +35,11 @@ lib_line = with_rule (new_app (codes "serve")) (wanted_option (codes "lib"))
 abbrev pub ports_line : App
 ports_line = with_rule (with_rule lib_line (wanted_option (codes "port"))) (wanted_option (codes "control"))
 
+abbrev pub web_line : App
+web_line = with_rule ports_line (valued (codes "ws"))
+
 abbrev pub numbers_line : App
-numbers_line = with_rule (with_rule ports_line (valued (codes "swap-time"))) (valued (codes "seed"))
+numbers_line = with_rule (with_rule web_line (valued (codes "swap-time"))) (valued (codes "seed"))
 
 abbrev pub serve_line : App
 serve_line = with_rule (with_rule numbers_line (valued (codes "record"))) (valued (codes "turns"))
@@ -54,6 +57,7 @@ values_in words = record {
   lib = value_in (codes "lib") words;
   port = value_in (codes "port") words;
   control = value_in (codes "control") words;
+  ws = value_in (codes "ws") words;
   swap_time = value_in (codes "swap-time") words;
   seed = value_in (codes "seed") words;
   record_file = value_in (codes "record") words;
@@ -66,6 +70,7 @@ values_found m = record {
   lib = first_value (found_of m) (codes "lib");
   port = first_value (found_of m) (codes "port");
   control = first_value (found_of m) (codes "control");
+  ws = first_value (found_of m) (codes "ws");
   swap_time = first_value (found_of m) (codes "swap-time");
   seed = first_value (found_of m) (codes "seed");
   record_file = first_value (found_of m) (codes "record");

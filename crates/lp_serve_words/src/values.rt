@@ -1,7 +1,7 @@
 //! The values of the options of `serve`.
 ghost use Rattle.std.specs.Prelude.{◌≡◌, ◌≤◌, Err, IfOk, IfSome, Some, None};
 ghost use Rattle.std.specs.Option.{option_copied};
-ghost use Rattle.lp_serve_words.specs.Serving.{is_free_text as may_be_free_text, number_or as number_or_usual, ports_in, serving_with, values_of, wanted_text as wanted};
+ghost use Rattle.lp_serve_words.specs.Serving.{is_free_text as may_be_free_text, number_or as number_or_usual, ports_in, serving_with, two_ports_in, values_of, wanted_text as wanted};
 ghost use Rattle.lp_serve_words.specs.Values.{is_value as may_be_value};
 ghost use Rattle.lp_serve_words.specs.declared.words.WordsFault.TheVariants as fault;
 
@@ -27,6 +27,7 @@ pub(crate) struct ServeTexts<'a> {
     pub(crate) lib: Option<&'a str>,
     pub(crate) port: Option<&'a str>,
     pub(crate) control: Option<&'a str>,
+    pub(crate) ws: Option<&'a str>,
     pub(crate) swap_time: Option<&'a str>,
     pub(crate) seed: Option<&'a str>,
     pub(crate) record_file: Option<&'a str>,
@@ -85,9 +86,9 @@ fn number_or(usual: u64, low: u64, high: u64, text: Option<&str>) -> Option<u64>
     }
 }
 
-// The two ports, if they are numbers of ports and differ. Takes no memory.
-fn ports(port: Option<&str>, control: Option<&str>) -> Option<(u16, u16)>
-    ensures { result ≡ ports_in (option_copied port.entry) (option_copied control.entry) }
+// The two ports that are wanted, if they are numbers of ports and differ. Takes no memory.
+fn two_ports(port: Option<&str>, control: Option<&str>) -> Option<(u16, u16)>
+    ensures { result ≡ two_ports_in (option_copied port.entry) (option_copied control.entry) }
 {
     let port = match number_in(1, LAST_PORT, port) {
         Some(port) => port as u16,
@@ -103,6 +104,24 @@ fn ports(port: Option<&str>, control: Option<&str>) -> Option<(u16, u16)>
     Some((port, control))
 }
 
+// The same with the port of WebSockets, if it is one and differs from both; it is 0 where none is given. Takes no memory.
+fn ports(port: Option<&str>, control: Option<&str>, ws: Option<&str>) -> Option<((u16, u16), u16)>
+    ensures { result ≡ ports_in (option_copied port.entry) (option_copied control.entry) (option_copied ws.entry) }
+{
+    let (port, control) = match two_ports(port, control) {
+        Some(two) => two,
+        None => return None,
+    };
+    let ws = match number_or(0, 1, LAST_PORT, ws) {
+        Some(ws) => ws as u16,
+        None => return None,
+    };
+    if ws == port || ws == control {
+        return None;
+    }
+    Some(((port, control), ws))
+}
+
 /// How players are served, by these values.
 pub(crate) fn serving_by(alloc: Global, texts: &ServeTexts<'_>) -> Result<Serving, WordsFault>
     ensures named { IfOk result (λ s. serving_with (values_of texts.now) ≡ Some s) }
@@ -112,8 +131,8 @@ pub(crate) fn serving_by(alloc: Global, texts: &ServeTexts<'_>) -> Result<Servin
         Some(lib) => lib,
         None => return Err(WordsFault::BadWords),
     };
-    let (port, control) = match ports(texts.port, texts.control) {
-        Some(both) => both,
+    let ((port, control), ws) = match ports(texts.port, texts.control, texts.ws) {
+        Some(all) => all,
         None => return Err(WordsFault::BadWords),
     };
     let swap_time = match number_or(USUAL_SWAP_TIME, 0, MOST_SWAP_TIME, texts.swap_time) {
@@ -136,6 +155,7 @@ pub(crate) fn serving_by(alloc: Global, texts: &ServeTexts<'_>) -> Result<Servin
         lib: FilePath::from_str(alloc, lib)?,
         port,
         control,
+        ws,
         swap_time,
         seed,
         record_file,

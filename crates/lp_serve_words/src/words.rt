@@ -3,7 +3,7 @@ ghost use Rattle.std.specs.Prelude.{◌≡◌, Err, IfOk, None, Some, false, tru
 ghost use Rattle.std.specs.List.{list_all};
 ghost use Rattle.clap.specs.Words.{App, HasMatchesOf, app_of, fault_of, is_simple_and_free, rule_of};
 ghost use Rattle.lp_serve_words.specs.Serving.{values_of};
-ghost use Rattle.lp_serve_words.specs.Words.{has_some, is_free_word, names_serve, numbers_line, ports_line, serve_line, serving_in, serving_taken, valued as valued_rule, values_found, wanted_option as wanted_rule};
+ghost use Rattle.lp_serve_words.specs.Words.{has_some, is_free_word, names_serve, numbers_line, ports_line, serve_line, serving_in, serving_taken, valued as valued_rule, values_found, wanted_option as wanted_rule, web_line};
 ghost use Rattle.lp_serve_words.specs.declared.words.WordsFault.TheVariants as fault;
 
 use crate::values::{ServeTexts, serving_by};
@@ -22,6 +22,8 @@ pub struct Serving {
     pub port: u16,
     /// The port of the operator, another one.
     pub control: u16,
+    /// The port of players in a browser, a third one, or 0 where none is given.
+    pub ws: u16,
     /// After so many seconds without an entry an object or a program is idle, at most 1000000000; 0 means never.
     pub swap_time: u32,
     /// The seed of the generator of random numbers.
@@ -104,12 +106,20 @@ fn with_ports<'a>(alloc: Global) -> Result<Line<'a>, AllocError>
     port.arg(wanted_option(alloc, "control"))
 }
 
+// The same with the port of WebSockets.
+fn with_web<'a>(alloc: Global) -> Result<Line<'a>, AllocError>
+    ensures { IfOk result (λ l. app_of l ≡ web_line) }
+{
+    let ports = with_ports(alloc)?;
+    ports.arg(valued(alloc, "ws"))
+}
+
 // The same, up to the numbers.
 fn with_numbers<'a>(alloc: Global) -> Result<Line<'a>, AllocError>
     ensures { IfOk result (λ l. app_of l ≡ numbers_line) }
 {
-    let ports = with_ports(alloc)?;
-    let time = ports.arg(valued(alloc, "swap-time"))?;
+    let web = with_web(alloc)?;
+    let time = web.arg(valued(alloc, "swap-time"))?;
     time.arg(valued(alloc, "seed"))
 }
 
@@ -149,6 +159,7 @@ fn texts_of<'a>(matches: &ArgMatches<'a>) -> ServeTexts<'a>
         lib: matches.get_str("lib"),
         port: matches.get_str("port"),
         control: matches.get_str("control"),
+        ws: matches.get_str("ws"),
         swap_time: matches.get_str("swap-time"),
         seed: matches.get_str("seed"),
         record_file: matches.get_str("record"),
@@ -166,7 +177,7 @@ fn taken_of(alloc: Global, words: &[String]) -> Result<Serving, WordsFault>
 }
 
 /// How players are served, by the words without the program's name: `serve --lib DIR --port P --control P` with
-/// `--swap-time N`, `--seed N`, `--record FILE` and `--turns N` in any order, each at most once.
+/// `--ws P`, `--swap-time N`, `--seed N`, `--record FILE` and `--turns N` in any order, each at most once.
 ///
 /// # Errors
 /// `BadWords` exactly where the words are none of this form, or else `NoMemory`.

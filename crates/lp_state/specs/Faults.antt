@@ -10,13 +10,11 @@ use Rattle.lp_state.specs.declared.fault.TurnFault.TheVariants as faults
 abbrev pub turn_fault : VmFault → TurnFault
 turn_fault driver_faults.NoMemory = faults.NoMemory
 turn_fault (driver_faults.Swap cause) = faults.Swap cause
-turn_fault driver_faults.NotYet = faults.NotYet
 
 -- what was answered, as far as the reads of the swap file go
 abbrev pub read_fault : TurnFault → EnterFault
 read_fault faults.HasFailed = enter_faults.NoMemory
 read_fault (faults.Swap cause) = enter_faults.Swap cause
-read_fault faults.NotYet = enter_faults.NoMemory
 read_fault faults.NoMemory = enter_faults.NoMemory
 
 abbrev pub reads_of : {A : Type 0} → Result A TurnFault → Result (Unit {0}) EnterFault

@@ -15,9 +15,6 @@ pub enum TurnFault {
     /// The swap file failed, or gave bytes of another digest.
     #[error("the swap file did not give what was written")]
     Swap(SwapCause),
-    /// Something is asked that is not carried out yet.
-    #[error("not carried out yet")]
-    NotYet,
     /// Memory ran out; or the swap file gave other bytes of the same digest as those that were written.
     #[error("out of memory")]
     NoMemory,
@@ -30,6 +27,5 @@ pub(crate) fn of_driver(fault: VmFault) -> TurnFault
     match fault {
         VmFault::NoMemory => TurnFault::NoMemory,
         VmFault::Swap(cause) => TurnFault::Swap(cause),
-        VmFault::NotYet => TurnFault::NotYet,
     }
 }

@@ -99,8 +99,8 @@ fn note(state: &mut State, ended: Result<(Outs, Idled), VmFault>) -> Result<Outs
 ///
 /// # Errors
 /// `HasFailed` exactly where an earlier turn of this state ended with a fault, and then nothing is done. `NoMemory`, also where the swap
-/// file gave other bytes of the same digest; `Swap` where it failed or gave bytes of another digest; `NotYet` where something is
-/// asked that is not carried out yet; for a swap item `NoMemory` alone. The state has failed then.
+/// file gave other bytes of the same digest; `Swap` where it failed or gave bytes of another digest; for a swap item `NoMemory` alone.
+/// The state has failed then.
 pub fn turn<W: Truthful>(state: &mut State, swap: &mut W, event: &Event) -> Result<Outs, TurnFault>
     requires may { MayCome event.now }
     requires goes { GoesOn (W.content swap.old) state.old }

@@ -97,24 +97,19 @@ replays-none swap_time report b r told from opening fs a h m = record {
 }
 
 -- the start was not carried out
-pub replays-unstarted : (swap_time : ℕ) (report : Bool) (b : List ℕ) (r : Reading) (told from : Option (List ℕ)) (opening : Opening) (e : VmFault) (at : ℕ) (a : IsAtStart r opening) → Reads b r told → at ≡ r.at → Replays swap_time report b (stop_status at e) from from
-replays-unstarted swap_time report b r told from opening faults.NoMemory at a h p = record {
+pub replays-unstarted : (swap_time : ℕ) (report : Bool) (b : List ℕ) (r : Reading) (told from : Option (List ℕ)) (opening : Opening) (e : VmFault) (a : IsAtStart r opening) → Reads b r told → Replays swap_time report b (stop_status e) from from
+replays-unstarted swap_time report b r told from opening faults.NoMemory a h = record {
   read = a.files;
   ends = holds-front b a.files (items.Start ∷ []) (held b r told opening a h);
   wrote = λ old e. ([], nothing-more from old e, before a.not_started);
 }
-replays-unstarted swap_time report b r told from opening (faults.Swap cause) at a h p =
+replays-unstarted swap_time report b r told from opening (faults.Swap cause) a h =
     let k = held b r told opening a h in
     record {
       read = a.files;
       ends = (holds-front b a.files (items.Start ∷ []) k, record { item = items.Start; begins = k; turns = refl });
       wrote = λ old e. ([], nothing-more from old e, before a.not_started);
     }
-replays-unstarted swap_time report b r told from opening faults.NotYet at a h p = record {
-  read = a.files;
-  ends = inr (record { stops = record { item = items.Start; begins = held b r told opening a h; turns = refl }; place = p ∙ a.place });
-  wrote = λ old e. ([], nothing-more from old e, before a.not_started);
-}
 
 -- reading ended before `start`
 pub replays-early : (swap_time : ℕ) (report : Bool) (b : List ℕ) (from : Option (List ℕ)) (s : Status) (xs : List Item) → has_started xs ≡ false → Ends b xs s → IsReadingEnd s → Replays swap_time report b s from from
@@ -125,7 +120,6 @@ is_done ends.Done = true
 is_done s = false
 
 -- what was not carried out is not done
-pub stop-not-done : (at : ℕ) (e : VmFault) → stop_status at e ≡ ends.Done → ⊥
-stop-not-done at faults.NoMemory e = let h : false ≡ true = ap is_done e in absurd cc
-stop-not-done at (faults.Swap cause) e = let h : false ≡ true = ap is_done e in absurd cc
-stop-not-done at faults.NotYet e = let h : false ≡ true = ap is_done e in absurd cc
+pub stop-not-done : (e : VmFault) → stop_status e ≡ ends.Done → ⊥
+stop-not-done faults.NoMemory e = let h : false ≡ true = ap is_done e in absurd cc
+stop-not-done (faults.Swap cause) e = let h : false ≡ true = ap is_done e in absurd cc

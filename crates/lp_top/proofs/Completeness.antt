@@ -16,7 +16,7 @@ use Rattle.lp_front_end.specs.FrontEnds.{ThereIsOne}
 use Rattle.lp_top.specs.declared.status.Status.{Status}
 use Rattle.lp_top.specs.declared.status.Status.TheVariants as ends
 use Rattle.lp_top.specs.Items.{BeginsWithItems, HasMaster, HasNoMaster, moment_of, world_file, world_files}
-use Rattle.lp_top.specs.Replay.{Ends, IsCarriedOut}
+use Rattle.lp_top.specs.Replay.{Ends}
 use Rattle.lp_top.proofs.Reading.{spellings-append}
 use Rattle.lp_top.proofs.Filing.{seed-front, moment-front}
 use Rattle.lp_top.proofs.Going.{is_late, late-not, after-late}
@@ -140,16 +140,15 @@ master-before xs zs ys e f m front real =
           (subst (λ k. Starts front (world_files ys) k (moment_of xs) w.0 w.1) s (subst (λ k. Starts front (world_files ys) (seed_of ys) k w.0 w.1) n w.2)),
     )
 
--- a script of whose files a master is made is carried out, to its end or up to an item that is not carried out yet, or memory runs out
+-- a script of whose files a master is made is carried out to its end, or memory runs out
 pub completes : OneSpelling → OneEnd Start → ThereIsOne → (b : List ℕ) (xs ys : List Item) (s : Status) → length b ≤ longest_input → IsScript b ys → HasMaster ys
-    → (s ≡ ends.InputFault → ⊥) → (s ≡ ends.OutputFault → ⊥) → ((cause : SwapCause) → s ≡ ends.SwapFault cause → ⊥) → Ends b xs s → IsCarriedOut b s
-completes law one there b xs ys ends.Done l i m p q r e = tt
+    → (s ≡ ends.InputFault → ⊥) → (s ≡ ends.OutputFault → ⊥) → ((cause : SwapCause) → s ≡ ends.SwapFault cause → ⊥) → Ends b xs s → (s ≡ ends.Done) ⊎ (s ≡ ends.NoMemory)
+completes law one there b xs ys ends.Done l i m p q r e = inl refl
 completes law one there b xs ys ends.BadWords l i m p q r e = absurd e
 completes law one there b xs ys (ends.FilesFault path) l i m p q r e = absurd e
 completes law one there b xs ys ends.WireFault l i m p q r e = absurd e
 completes law one there b xs ys ends.TurnsSpent l i m p q r e = absurd e
-completes law one there b xs ys (ends.BadScript at) l i m p q r (inl h) = absurd (bad-not-script law b xs ys at l i h)
-completes law one there b xs ys (ends.BadScript at) l i m p q r (inr h) = (xs, h)
+completes law one there b xs ys (ends.BadScript at) l i m p q r e = absurd (bad-not-script law b xs ys at l i e)
 completes law one there b xs ys (ends.NoMaster fs) l i m p q r e =
     let v = front-held law b (xs ++ items.Start ∷ []) ys l i e.0 in
     absurd (made-not-none one there xs fs (master-before xs v.0 ys v.1 i.fit m) e.2)
@@ -157,4 +156,4 @@ completes law one there b xs ys ends.TooLarge l i m p q r e = absurd (omega (ari
 completes law one there b xs ys ends.InputFault l i m p q r e = absurd (p refl)
 completes law one there b xs ys ends.OutputFault l i m p q r e = absurd (q refl)
 completes law one there b xs ys (ends.SwapFault cause) l i m p q r e = absurd (r cause refl)
-completes law one there b xs ys ends.NoMemory l i m p q r e = tt
+completes law one there b xs ys ends.NoMemory l i m p q r e = inr refl

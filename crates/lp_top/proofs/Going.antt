@@ -260,25 +260,20 @@ stops : (b : List ℕ) (xs : List Item) (x : Item) → Holds b (xs ++ x ∷ []) 
 stops b xs x h t = record { item = x; begins = h; turns = t }
 
 -- the turn of an item was not carried out whole
-pub replays-interrupted : (swap_time : ℕ) (report : Bool) (b : List ℕ) (xs : List Item) (x : Item) (done : List ℕ) (turned : List Out → Type 0) (at : ℕ) (from now next : Option (List ℕ)) (s : Status)
-    → Holds b (xs ++ x ∷ []) → has_turn x ≡ true → Blocks xs done → ((outs : List Out) → turned outs → Blocks (xs ++ x ∷ []) (done ++ block outs)) → at ≡ length (spellings xs) → now ≡ after_adding from done
-    → Interrupts turned at now next s → Replays swap_time report b s from next
-replays-interrupted swap_time report b xs x done turned at from now next ends.NoMemory h t bs more place w i = record {
+pub replays-interrupted : (swap_time : ℕ) (report : Bool) (b : List ℕ) (xs : List Item) (x : Item) (done : List ℕ) (turned : List Out → Type 0) (from now next : Option (List ℕ)) (s : Status)
+    → Holds b (xs ++ x ∷ []) → has_turn x ≡ true → Blocks xs done → ((outs : List Out) → turned outs → Blocks (xs ++ x ∷ []) (done ++ block outs)) → now ≡ after_adding from done
+    → Interrupts turned now next s → Replays swap_time report b s from next
+replays-interrupted swap_time report b xs x done turned from now next ends.NoMemory h t bs more w i = record {
   read = xs;
   ends = holds-front b xs (x ∷ []) h;
   wrote = λ old f. (done, i ∙ told-now from now done old w f, bs);
 }
-replays-interrupted swap_time report b xs x done turned at from now next (ends.SwapFault cause) h t bs more place w i = record {
+replays-interrupted swap_time report b xs x done turned from now next (ends.SwapFault cause) h t bs more w i = record {
   read = xs;
   ends = (holds-front b xs (x ∷ []) h, stops b xs x h t);
   wrote = λ old f. (done, i ∙ told-now from now done old w f, bs);
 }
-replays-interrupted swap_time report b xs x done turned at from now next (ends.BadScript n) h t bs more place w i = record {
-  read = xs;
-  ends = inr (record { stops = stops b xs x h t; place = i.1 ∙ place });
-  wrote = λ old f. (done, i.0 ∙ told-now from now done old w f, bs);
-}
-replays-interrupted swap_time report b xs x done turned at from now next ends.OutputFault h t bs more place w (outs, u, cut) =
+replays-interrupted swap_time report b xs x done turned from now next ends.OutputFault h t bs more w (outs, u, cut) =
     let k : List ℕ = block outs in
     record {
       read = xs ++ x ∷ [];
@@ -289,14 +284,15 @@ replays-interrupted swap_time report b xs x done turned at from now next ends.Ou
         (done ++ k, more outs u, inl (drop cut.0 k, ap (λ z. done ++ z) (sym (take-append-drop cut.0 k)) ∙ sym (append_assoc done (take cut.0 k) (drop cut.0 k)))),
       );
     }
-replays-interrupted swap_time report b xs x done turned at from now next ends.Done h t bs more place w i = absurd i
-replays-interrupted swap_time report b xs x done turned at from now next ends.BadWords h t bs more place w i = absurd i
-replays-interrupted swap_time report b xs x done turned at from now next (ends.FilesFault path) h t bs more place w i = absurd i
-replays-interrupted swap_time report b xs x done turned at from now next ends.WireFault h t bs more place w i = absurd i
-replays-interrupted swap_time report b xs x done turned at from now next ends.TurnsSpent h t bs more place w i = absurd i
-replays-interrupted swap_time report b xs x done turned at from now next (ends.NoMaster fs) h t bs more place w i = absurd i
-replays-interrupted swap_time report b xs x done turned at from now next ends.TooLarge h t bs more place w i = absurd i
-replays-interrupted swap_time report b xs x done turned at from now next ends.InputFault h t bs more place w i = absurd i
+replays-interrupted swap_time report b xs x done turned from now next ends.Done h t bs more w i = absurd i
+replays-interrupted swap_time report b xs x done turned from now next ends.BadWords h t bs more w i = absurd i
+replays-interrupted swap_time report b xs x done turned from now next (ends.FilesFault path) h t bs more w i = absurd i
+replays-interrupted swap_time report b xs x done turned from now next ends.WireFault h t bs more w i = absurd i
+replays-interrupted swap_time report b xs x done turned from now next ends.TurnsSpent h t bs more w i = absurd i
+replays-interrupted swap_time report b xs x done turned from now next (ends.NoMaster fs) h t bs more w i = absurd i
+replays-interrupted swap_time report b xs x done turned from now next ends.TooLarge h t bs more w i = absurd i
+replays-interrupted swap_time report b xs x done turned from now next ends.InputFault h t bs more w i = absurd i
+replays-interrupted swap_time report b xs x done turned from now next (ends.BadScript at) h t bs more w i = absurd i
 
 -- the blocks with that of one event more
 blocks-event : (swap_time : ℕ) (r : Reading) (told told1 : Option Bytes) (live live1 : Live) (xs : List Item) (outputs : List (List Out)) (e : Event) (outs : List Out) → IsGoing swap_time r told live xs outputs → TurnsAs e told live told1 live1 outs
@@ -306,13 +302,13 @@ blocks-event swap_time r told told1 live live1 xs outputs e outs g t =
     (started (outputs ++ outs ∷ []) (started-push xs (items.Event e) g.started) (λ front real. let h = has_run-more front real xs outputs told told1 live live1 e outs (g.runs front real) t in (h.last, h.run)))
 
 -- an event was not carried out whole
-pub replays-stopped : (swap_time : ℕ) (report : Bool) (b : List ℕ) (r new : Reading) (told : Option Bytes) (live : Live) (next_told from now next : Option (List ℕ)) (s : Status) (e : Event) (at : ℕ) (h : IsRunning swap_time r told live from now)
-    → Reads b new next_told → HasGiven new (h.read ++ items.Event e ∷ []) → IsAfter (Ok (items.Event e)) new.phase → at ≡ r.cut → Interrupts (AreOf e told live) at now next s → Replays swap_time report b s from next
-replays-stopped swap_time report b r new told live next_told from now next s e at h n v p place i =
-    replays-interrupted swap_time report b h.read (items.Event e) (blocks h.outputs) (AreOf e told live) at from now next s
+pub replays-stopped : (swap_time : ℕ) (report : Bool) (b : List ℕ) (r new : Reading) (told : Option Bytes) (live : Live) (next_told from now next : Option (List ℕ)) (s : Status) (e : Event) (h : IsRunning swap_time r told live from now)
+    → Reads b new next_told → HasGiven new (h.read ++ items.Event e ∷ []) → IsAfter (Ok (items.Event e)) new.phase → Interrupts (AreOf e told live) now next s → Replays swap_time report b s from next
+replays-stopped swap_time report b r new told live next_told from now next s e h n v p i =
+    replays-interrupted swap_time report b h.read (items.Event e) (blocks h.outputs) (AreOf e told live) from now next s
     (begins_with b new next_told (h.read ++ items.Event e ∷ []) n (subst GoesOn (sym p) tt) v) refl
     (blocks-running swap_time r told live h.read h.outputs h.going) (λ outs u. blocks-event swap_time r told u.0 live u.1 h.read h.outputs e outs h.going u.2)
-    (place ∙ cut_is r h.read h.going.given) h.written i
+    h.written i
 
 -- the items of a script that was read whole, as the input begins with them
 script-holds : (b : List ℕ) (xs : List Item) → IsScript b xs → length b ≤ longest_input → Holds b xs
@@ -415,12 +411,12 @@ pub rose-wider-either : (m n p q s t u v : ℕ) → m ≤ n → p ≤ q → s �
 rose-wider-either m n p q s t u v a b c d (inl r) = inl (rose-wider m n p q a b r)
 rose-wider-either m n p q s t u v a b c d (inr r) = inr (rose-wider s t u v c d r)
 
-pub kind-interrupted : (turned : List Out → Type 0) (at : ℕ) (now next : Option (List ℕ)) (s : Status) → Interrupts turned at now next s → IsReplayEnd s
-kind-interrupted turned at now next ends.BadWords i = absurd i
-kind-interrupted turned at now next (ends.FilesFault path) i = absurd i
-kind-interrupted turned at now next ends.WireFault i = absurd i
-kind-interrupted turned at now next ends.TurnsSpent i = absurd i
-kind-interrupted turned at now next s i = tt
+pub kind-interrupted : (turned : List Out → Type 0) (now next : Option (List ℕ)) (s : Status) → Interrupts turned now next s → IsReplayEnd s
+kind-interrupted turned now next ends.BadWords i = absurd i
+kind-interrupted turned now next (ends.FilesFault path) i = absurd i
+kind-interrupted turned now next ends.WireFault i = absurd i
+kind-interrupted turned now next ends.TurnsSpent i = absurd i
+kind-interrupted turned now next s i = tt
 
 kind-finish : (last : List ℕ) (now next : Option (List ℕ)) (s : Status) → Finishes last now next s → IsReplayEnd s
 kind-finish last now next ends.BadWords i = absurd i

@@ -103,8 +103,8 @@ script_within b r xs v s = let c = cut_is r xs v in let l = cut_within r xs v in
 
 -- a fault of the script gives its end
 pub ends-reading : (b : List ℕ) (old : Reading) (told : Option (List ℕ)) (xs : List Item) (f : ScriptFault) → Reads b old told → GoesOn old.phase → HasGiven old xs → Says f b xs → EndsReading b xs (status_of_fault f)
-ends-reading b old told xs (script.BadScript at) h g v (inl s) = record { read = xs; same = inl refl; ends = inl s }
-ends-reading b old told xs (script.BadScript at) h g v (inr s) = record { read = xs ++ items.End ∷ []; same = inr refl; ends = inl s }
+ends-reading b old told xs (script.BadScript at) h g v (inl s) = record { read = xs; same = inl refl; ends = s }
+ends-reading b old told xs (script.BadScript at) h g v (inr s) = record { read = xs ++ items.End ∷ []; same = inr refl; ends = s }
 ends-reading b old told xs script.TooLarge h g v (inl s) = record { read = xs; same = inl refl; ends = s }
 ends-reading b old told xs script.TooLarge h g v (inr s) = record { read = xs ++ items.End ∷ []; same = inr refl; ends = s }
 ends-reading b old told xs script.InputFault h g v s = record { read = xs; same = inl refl; ends = begins_with b old told xs h g v }

@@ -33,7 +33,6 @@ output-end (hosted.SwapFault cause) = refl
 output-end (hosted.FilesFault path) = refl
 output-end hosted.WireFault = refl
 output-end hosted.TurnsSpent = refl
-output-end hosted.NotYet = refl
 output-end hosted.NoMemory = refl
 
 wire-end : (e : Hosted) → is_wire_fault (status_of_end e) ≡ is_wire_end e
@@ -44,7 +43,6 @@ wire-end (hosted.SwapFault cause) = refl
 wire-end (hosted.FilesFault path) = refl
 wire-end hosted.WireFault = refl
 wire-end hosted.TurnsSpent = refl
-wire-end hosted.NotYet = refl
 wire-end hosted.NoMemory = refl
 
 kind-end : (e : Hosted) → IsServeEnd (status_of_end e)
@@ -55,7 +53,6 @@ kind-end (hosted.SwapFault cause) = tt
 kind-end (hosted.FilesFault path) = tt
 kind-end hosted.WireFault = tt
 kind-end hosted.TurnsSpent = tt
-kind-end hosted.NotYet = tt
 kind-end hosted.NoMemory = tt
 
 order-end : (e : Hosted) → IsInOrder e → IsServedInOrder (status_of_end e)
@@ -66,7 +63,6 @@ order-end (hosted.SwapFault cause) h = absurd h
 order-end (hosted.FilesFault path) h = absurd h
 order-end hosted.WireFault h = absurd h
 order-end hosted.TurnsSpent h = tt
-order-end hosted.NotYet h = tt
 order-end hosted.NoMemory h = tt
 
 files-end : (e : Hosted) (m n : ℕ) → BlamesHeld e m n → BlamesFiles (status_of_end e) m n
@@ -77,7 +73,6 @@ files-end (hosted.SwapFault cause) m n h = tt
 files-end (hosted.FilesFault path) m n h = h
 files-end hosted.WireFault m n h = tt
 files-end hosted.TurnsSpent m n h = tt
-files-end hosted.NotYet m n h = tt
 files-end hosted.NoMemory m n h = tt
 
 swap-end : (e : Hosted) (told : Option Bytes) (last : Last) (r0 r1 : ℕ) (t0 t1 h0 h1 : Type 0) → HostTells e told last r0 r1 t0 t1 h0 h1 → SwapTells (status_of_end e) told last r0 r1 t0 t1 h0 h1
@@ -89,7 +84,6 @@ swap-end (hosted.SwapFault (Changed owner found)) told last r0 r1 t0 t1 h0 h1 a 
 swap-end (hosted.FilesFault path) told last r0 r1 t0 t1 h0 h1 a = record { cause = a.cause; faults = a.faults; truthful = a.truthful; honest = a.honest }
 swap-end hosted.WireFault told last r0 r1 t0 t1 h0 h1 a = record { cause = a.cause; faults = a.faults; truthful = a.truthful; honest = a.honest }
 swap-end hosted.TurnsSpent told last r0 r1 t0 t1 h0 h1 a = record { cause = a.cause; faults = a.faults; truthful = a.truthful; honest = a.honest }
-swap-end hosted.NotYet told last r0 r1 t0 t1 h0 h1 a = record { cause = a.cause; faults = a.faults; truthful = a.truthful; honest = a.honest }
 swap-end hosted.NoMemory told last r0 r1 t0 t1 h0 h1 a = record { cause = a.cause; faults = a.faults; truthful = a.truthful; honest = a.honest }
 
 -- what was promised of the end is so of its status
@@ -119,7 +113,6 @@ ended-not-done s (hosted.SwapFault cause) is n d = let h = sym is ∙ d in absur
 ended-not-done s (hosted.FilesFault path) is n d = let h = sym is ∙ d in absurd cc
 ended-not-done s hosted.WireFault is n d = let h = sym is ∙ d in absurd cc
 ended-not-done s hosted.TurnsSpent is n d = let h = sym is ∙ d in absurd cc
-ended-not-done s hosted.NotYet is n d = let h = sym is ∙ d in absurd cc
 ended-not-done s hosted.NoMemory is n d = let h = sym is ∙ d in absurd cc
 
 -- the game was hosted, with a record or a log

@@ -70,11 +70,10 @@ pub begun-tells : {told : Option Bytes} {last : Last} {r0 r1 w0 w1 : ℕ} {t0 t1
 begun-tells h = record { cause = h.cause; faults = h.faults; truthful = h.truthful; honest = h.honest }
 
 -- a turn was not carried out
-pub stop-tells : (at : ℕ) (e : VmFault) (told : Option Bytes) (last : Last) (r0 r1 : ℕ) (t0 t1 h0 h1 : Type 0) (live : Live) → TurnTells told last r0 r1 t0 t1 h0 h1 live (Err (read_fault e)) → SwapTells (stop_status at e) told last r0 r1 t0 t1 h0 h1
-stop-tells at faults.NoMemory told last r0 r1 t0 t1 h0 h1 live a = record { cause = tt; faults = a.faults; truthful = a.truthful; honest = λ x. ((a.honest x).0, λ y. tt) }
-stop-tells at faults.NotYet told last r0 r1 t0 t1 h0 h1 live a = record { cause = tt; faults = a.faults; truthful = a.truthful; honest = λ x. ((a.honest x).0, λ y. tt) }
-stop-tells at (faults.Swap Read) told last r0 r1 t0 t1 h0 h1 live a = record { cause = (live, a.cause); faults = a.faults; truthful = a.truthful; honest = a.honest }
-stop-tells at (faults.Swap (Changed owner found)) told last r0 r1 t0 t1 h0 h1 live a = record { cause = (live, a.cause); faults = a.faults; truthful = a.truthful; honest = a.honest }
+pub stop-tells : (e : VmFault) (told : Option Bytes) (last : Last) (r0 r1 : ℕ) (t0 t1 h0 h1 : Type 0) (live : Live) → TurnTells told last r0 r1 t0 t1 h0 h1 live (Err (read_fault e)) → SwapTells (stop_status e) told last r0 r1 t0 t1 h0 h1
+stop-tells faults.NoMemory told last r0 r1 t0 t1 h0 h1 live a = record { cause = tt; faults = a.faults; truthful = a.truthful; honest = λ x. ((a.honest x).0, λ y. tt) }
+stop-tells (faults.Swap Read) told last r0 r1 t0 t1 h0 h1 live a = record { cause = (live, a.cause); faults = a.faults; truthful = a.truthful; honest = a.honest }
+stop-tells (faults.Swap (Changed owner found)) told last r0 r1 t0 t1 h0 h1 live a = record { cause = (live, a.cause); faults = a.faults; truthful = a.truthful; honest = a.honest }
 
 -- a device that is honest and truthful, and of which no read failed, is not blamed
 pub never-blamed : (s : Status) (told : Option Bytes) (last : Last) (r0 r1 : ℕ) (t0 t1 h0 h1 : Type 0) → SwapTells s told last r0 r1 t0 t1 h0 h1 → h1 → t1 → (Rose r0 r1 → ⊥) → (cause : SwapCause) → s ≡ ends.SwapFault cause → ⊥

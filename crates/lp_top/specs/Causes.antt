@@ -11,7 +11,7 @@ use Rattle.lp_world.specs.declared.live.Live.{Live}
 use Rattle.lp_driver.specs.VmFault.{VmFault}
 use Rattle.lp_driver.specs.VmFault.TheVariants as faults
 use Rattle.lp_top.specs.declared.status.Status.{Status}
-use Rattle.lp_top.specs.declared.status.Status.TheVariants.{Done, BadScript, InputFault, OutputFault, SwapFault, FilesFault, WireFault, NoMemory}
+use Rattle.lp_top.specs.declared.status.Status.TheVariants.{Done, InputFault, OutputFault, SwapFault, FilesFault, WireFault, NoMemory}
 
 -- the input is blamed only where the source's count of faults rose between two moments
 abbrev pub BlamesInput : Status → ℕ → ℕ → Type 0
@@ -55,11 +55,10 @@ pub record SwapTells (status : Status) (told : Option Bytes) (last : Last) (read
   pub truthful : true1 → true0
   pub honest : honest1 → honest0 × (true1 → IsHonestEnd status)
 
--- the end of a turn of an item at this place that was not carried out
-abbrev pub stop_status : ℕ → VmFault → Status
-stop_status at faults.NoMemory = NoMemory
-stop_status at (faults.Swap cause) = SwapFault cause
-stop_status at faults.NotYet = BadScript at
+-- the end of a start, or of a turn, that was not carried out
+abbrev pub stop_status : VmFault → Status
+stop_status faults.NoMemory = NoMemory
+stop_status (faults.Swap cause) = SwapFault cause
 
 -- the end that stands in an answer, if there is one
 abbrev pub end_in : {A : Type 0} → Result A Status → Status

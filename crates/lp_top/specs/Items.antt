@@ -52,12 +52,6 @@ pub record StopsAt (bytes : List ℕ) (xs : List Item) : Type 0 where
   pub begins : Holds bytes (xs ++ item ∷ [])
   pub turns : has_turn item ≡ true
 
--- An item stands here that a replay does not carry out yet: the start or an event in whose turn something is asked that is not carried
--- out yet.
-pub record IsNotRunYet (bytes : List ℕ) (xs : List Item) (at : ℕ) : Type 0 where
-  pub stops : StopsAt bytes xs
-  pub place : at ≡ length (spellings xs)
-
 -- THE RUN of these items has these outputs, that of the start first: on their files, with their seed and their moment, and a turn
 -- for each of their events. It is that of the written meaning, by each front end that there is, and there is one.
 abbrev pub IsRunOf : List Item → List (List Out) → Type 0

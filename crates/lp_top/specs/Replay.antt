@@ -27,13 +27,13 @@ use Rattle.lp_top.specs.declared.status.Status.{Status}
 use Rattle.lp_top.specs.declared.status.Status.TheVariants.{Done, BadWords, BadScript, NoMaster, TooLarge, InputFault, OutputFault, SwapFault, FilesFault, WireFault, TurnsSpent, NoMemory}
 use Rattle.lp_top.specs.Reports.{IsBehind, IsBehindState}
 use Rattle.lp_top.specs.Coming.{HasCome}
-use Rattle.lp_top.specs.Items.{Holds, StopsAt, IsNotRunYet, IsRunOf, HasNoMaster, Blocks, has_started, moment_of, world_files}
+use Rattle.lp_top.specs.Items.{Holds, StopsAt, IsRunOf, HasNoMaster, Blocks, has_started, moment_of, world_files}
 
 -- The input, with the items that were read, gives this end. At Done it is the script of these items, and they have a run.
 abbrev pub Ends : List ℕ → List Item → Status → Type 0
 Ends bytes xs Done = IsScript bytes xs × (length bytes ≤ longest_input) × ((outputs : List (List Out)) × IsRunOf xs outputs)
 Ends bytes xs BadWords = ⊥
-Ends bytes xs (BadScript at) = IsBadScript bytes xs at ⊎ IsNotRunYet bytes xs at
+Ends bytes xs (BadScript at) = IsBadScript bytes xs at
 Ends bytes xs (NoMaster fs) = Holds bytes (xs ++ items.Start ∷ []) × (has_started xs ≡ false) × HasNoMaster xs fs
 Ends bytes xs TooLarge = IsTooLarge bytes xs
 Ends bytes xs InputFault = Holds bytes xs
@@ -162,20 +162,20 @@ pub record IsDone (swap_time : ℕ) (event : Event) (told0 : Option Bytes) (live
 abbrev pub AreOf : Event → Option Bytes → Live → List Out → Type 0
 AreOf event told live outs = (told1 : Option Bytes) × (live1 : Live) × TurnsAs event told live told1 live1 outs
 
--- A turn with such outputs was not carried out whole, of an item at this place: its block was not written, or where the sink failed a front of it.
-abbrev pub Interrupts : (List Out → Type 0) → ℕ → Option (List ℕ) → Option (List ℕ) → Status → Type 0
-Interrupts turned at before after NoMemory = after ≡ before
-Interrupts turned at before after (SwapFault cause) = after ≡ before
-Interrupts turned at before after (BadScript n) = (after ≡ before) × (n ≡ at)
-Interrupts turned at before after OutputFault = (outs : List Out) × turned outs × IsCut before after (block outs)
-Interrupts turned at before after Done = ⊥
-Interrupts turned at before after BadWords = ⊥
-Interrupts turned at before after (NoMaster fs) = ⊥
-Interrupts turned at before after TooLarge = ⊥
-Interrupts turned at before after InputFault = ⊥
-Interrupts turned at before after (FilesFault path) = ⊥
-Interrupts turned at before after WireFault = ⊥
-Interrupts turned at before after TurnsSpent = ⊥
+-- A turn with such outputs was not carried out whole: its block was not written, or where the sink failed a front of it.
+abbrev pub Interrupts : (List Out → Type 0) → Option (List ℕ) → Option (List ℕ) → Status → Type 0
+Interrupts turned before after NoMemory = after ≡ before
+Interrupts turned before after (SwapFault cause) = after ≡ before
+Interrupts turned before after (BadScript at) = ⊥
+Interrupts turned before after OutputFault = (outs : List Out) × turned outs × IsCut before after (block outs)
+Interrupts turned before after Done = ⊥
+Interrupts turned before after BadWords = ⊥
+Interrupts turned before after (NoMaster fs) = ⊥
+Interrupts turned before after TooLarge = ⊥
+Interrupts turned before after InputFault = ⊥
+Interrupts turned before after (FilesFault path) = ⊥
+Interrupts turned before after WireFault = ⊥
+Interrupts turned before after TurnsSpent = ⊥
 
 -- The last piece was written, or a front of it.
 abbrev pub Finishes : List ℕ → Option (List ℕ) → Option (List ℕ) → Status → Type 0
@@ -204,18 +204,3 @@ IsReplayEnd (FilesFault path) = ⊥
 IsReplayEnd WireFault = ⊥
 IsReplayEnd TurnsSpent = ⊥
 IsReplayEnd s = Unit {0}
-
--- An end of a script that was carried out, to its end or up to an item that is not carried out yet; or memory ran out.
-abbrev pub IsCarriedOut : List ℕ → Status → Type 0
-IsCarriedOut bytes Done = Unit {0}
-IsCarriedOut bytes NoMemory = Unit {0}
-IsCarriedOut bytes (BadScript at) = (xs : List Item) × IsNotRunYet bytes xs at
-IsCarriedOut bytes BadWords = ⊥
-IsCarriedOut bytes (NoMaster fs) = ⊥
-IsCarriedOut bytes TooLarge = ⊥
-IsCarriedOut bytes InputFault = ⊥
-IsCarriedOut bytes OutputFault = ⊥
-IsCarriedOut bytes (SwapFault cause) = ⊥
-IsCarriedOut bytes (FilesFault path) = ⊥
-IsCarriedOut bytes WireFault = ⊥
-IsCarriedOut bytes TurnsSpent = ⊥

@@ -30,12 +30,12 @@ status_of_end (hosted.SwapFault cause) = SwapFault cause
 status_of_end (hosted.FilesFault path) = FilesFault path
 status_of_end hosted.WireFault = WireFault
 status_of_end hosted.TurnsSpent = TurnsSpent
-status_of_end hosted.NotYet = BadScript 0
 status_of_end hosted.NoMemory = NoMemory
 
 -- the ends that serving may have once the words are right
 abbrev pub IsServeEnd : Status → Type 0
 IsServeEnd BadWords = ⊥
+IsServeEnd (BadScript at) = ⊥
 IsServeEnd TooLarge = ⊥
 IsServeEnd InputFault = ⊥
 IsServeEnd s = Unit {0}
@@ -48,13 +48,12 @@ pub record Serves (serving : Serving) (held : Option Held) (opening : ℕ) (befo
   pub hosted : AsHosted end (λ bytes stops polls files. IsHosted serving.seed (keeps_with serving.record_file) held opening before now bytes stops polls files told0 told1) left unserved (ending (keeps_with serving.record_file)) serving.turns
   pub no_master : IsNoMaster end (HasNoMaster serving.seed opening held) unserved
 
--- the game ended by the operator's stop, by spent polls, for want of a master or of memory, or where something was asked that is not carried out yet
+-- the game ended by the operator's stop, by spent polls, or for want of a master or of memory
 abbrev pub IsServedInOrder : Status → Type 0
 IsServedInOrder Done = Unit {0}
 IsServedInOrder TurnsSpent = Unit {0}
 IsServedInOrder (NoMaster faults) = Unit {0}
 IsServedInOrder NoMemory = Unit {0}
-IsServedInOrder (BadScript at) = Unit {0}
 IsServedInOrder s = ⊥
 
 -- what the sink held back was passed on, or a flush failed

@@ -22,3 +22,8 @@ port_of command = 0
 abbrev pub control_of : Command → ℕ
 control_of (Serve serving) = serving.control
 control_of command = 0
+
+-- the value of `--ws`, or 0 where they have none
+abbrev pub ws_of : Command → ℕ
+ws_of (Serve serving) = serving.ws
+ws_of command = 0

@@ -13,7 +13,7 @@ ghost use Rattle.lp_top.specs.Check.{Checks};
 ghost use Rattle.lp_top.specs.Make.{Makes};
 ghost use Rattle.lp_swapfile.specs.Counts.{Rose as SwapRose};
 ghost use Rattle.lp_top.specs.Items.{HasMaster};
-ghost use Rattle.lp_top.specs.Replay.{IsCarriedOut, Replays};
+ghost use Rattle.lp_top.specs.Replay.{Replays};
 ghost use Rattle.lp_serve_words.specs.declared.words.Serving.{Serving};
 ghost use Rattle.lp_top.specs.Serves.{IsServedInOrder, Serves};
 ghost use Rattle.lp_top.specs.Words.{Name, NameMake, NameServe, command_in};
@@ -89,10 +89,8 @@ fn text_of(path: &Option<FilePath>) -> Option<&str>
 ///   or the operator stopped a game that was served, and no changed file stays unwritten.
 /// - `BadWords`: exactly where the words name no command, unless there is no memory to see it; nothing
 ///   was read or written.
-/// - `BadScript`: at this offset stands no item that fits there; or one that a replay does not carry
-///   out yet: a `start` or an event in whose turn something is asked that is not carried out yet. A
-///   replay has written the blocks of the turns before, a check nothing. A game that is served ends with
-///   it, at offset 0, where something was asked that is not carried out yet.
+/// - `BadScript`: at this offset stands no item that fits there. A replay has written the blocks of the
+///   turns before, a check nothing. `serve` and `make`, which read no script, never answer it.
 /// - `NoMaster`: no master is made of the files, for these faults; nothing was written. A check never
 ///   answers it.
 /// - `TooLarge`: the input goes on past 67108864 bytes, and where its items end within them nothing
@@ -149,12 +147,11 @@ pub fn run<S: Source, K: Sink, F: Files, W: Truthful, N: Wire>(
     ensures wire_fault { Counts (is_wire_fault result) (N.faults wire.old) (N.faults wire.new) }
     // Only a replay and a game that is served use the swap file.
     ensures swapless { ((swap_time : ℕ) (report : Bool) → Name words.now (Command.Replay swap_time report) → ⊥) → (NameServe words.now → ⊥) → swap.new ≡ swap.old }
-    // A script of whose files a master is made, over devices that do not fail and a swap file that is honest, is carried out to its end, or
-    // up to an item that is not carried out yet.
+    // A script of whose files a master is made, over devices that do not fail and a swap file that is honest, is carried out to its end.
     ensures complete { (swap_time : ℕ) (report : Bool) (b : List ℕ) (xs : List I) → Name words.now (Command.Replay swap_time report) → S.remaining input.old ≡ Some b → length b ≤ longest_input → IsScript b xs → HasMaster xs
         → W.is_honest swap.new → W.is_truthful swap.new → (SwapRose (W.read_faults swap.old) (W.read_faults swap.new) → ⊥)
         → (Rose (S.faults input.old) (S.faults input.new) → ⊥) → (Rose (K.faults out.old) (K.faults out.new) → ⊥) → (Rose (K.zeros out.old) (K.zeros out.new) → ⊥)
-        → IsCarriedOut b result }
+        → (result ≡ Status.Done) ⊎ (result ≡ Status.NoMemory) }
     // Each script, over devices that do not fail, is checked to its end.
     ensures complete_check { (simul : Option (List ℕ)) (b : List ℕ) (xs : List I) → Name words.now (Command.Check simul) → S.remaining input.old ≡ Some b → length b ≤ longest_input → IsScript b xs
         → (Rose (S.faults input.old) (S.faults input.new) → ⊥) → (Rose (K.faults out.old) (K.faults out.new) → ⊥) → (Rose (K.zeros out.old) (K.zeros out.new) → ⊥)

@@ -1,6 +1,6 @@
 //! Which devices a command wants.
 ghost use Rattle.std.specs.Prelude.{◌≡◌, None};
-ghost use Rattle.lp_top.specs.Wants.{control_of, lib_of, port_of, script_file_of};
+ghost use Rattle.lp_top.specs.Wants.{control_of, lib_of, port_of, script_file_of, ws_of};
 ghost use Rattle.lp_top.specs.declared.words.Command.{Command as C};
 
 use crate::words::Command;
@@ -18,6 +18,8 @@ pub struct Wants {
     pub port: u16,
     /// The port of the operator, or 0 where nobody is served.
     pub control: u16,
+    /// The port of players in a browser, or 0 where there is none.
+    pub ws: u16,
 }
 
 // What a game that is served wants. Takes no memory.
@@ -26,12 +28,14 @@ fn wanted_to_serve(serving: Serving) -> Wants
     ensures script_file { result.script_file ≡ script_file_of (C.Serve serving) }
     ensures port { result.port ≡ port_of (C.Serve serving) }
     ensures control { result.control ≡ control_of (C.Serve serving) }
+    ensures ws { result.ws ≡ ws_of (C.Serve serving) }
 {
     Wants {
         lib: Some(serving.lib),
         script_file: serving.record_file,
         port: serving.port,
         control: serving.control,
+        ws: serving.ws,
     }
 }
 
@@ -41,12 +45,14 @@ fn no_wants() -> Wants
     ensures script_file { result.script_file ≡ None }
     ensures port { result.port ≡ 0 }
     ensures control { result.control ≡ 0 }
+    ensures ws { result.ws ≡ 0 }
 {
     Wants {
         lib: None,
         script_file: None,
         port: 0,
         control: 0,
+        ws: 0,
     }
 }
 
@@ -56,6 +62,7 @@ pub(crate) fn wanted_by(command: Command) -> Wants
     ensures script_file { result.script_file ≡ script_file_of command }
     ensures port { result.port ≡ port_of command }
     ensures control { result.control ≡ control_of command }
+    ensures ws { result.ws ≡ ws_of command }
 {
     match command {
         Command::Serve(serving) => wanted_to_serve(serving),

@@ -25,22 +25,20 @@ use lp_script::{Reader, write_outs};
 use lp_world::live::Live;
 use std::alloc::Global;
 
-// The end of a turn, of an item at this offset, that was not carried out.
-fn stopped(fault: VmFault, at: u64) -> Status
-    ensures { result ≡ stop_status at fault }
+// The end of a start, or of a turn, that was not carried out.
+fn stopped(fault: VmFault) -> Status
+    ensures { result ≡ stop_status fault }
 {
     match fault {
         VmFault::NoMemory => Status::NoMemory,
         VmFault::Swap(cause) => Status::SwapFault { cause },
-        VmFault::NotYet => Status::BadScript { at },
     }
 }
 
-// Carries out one event, which stands at this offset, and writes its block.
+// Carries out one event, and writes its block.
 fn carry_out<K: Sink, W: Truthful>(
     live: &mut Live,
     event: &Event,
-    at: u64,
     out: &mut K,
     swap: &mut W,
     swap_time: u64,
@@ -49,7 +47,7 @@ fn carry_out<K: Sink, W: Truthful>(
     requires closed { IsClosed live.old }
     requires rest { (w : World) × IsAtRest (W.content swap.old) live.old w }
     ensures done { OnOk result (IsDone swap_time event.now (W.content swap.old) live.old (W.content swap.new) live.new (K.written out.old) (K.written out.new)) }
-    ensures end { IfErr result (Interrupts (AreOf event.now (W.content swap.old) live.old) at (K.written out.old) (K.written out.new)) }
+    ensures end { IfErr result (Interrupts (AreOf event.now (W.content swap.old) live.old) (K.written out.old) (K.written out.new)) }
     ensures cause { IfErr result (λ s. BlamesOutput s (K.faults out.old) (K.faults out.new) (K.zeros out.old) (K.zeros out.new)) }
     ensures no_fall { K.faults out.old ≤ K.faults out.new }
     ensures zeros_no_fall { K.zeros out.old ≤ K.zeros out.new }
@@ -61,7 +59,7 @@ fn carry_out<K: Sink, W: Truthful>(
             Ok(()) => Ok(()),
             Err(_) => Err(Status::OutputFault),
         },
-        Err(fault) => Err(stopped(fault, at)),
+        Err(fault) => Err(stopped(fault)),
     }
 }
 
@@ -69,7 +67,6 @@ fn carry_out<K: Sink, W: Truthful>(
 fn carry<K: Sink, W: Truthful>(
     live: &mut Live,
     event: Event,
-    at: u64,
     out: &mut K,
     swap: &mut W,
     swap_time: u64,
@@ -78,14 +75,14 @@ fn carry<K: Sink, W: Truthful>(
     requires closed { IsClosed live.old }
     requires rest { (w : World) × IsAtRest (W.content swap.old) live.old w }
     ensures done { OnOk result (IsDone swap_time event (W.content swap.old) live.old (W.content swap.new) live.new (K.written out.old) (K.written out.new)) }
-    ensures end { IfErr result (Interrupts (AreOf event (W.content swap.old) live.old) at (K.written out.old) (K.written out.new)) }
+    ensures end { IfErr result (Interrupts (AreOf event (W.content swap.old) live.old) (K.written out.old) (K.written out.new)) }
     ensures cause { IfErr result (λ s. BlamesOutput s (K.faults out.old) (K.faults out.new) (K.zeros out.old) (K.zeros out.new)) }
     ensures no_fall { K.faults out.old ≤ K.faults out.new }
     ensures zeros_no_fall { K.zeros out.old ≤ K.zeros out.new }
     ensures swap { SwapTells (end_in result) (W.content swap.new) (W.last swap.new) (W.read_faults swap.old) (W.read_faults swap.new)
         (W.is_truthful swap.old) (W.is_truthful swap.new) (W.is_honest swap.old) (W.is_honest swap.new) }
 {
-    carry_out(live, &event, at, out, swap, swap_time)
+    carry_out(live, &event, out, swap, swap_time)
 }
 
 // Carries out the events up to the end.
@@ -116,7 +113,7 @@ fn events<S: Source, K: Sink, W: Truthful>(
             Err(status) => return status,
         };
         match item {
-            Item::Event(event) => match carry(&mut live, event, reader.at(), out, swap, swap_time) {
+            Item::Event(event) => match carry(&mut live, event, out, swap, swap_time) {
                 Ok(()) => {}
                 Err(status) => return status,
             },
@@ -178,7 +175,6 @@ fn begin<S: Source, K: Sink, W: Truthful>(
     ensures swap { SwapTells result (W.content swap.new) (W.last swap.new) (W.read_faults swap.old) (W.read_faults swap.new)
         (W.is_truthful swap.old) (W.is_truthful swap.new) (W.is_honest swap.old) (W.is_honest swap.new) }
 {
-    let at = reader.at();
     let Opening {
         store,
         seed,
@@ -198,7 +194,7 @@ fn begin<S: Source, K: Sink, W: Truthful>(
         Err(StartFault::NoMaster { faults }) => Status::NoMaster {
             faults: Faults::from_vec(faults),
         },
-        Err(StartFault::Stopped(fault)) => stopped(fault, at),
+        Err(StartFault::Stopped(fault)) => stopped(fault),
     }
 }
 

@@ -42,7 +42,6 @@ fn status_of(end: Hosted) -> Status
         Hosted::FilesFault { path } => Status::FilesFault { path },
         Hosted::WireFault => Status::WireFault,
         Hosted::TurnsSpent => Status::TurnsSpent,
-        Hosted::NotYet => Status::BadScript { at: 0 },
         Hosted::NoMemory => Status::NoMemory,
     }
 }

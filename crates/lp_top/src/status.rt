@@ -44,8 +44,7 @@ pub enum Status {
     Done,
     /// The words name no command.
     BadWords,
-    /// At this offset of the input stands no item of a script, or one that may not stand there, or that a replay does not
-    /// carry out yet.
+    /// At this offset of the input stands no item of a script, or one that may not stand there.
     BadScript { at: u64 },
     /// The master could not be made.
     NoMaster { faults: Faults },

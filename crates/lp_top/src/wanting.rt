@@ -1,7 +1,7 @@
 //! Which devices the words of the command line want.
 ghost use Rattle.std.specs.Prelude.{◌≡◌, Err, IfOk, None, map, string_bytes};
 ghost use Rattle.lp_serve_words.specs.declared.words.WordsFault.TheVariants as fault;
-ghost use Rattle.lp_top.specs.Wants.{control_of, lib_of, port_of, script_file_of};
+ghost use Rattle.lp_top.specs.Wants.{control_of, lib_of, port_of, script_file_of, ws_of};
 ghost use Rattle.lp_top.specs.Words.{Name, command_in};
 ghost use Rattle.lp_top.specs.declared.words.Command.{Command as C};
 
@@ -10,7 +10,7 @@ use crate::words::command_of;
 use lp_serve_words::WordsFault;
 use std::alloc::Global;
 
-/// Which devices the words want: the values of their options `--lib`, `--record`, `--port` and `--control`, and none or 0 where they
+/// Which devices the words want: the values of their options `--lib`, `--record`, `--port`, `--control` and `--ws`, and none or 0 where they
 /// have no such option.
 ///
 /// # Errors
@@ -22,6 +22,7 @@ pub fn wants(alloc: Global, words: &[String]) -> Result<devices::Wants, WordsFau
     ensures script_file { IfOk result (λ w. (command : C) → Name words.now command → w.script_file ≡ script_file_of command) }
     ensures port { IfOk result (λ w. (command : C) → Name words.now command → w.port ≡ port_of command) }
     ensures control { IfOk result (λ w. (command : C) → Name words.now command → w.control ≡ control_of command) }
+    ensures ws { IfOk result (λ w. (command : C) → Name words.now command → w.ws ≡ ws_of command) }
 {
     match command_of(alloc, words) {
         Ok(command) => Ok(devices::wanted_by(command)),

@@ -11,6 +11,7 @@ pub mod Turning
 pub mod Askings
 pub mod Reachings
 pub mod Answered
+pub mod Left
 pub mod Lookings
 pub mod Shadowings
 pub mod Keepings

@@ -2,7 +2,6 @@
 use Rattle.std.proofs.Common.{◌≡◌, ◌∙◌, ◌++◌, ◌∷◌, [], ◌+◌, ◌<◌, ◌≤◌, ℕ, zero, suc, List, Option, None, Bool, true, false, refl, ap, sym, subst, map, append-nil, append_assoc, arith}
 use Rattle.std.specs.Prelude.{IsSome, reverse}
 use Rattle.std.specs.Option.{option_to_list}
-use Rattle.std.specs.Str.{IsAscii}
 use Rattle.std.proofs.Math.Nat.{le_refl, le_trans}
 use Rattle.std.proofs.lemmas.List.{reverse-append}
 use Rattle.lp_values.specs.declared.id.ObjId.{ObjId}
@@ -480,9 +479,6 @@ module _ (caller : Option ObjId) (at : Option Place) (name : List ℕ) (purpose 
 
       course_is : load_course name purpose by s ≡ going_course (suc budget1) job goings.Simul loader paid_state
       course_is = begun.course
-
-    pub load_ascii : CanLoad caller at told live asker0 budget0 → IsAscii job.name
-    load_ascii h = (begun h.programs h.before h.by h.state h.behind).ascii
 
     pub load_can_go : CanLoad caller at told live asker0 budget0 → CanLoadOn caller at job told live asker1 budget1
     load_can_go h = record {

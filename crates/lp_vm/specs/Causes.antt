@@ -10,11 +10,10 @@ use Rattle.lp_targets.specs.Brought.{IsFaultOf}
 use Rattle.lp_vm.specs.declared.fault.VmFault.{VmFault}
 use Rattle.lp_vm.specs.declared.fault.VmFault.TheVariants as faults
 
--- a fault as one of the reads: what is not carried out is no answer of a read, as want of memory is none
+-- a fault as one of the reads: want of memory is no answer of a read
 abbrev pub read_fault : VmFault → EnterFault
 read_fault faults.NoMemory = enter_faults.NoMemory
 read_fault (faults.Swap cause) = enter_faults.Swap cause
-read_fault faults.NotYet = enter_faults.NoMemory
 
 -- what was answered, as far as the reads go
 abbrev pub read_of : {A : Type 0} → Result A VmFault → Result (Unit {0}) EnterFault

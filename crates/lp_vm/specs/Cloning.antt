@@ -30,7 +30,7 @@ use Rattle.lp_vm.specs.Working.{WorkedTo}
 
 -- why nothing is cloned, as why a call is not answered
 abbrev pub cloning_fault : CloningFault → VmFault
-cloning_fault cloning_faults.NameTaken = faults.NotYet
+cloning_fault cloning_faults.NameTaken = faults.NoMemory
 cloning_fault (cloning_faults.Swap cause) = faults.Swap cause
 cloning_fault cloning_faults.NoMemory = faults.NoMemory
 

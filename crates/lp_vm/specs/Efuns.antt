@@ -8,10 +8,9 @@ use Rattle.lp_world.specs.declared.live.Live.{Live}
 use Rattle.lp_step.specs.Steps.{IsFit}
 use Rattle.lp_efuns.specs.declared.answer.Answer.{Answer}
 use Rattle.lp_efuns.specs.declared.answer.Answer.TheVariants as answers
-use Rattle.lp_efuns.specs.Plain.{is_plain}
 use Rattle.lp_calling.specs.declared.job.Job.{Job}
-use Rattle.lp_calling.specs.Beginning.{is_calling}
 use Rattle.lp_calling.specs.Jobs.{IsJobOn, IsReady}
+use Rattle.lp_object_efuns.specs.Called.{is_with_program}
 use Rattle.lp_asking.specs.declared.asker.Asker.{Asker}
 use Rattle.lp_asking.specs.declared.ending.Cause.{Cause}
 use Rattle.lp_asking.specs.declared.ending.Cause.TheVariants as causes
@@ -36,14 +35,31 @@ ending_of (answers.Error e) = stopped_by (causes.Failed e)
 ending_of (answers.Thrown v) = stopped_by (causes.Thrown v)
 ending_of answers.Spent = stopped_by causes.Spent
 
--- an efun ends an object
+-- Which efuns there are. Beside those that are answered at once, those that go on as jobs, and those that look into the program of an
+-- object, four stand alone: one shadows, one clones, one carries out a line, and one ends an object.
+abbrev pub is_shadow : Efun → Bool
+is_shadow efuns.Shadow = true
+is_shadow _ = false
+
+abbrev pub is_clone : Efun → Bool
+is_clone efuns.CloneObject = true
+is_clone _ = false
+
+abbrev pub is_command : Efun → Bool
+is_command efuns.Command = true
+is_command _ = false
+
 abbrev pub is_ending : Efun → Bool
 is_ending efuns.Destruct = true
 is_ending _ = false
 
--- An efun is not carried out yet: it is neither one that is answered at once nor one that goes on as a job.
-abbrev pub IsNotYet : Efun → Type 0
-IsNotYet e = (is_plain e ≡ false) × (is_calling e ≡ false) × (is_ending e ≡ false)
+-- it is not carried out by steps of the cycle that are for it alone
+abbrev pub HasNoSteps : Efun → Type 0
+HasNoSteps e = (is_clone e ≡ false) × (is_command e ≡ false)
+
+-- nor does a program come into memory for it
+abbrev pub BringsNothing : Efun → Type 0
+BringsNothing e = (is_with_program e ≡ false) × (is_shadow e ≡ false) × HasNoSteps e
 
 -- An efun goes on as a job. That can work, and however it ends, the efun is answered by that.
 pub record HasBegunEfun (at : Place) (efun : Efun) (args : ℕ) (live0 : Live) (stack0 : List Value) (asker0 : Asker) (budget0 : ℕ) (job : Job) (live1 : Live) (stack1 : List Value) (asker1 : Asker) (budget1 : ℕ) : Type 0 where

@@ -6,7 +6,4 @@ use Rattle.lp_vm.specs.declared.fault.VmFault.TheVariants as faults
 
 abbrev pub load_fault : LoadFault → VmFault
 load_fault (load_faults.Swap cause) = faults.Swap cause
-load_fault load_faults.TooLarge = faults.NotYet
-load_fault load_faults.NotYet = faults.NotYet
-load_fault load_faults.NameTaken = faults.NotYet
 load_fault load_faults.NoMemory = faults.NoMemory

@@ -1,12 +1,11 @@
 //! What a question of a job for a function reaches.
-ghost use Rattle.std.specs.Prelude.{◌≡◌, ◌≤◌, IfErr, IfOk, IfSome, IsSome, length};
+ghost use Rattle.std.specs.Prelude.{◌≡◌, ◌≤◌, IfOk, IfSome, IsSome, length};
 ghost use Rattle.lp_calling.specs.declared.job.Question.TheVariants as questions;
 ghost use Rattle.lp_step.specs.Steps.{KeepsVariables};
 ghost use Rattle.lp_world.specs.Closed.{IsClosed};
 ghost use Rattle.lp_world.specs.Rows.{row_at};
-ghost use Rattle.lp_reaching.specs.Reaching.{IsInMemory};
+ghost use Rattle.lp_reaching.specs.Reaching.{CanApply, FindsApplied, IsInMemory};
 ghost use Rattle.lp_vm.specs.Causes.{Tells, read_of};
-ghost use Rattle.lp_vm.specs.declared.fault.VmFault.TheVariants.{NotYet};
 ghost use Rattle.lp_vm.specs.Working.{CanReach, FindsAsked};
 
 use crate::fault::VmFault;
@@ -39,7 +38,6 @@ fn reach_short<W: Truthful>(
     ensures home { KeepsVariables live.old.objects live.new.objects }
     ensures cells { live.new.cells ≡ live.old.cells }
     ensures outputs { live.new.outputs ≡ live.old.outputs }
-    ensures yet { IfErr result (λ f. f ≡ NotYet → ⊥) }
     ensures tells { Tells (W.content swap.new) (W.last swap.new) (W.read_faults swap.old) (W.read_faults swap.new) (W.write_faults swap.old) (W.write_faults swap.new)
         (W.is_truthful swap.old) (W.is_truthful swap.new) (W.is_honest swap.old) (W.is_honest swap.new) live.new (read_of result) }
 {
@@ -71,7 +69,6 @@ fn reach_long<W: Truthful>(
     ensures home { KeepsVariables live.old.objects live.new.objects }
     ensures cells { live.new.cells ≡ live.old.cells }
     ensures outputs { live.new.outputs ≡ live.old.outputs }
-    ensures yet { IfErr result (λ f. f ≡ NotYet → ⊥) }
     ensures tells { Tells (W.content swap.new) (W.last swap.new) (W.read_faults swap.old) (W.read_faults swap.new) (W.write_faults swap.old) (W.write_faults swap.new)
         (W.is_truthful swap.old) (W.is_truthful swap.new) (W.is_honest swap.old) (W.is_honest swap.new) live.new (read_of result) }
 {
@@ -102,7 +99,6 @@ pub fn reach_other<W: Truthful>(
     ensures home { KeepsVariables live.old.objects live.new.objects }
     ensures cells { live.new.cells ≡ live.old.cells }
     ensures outputs { live.new.outputs ≡ live.old.outputs }
-    ensures yet { IfErr result (λ f. f ≡ NotYet → ⊥) }
     ensures tells { Tells (W.content swap.new) (W.last swap.new) (W.read_faults swap.old) (W.read_faults swap.new) (W.write_faults swap.old) (W.write_faults swap.new)
         (W.is_truthful swap.old) (W.is_truthful swap.new) (W.is_honest swap.old) (W.is_honest swap.new) live.new (read_of result) }
 {
@@ -132,9 +128,38 @@ pub fn reach_applied<W: Truthful>(
     ensures home { KeepsVariables live.old.objects live.new.objects }
     ensures cells { live.new.cells ≡ live.old.cells }
     ensures outputs { live.new.outputs ≡ live.old.outputs }
-    ensures yet { IfErr result (λ f. f ≡ NotYet → ⊥) }
     ensures tells { Tells (W.content swap.new) (W.last swap.new) (W.read_faults swap.old) (W.read_faults swap.new) (W.write_faults swap.old) (W.write_faults swap.new)
         (W.is_truthful swap.old) (W.is_truthful swap.new) (W.is_honest swap.old) (W.is_honest swap.new) live.new (read_of result) }
 {
     Ok(find_applied(live, swap, Some(this), ob, applied.name())?)
+}
+
+/// A function of an object, by its name, as it is applied. What is needed for the function comes into memory. A name that is not of
+/// ASCII is that of no function.
+///
+/// # Errors
+/// `NoMemory` and `Swap` as where a running function asks.
+pub fn reach_named<W: Truthful>(
+    live: &mut Live,
+    swap: &mut W,
+    caller: Option<ObjId>,
+    ob: ObjId,
+    name: &Text,
+) -> Result<Option<Reached>, VmFault>
+    requires closed { IsClosed live.old }
+    requires object { IsSome (row_at live.old.objects ob.0) }
+    requires can { CanApply (W.content swap.old) live.old caller ob name.now }
+    ensures found { IfOk result (λ r. FindsApplied caller ob name.now (W.content swap.old) live.old (W.content swap.new) live.new r) }
+    ensures there { IfOk result (λ r. IfSome r (λ x. IsInMemory live.new x.callee x.code)) }
+    ensures closed { IsClosed live.new }
+    ensures home { KeepsVariables live.old.objects live.new.objects }
+    ensures cells { live.new.cells ≡ live.old.cells }
+    ensures outputs { live.new.outputs ≡ live.old.outputs }
+    ensures tells { Tells (W.content swap.new) (W.last swap.new) (W.read_faults swap.old) (W.read_faults swap.new) (W.write_faults swap.old) (W.write_faults swap.new)
+        (W.is_truthful swap.old) (W.is_truthful swap.new) (W.is_honest swap.old) (W.is_honest swap.new) live.new (read_of result) }
+{
+    match name_of(live.alloc, name)? {
+        Some(name) => Ok(find_applied(live, swap, caller, ob, name.as_str())?),
+        None => Ok(None),
+    }
 }

@@ -7,25 +7,26 @@ ghost use Rattle.lp_vm.specs.Answering.{IsSameAsker};
 ghost use Rattle.lp_vm.specs.Causes.{Tells, read_of};
 ghost use Rattle.lp_vm.specs.Applying.{CallIsMeant, CanCall};
 
+use crate::asking::reach_named;
 use crate::cycle::answer;
 use crate::fault::VmFault;
 use lp_asking::asker::Asker;
 use lp_asking::ending::Ending;
 use lp_asking::truth::Truthful;
 use lp_front_end::law_there_is_one;
-use lp_reaching::applying::find_applied;
 use lp_values::id::ObjId;
+use lp_values::text::Text;
 use lp_values::value::Value;
 use lp_world::live::Live;
 use std::alloc::Global;
 
 /// Calls a function of an object by its name, as the driver does or an efun, whatever its modifiers; a function that there is
-/// not is answered 0. Its arguments lie on top of the stack, and are taken. Its callers are those of who asks, with `caller` as
+/// not is answered 0, and so is a name with letters beyond ASCII. Its arguments lie on top of the stack, and are taken. Its callers are those of who asks, with `caller` as
 /// the latest, if one is given.
 ///
 /// # Errors
 /// `NoMemory`, also where the swap file gave other bytes of the same digest; `Swap` where it failed or gave bytes of another
-/// digest; `NotYet` where a function asks what is not carried out yet. Nothing is said of the state then.
+/// digest. Nothing is said of the state then.
 pub fn call<W: Truthful>(
     alloc: Global,
     live: &mut Live,
@@ -34,7 +35,7 @@ pub fn call<W: Truthful>(
     asker: &mut Asker,
     caller: Option<ObjId>,
     ob: ObjId,
-    name: &str,
+    name: &Text,
     args: u32,
     budget: &mut u64,
 ) -> Result<Ending, VmFault>
@@ -51,6 +52,6 @@ pub fn call<W: Truthful>(
         (W.is_truthful swap.old) (W.is_truthful swap.new) (W.is_honest swap.old) (W.is_honest swap.new) live.new (read_of result) }
 {
     law_there_is_one();
-    let reached = find_applied(live, swap, caller, ob, name)?;
+    let reached = reach_named(live, swap, caller, ob, name)?;
     answer(alloc, live, swap, stack, asker, reached, args, budget)
 }

@@ -13,6 +13,7 @@ ghost use Rattle.lp_world.specs.Closed.{IsClosed};
 ghost use Rattle.lp_vm.specs.declared.fault.VmFault.TheVariants.{NoMemory};
 ghost use Rattle.lp_vm.specs.Causes.{Tells, read_of};
 ghost use Rattle.lp_vm.specs.Cloning.{IsBegunThere, cloning_fault};
+ghost use Rattle.lp_vm.specs.Efuns.{is_clone};
 ghost use Rattle.lp_vm.specs.Making.{StandsForOne};
 
 use crate::fault::VmFault;
@@ -31,7 +32,7 @@ impl From<CloningFault> for VmFault {
 
     fn from(e: CloningFault) -> VmFault {
         match e {
-            CloningFault::NameTaken => VmFault::NotYet,
+            CloningFault::NameTaken => VmFault::NoMemory,
             CloningFault::Swap(cause) => VmFault::Swap(cause),
             CloningFault::NoMemory => VmFault::NoMemory,
         }
@@ -40,7 +41,8 @@ impl From<CloningFault> for VmFault {
 
 /// Whether an efun clones an object.
 pub fn is_clone(efun: Efun) -> bool
-    ensures { OnTrue result (efun ≡ efuns.CloneObject) }
+    ensures value { result ≡ is_clone efun }
+    ensures only { OnTrue result (efun ≡ efuns.CloneObject) }
 {
     match efun {
         Efun::CloneObject => true,
@@ -79,8 +81,8 @@ fn without_value(ending: Ending) -> Result<Ending, VmFault>
 /// loaded, or the clone was made.
 ///
 /// # Errors
-/// `NoMemory`; `Swap` where the read of a program failed, or gave other bytes than were written; `NotYet` where a live object has
-/// the name of the clone.
+/// `NoMemory`, also where a live object has the name of the clone; `Swap` where the read of a program failed, or gave other bytes
+/// than were written.
 pub fn begin_clone<W: Truthful>(
     live: &mut Live,
     swap: &mut W,

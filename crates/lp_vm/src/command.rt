@@ -26,7 +26,7 @@ use std::alloc::Global;
 ///
 /// # Errors
 /// `NoMemory`, also where the swap file gave other bytes of the same digest; `Swap` where it failed or gave bytes of another
-/// digest; `NotYet` where a function asks what is not carried out yet. Nothing is said of the state then.
+/// digest. Nothing is said of the state then.
 pub fn command<W: Truthful>(
     alloc: Global,
     live: &mut Live,

@@ -7,6 +7,7 @@ ghost use Rattle.lp_asking.specs.Endings.{IsEndingThere};
 ghost use Rattle.lp_commanding.specs.Efuns.{IsBegunThere};
 ghost use Rattle.lp_vm.specs.declared.fault.VmFault.TheVariants.{NoMemory};
 ghost use Rattle.lp_vm.specs.CommandEfun.{BeginsAt, EndsAs, with_player};
+ghost use Rattle.lp_vm.specs.Efuns.{is_command};
 
 use crate::efuns::ending_of;
 use crate::fault::VmFault;
@@ -22,7 +23,8 @@ use lp_world::live::Live;
 
 /// Whether an efun carries out a line.
 pub fn is_command(efun: Efun) -> bool
-    ensures { OnTrue result (efun ≡ efuns.Command) }
+    ensures value { result ≡ is_command efun }
+    ensures only { OnTrue result (efun ≡ efuns.Command) }
 {
     match efun {
         Efun::Command => true,

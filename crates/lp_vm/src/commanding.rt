@@ -13,8 +13,8 @@ ghost use Rattle.lp_vm.specs.Answering.{IsSameAsker};
 ghost use Rattle.lp_vm.specs.Causes.{Tells, read_of};
 ghost use Rattle.lp_vm.specs.Commanding.{AsksLess, CanStep, CommandSteps, FeedsCommand, name_asked};
 
+use crate::asking::reach_named;
 use crate::fault::VmFault;
-use crate::naming::name_of;
 use lp_asking::asker::Asker;
 use lp_asking::ending::Ending;
 use lp_asking::truth::Truthful;
@@ -25,7 +25,6 @@ use lp_commanding::next::next;
 use lp_reaching::applying::find_applied;
 use lp_reaching::reached::Reached;
 use lp_values::id::ObjId;
-use lp_values::text::Text;
 use lp_values::value::Value;
 use lp_world::live::Live;
 
@@ -36,32 +35,6 @@ pub enum Commanded {
     Ended(Ending),
     /// It asks what reaches this, with one argument on top of the stack.
     Asks(Option<Reached>),
-}
-
-/// The function of an action, by its name. A name that is not of ASCII is that of no function.
-fn reach_action<W: Truthful>(
-    live: &mut Live,
-    swap: &mut W,
-    caller: Option<ObjId>,
-    giver: ObjId,
-    name: &Text,
-) -> Result<Option<Reached>, VmFault>
-    requires closed { IsClosed live.old }
-    requires object { IsSome (row_at live.old.objects giver.0) }
-    requires can { CanApply (W.content swap.old) live.old caller giver name.now }
-    ensures found { IfOk result (λ r. FindsApplied caller giver name.now (W.content swap.old) live.old (W.content swap.new) live.new r) }
-    ensures there { IfOk result (λ r. IfSome r (λ x. IsInMemory live.new x.callee x.code)) }
-    ensures closed { IsClosed live.new }
-    ensures home { KeepsVariables live.old.objects live.new.objects }
-    ensures cells { live.new.cells ≡ live.old.cells }
-    ensures outputs { live.new.outputs ≡ live.old.outputs }
-    ensures tells { Tells (W.content swap.new) (W.last swap.new) (W.read_faults swap.old) (W.read_faults swap.new) (W.write_faults swap.old) (W.write_faults swap.new)
-        (W.is_truthful swap.old) (W.is_truthful swap.new) (W.is_honest swap.old) (W.is_honest swap.new) live.new (read_of result) }
-{
-    match name_of(live.alloc, name)? {
-        Some(name) => Ok(find_applied(live, swap, caller, giver, name.as_str())?),
-        None => Ok(None),
-    }
 }
 
 /// `catch_tell` of the object that carries out the line.
@@ -109,7 +82,7 @@ fn reach_asked<W: Truthful>(
         (W.is_truthful swap.old) (W.is_truthful swap.new) (W.is_honest swap.old) (W.is_honest swap.new) live.new (read_of result) }
 {
     match question {
-        Question::Action(giver, name) => reach_action(live, swap, caller, giver, &name),
+        Question::Action(giver, name) => reach_named(live, swap, caller, giver, &name),
         Question::CatchTell(holder) => reach_holder(live, swap, caller, holder),
     }
 }

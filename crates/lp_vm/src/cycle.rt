@@ -1,5 +1,5 @@
 //! What is asked is answered: functions run, efuns work, commands are carried out, and files are loaded.
-ghost use Rattle.std.specs.Prelude.{IfOk, IsAscii, IsSome, Some};
+ghost use Rattle.std.specs.Prelude.{IfOk, IsSome, Some};
 ghost use Rattle.lp_calling.specs.Jobs.{IsAsking, IsJobOn, IsReady};
 ghost use Rattle.lp_cloning.specs.declared.job.Cloning.TheVariants as stages;
 ghost use Rattle.lp_instr.specs.declared.efun.Efun.TheVariants as efuns;
@@ -26,7 +26,7 @@ use crate::entering::{Started, close, start};
 use crate::fault::VmFault;
 use crate::halting::{Halted, go_back, run_to_halt};
 use crate::loaded::loaded_ending;
-use crate::loading::{answer_of, begin_load, feed_load, letters_of, pop_load, step_load, unpaid};
+use crate::loading::{answer_of, begin_load, feed_load, pop_load, step_load, unpaid};
 use crate::looking::start_efun;
 use crate::making::{ask_next, feed_on};
 use crate::request::Request;
@@ -54,7 +54,7 @@ use std::alloc::Global;
 ///
 /// # Errors
 /// `NoMemory`, also where the swap file gave other bytes of the same digest; `Swap` where it failed or gave bytes of another
-/// digest; `NotYet` where a function asks what is not carried out yet. Nothing is said of the state then.
+/// digest. Nothing is said of the state then.
 #[cycle(calls)]
 pub fn answer<W: Truthful>(
     alloc: Global,
@@ -334,7 +334,6 @@ fn load_on<W: Truthful>(
     mut job: LoadJob,
     budget: &mut u64,
 ) -> Result<Answer, VmFault>
-    requires ascii { IsAscii job.name }
     requires fit { IsFit live.old stack.old.items }
     requires can { CanLoadOn caller at job (W.content swap.old) live.old asker.old budget.old }
     ensures loads { IfOk result (λ r. LoadsOn caller at job goings.Simul (W.content swap.old) live.old stack.old.items asker.old budget.old (W.content swap.new) live.new stack.new.items asker.new budget.new r) }
@@ -350,7 +349,6 @@ fn load_on<W: Truthful>(
                 return Ok(answer_of(ending));
             }
             Step::Asks(name, waiting) => {
-                let letters = letters_of(alloc, &name)?;
                 let answer = load(
                     alloc,
                     live,
@@ -359,7 +357,7 @@ fn load_on<W: Truthful>(
                     asker,
                     caller,
                     at,
-                    letters.as_slice(),
+                    name.as_slice(),
                     Purpose::Inherited,
                     budget,
                 )?;
@@ -376,9 +374,8 @@ fn load_on<W: Truthful>(
 /// which an efun asks for it, if one does, and for the log the place of who asks is given.
 ///
 /// # Errors
-/// `NoMemory`, also where the swap file gave other bytes of the same digest; `Swap` where it failed or gave bytes of another
-/// digest; `NotYet` where the name, or that of an `inherit`, has letters beyond ASCII, a number of the program has no room, a live
-/// object has the name already, or a function asks what is not carried out yet. Nothing is said of the state then.
+/// `NoMemory`, also where the swap file gave other bytes of the same digest, a number of a program has no room, or a live
+/// object has the name already; `Swap` where the swap file failed or gave bytes of another digest. Nothing is said of the state then.
 #[cycle(calls)]
 pub fn load<W: Truthful>(
     alloc: Global,
@@ -538,7 +535,7 @@ fn carry_out<W: Truthful>(
 ///
 /// # Errors
 /// `NoMemory`, also where the swap file gave other bytes of the same digest; `Swap` where it failed or gave bytes of another
-/// digest; `NotYet` where a function asks what is not carried out yet. Nothing is said of the state then.
+/// digest. Nothing is said of the state then.
 #[cycle(calls)]
 pub fn obey<W: Truthful>(
     alloc: Global,

@@ -1,16 +1,18 @@
 //! Efuns that a running function calls begin.
 ghost use Rattle.std.specs.Prelude.{◌≡◌, ◌-◌, ◌≤◌, IfErr, IfOk, None, drop, false, length, true};
+ghost use Rattle.std.specs.Bool.{OnTrue};
 ghost use Rattle.lp_cells.specs.Cells.{Store};
 ghost use Rattle.lp_efuns.specs.Plain.{IsAnswerThere, is_plain};
 ghost use Rattle.lp_calling.specs.Beginning.{is_calling};
+ghost use Rattle.lp_instr.specs.declared.efun.Efun.TheVariants as efuns;
 ghost use Rattle.lp_step.specs.Steps.{IsFit};
 ghost use Rattle.lp_asking.specs.declared.ending.Ending.TheVariants as endings;
 ghost use Rattle.lp_asking.specs.Endings.{IsEndingThere};
-ghost use Rattle.lp_vm.specs.declared.fault.VmFault.TheVariants.{NoMemory, NotYet};
+ghost use Rattle.lp_vm.specs.declared.fault.VmFault.TheVariants.{NoMemory};
 ghost use Rattle.lp_vm.specs.declared.request.Request.TheVariants as requests;
 ghost use Rattle.lp_vm.specs.Beginning.{CanStart};
 ghost use Rattle.lp_vm.specs.Causes.{IsReadless};
-ghost use Rattle.lp_vm.specs.Efuns.{IsNotYet, StartsEfun, ending_of, is_ending};
+ghost use Rattle.lp_vm.specs.Efuns.{BringsNothing, StartsEfun, ending_of, is_ending};
 
 use crate::fault::VmFault;
 use lp_asking::asker::Asker;
@@ -148,36 +150,31 @@ fn destructing(
     Ok(EfunBegun::Answered(ending_of(answer)))
 }
 
-/// An efun that ends an object is carried out.
-///
-/// # Errors
-/// `NoMemory`; `NotYet` of another efun.
-fn ending(
-    live: &mut Live,
-    stack: &mut Vec<Value>,
-    asker: &Asker,
-    at: Place,
-    efun: Efun,
-    args: u32,
-    budget: &mut u64,
-) -> Result<EfunBegun, VmFault>
-    requires fit { IsFit live.old stack.old.items }
-    requires can { CanStart live.old stack.old.items asker.now budget.old (requests.Efun at efun) args }
-    ensures starts { IfOk result (λ r. StartsEfun r at efun args live.old stack.old.items asker.now budget.old live.new stack.new.items asker.now budget.new) }
-    ensures fault { IfErr result IsReadless }
-    ensures yet { IfErr result (λ f. f ≡ NotYet → is_ending efun ≡ false) }
+/// Whether an efun ends an object.
+fn is_ending(efun: Efun) -> bool
+    ensures value { result ≡ is_ending efun }
+    ensures only { OnTrue result (efun ≡ efuns.Destruct) }
 {
     match efun {
-        Efun::Destruct => destructing(live, stack, asker, at, args, budget),
-        _ => Err(VmFault::NotYet),
+        Efun::Destruct => true,
+        _ => false,
     }
 }
 
+/// The answer to a call of `sscanf` as an efun, which no function makes, since `sscanf` has an instruction of its own.
+fn unasked(efun: Efun) -> VmFault
+    requires sscanf { efun ≡ efuns.Sscanf }
+    ensures { result ≡ NoMemory }
+{
+    let _efun = efun;
+    VmFault::NoMemory
+}
+
 /// An efun begins that the function at a place calls, with so many arguments on top of the stack, which are taken: it is
-/// answered, or goes on as a job.
+/// answered, or goes on as a job. For it no program comes into memory, and no steps of the cycle are for it alone.
 ///
 /// # Errors
-/// `NoMemory`; `NotYet` of an efun that is not carried out yet.
+/// `NoMemory`, also of `sscanf`, which has an instruction of its own and is not called so.
 pub fn begin_efun(
     live: &mut Live,
     stack: &mut Vec<Value>,
@@ -187,11 +184,11 @@ pub fn begin_efun(
     args: u32,
     budget: &mut u64,
 ) -> Result<EfunBegun, VmFault>
+    requires nothing { BringsNothing efun }
     requires fit { IsFit live.old stack.old.items }
     requires can { CanStart live.old stack.old.items asker.old budget.old (requests.Efun at efun) args }
     ensures starts { IfOk result (λ r. StartsEfun r at efun args live.old stack.old.items asker.old budget.old live.new stack.new.items asker.new budget.new) }
     ensures fault { IfErr result IsReadless }
-    ensures yet { IfErr result (λ f. f ≡ NotYet → IsNotYet efun) }
 {
     if is_plain(efun) {
         return plain(live, stack, asker, at, efun, args, budget);
@@ -199,5 +196,8 @@ pub fn begin_efun(
     if is_calling(efun) {
         return calling(live, stack, asker, at, efun, args, budget);
     }
-    ending(live, stack, asker, at, efun, args, budget)
+    if is_ending(efun) {
+        return destructing(live, stack, asker, at, args, budget);
+    }
+    Err(unasked(efun))
 }

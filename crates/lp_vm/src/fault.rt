@@ -13,15 +13,12 @@ use thiserror::Error;
 /// Why a call is not answered.
 #[derive(Debug, Drop, Error)]
 pub enum VmFault {
-    /// Memory ran out; or the swap file gave other bytes of the same digest as those that were written.
+    /// Memory ran out, or a number has no room; or the swap file gave other bytes of the same digest as those that were written.
     #[error("out of memory")]
     NoMemory,
     /// The swap file failed, or gave bytes of another digest.
     #[error("the swap file did not give what was written")]
     Swap(SwapCause),
-    /// An efun was called that is not carried out yet; or a file cannot be loaded yet.
-    #[error("not carried out yet")]
-    NotYet,
 }
 
 impl From<AllocError> for VmFault {

@@ -1,10 +1,9 @@
 //! Jobs that save or restore the variables of their object end, for which the object and its program come into memory.
-ghost use Rattle.std.specs.Prelude.{◌≡◌, ◌≤◌, IfErr, IfOk, OnOk, true};
+ghost use Rattle.std.specs.Prelude.{◌≡◌, ◌≤◌, IfOk, OnOk, true};
 ghost use Rattle.lp_calling.specs.Jobs.{IsJobOn, needs_program};
 ghost use Rattle.lp_efuns.specs.Plain.{IsAnswerThere};
 ghost use Rattle.lp_saving.specs.Saving.{Keeps, Reads};
 ghost use Rattle.lp_step.specs.Steps.{IsFit, KeepsVariables};
-ghost use Rattle.lp_vm.specs.declared.fault.VmFault.TheVariants.{NotYet};
 ghost use Rattle.lp_vm.specs.Causes.{Tells, read_of};
 ghost use Rattle.lp_vm.specs.Cycle.{Works};
 ghost use Rattle.lp_vm.specs.Working.{CanWork};
@@ -71,7 +70,6 @@ pub fn keep_job<W: Truthful>(
     requires fit { IsFit live.old stack.old.items }
     requires can { CanWork at job.now (W.content swap.old) live.old stack.old.items asker.now budget.old }
     ensures works { IfOk result (λ e. Works at job.now (W.content swap.old) live.old stack.old.items asker.now budget.old (W.content swap.new) live.new stack.new.items asker.now budget.new e) }
-    ensures yet { IfErr result (λ f. f ≡ NotYet → ⊥) }
     ensures tells { Tells (W.content swap.new) (W.last swap.new) (W.read_faults swap.old) (W.read_faults swap.new) (W.write_faults swap.old) (W.write_faults swap.new)
         (W.is_truthful swap.old) (W.is_truthful swap.new) (W.is_honest swap.old) (W.is_honest swap.new) live.new (read_of result) }
 {

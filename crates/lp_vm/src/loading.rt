@@ -1,5 +1,5 @@
 //! Loads: how they begin, what they do by themselves, and how they take what was answered.
-ghost use Rattle.std.specs.Prelude.{◌≡◌, ◌++◌, ◌∷◌, [], IfErr, IfOk, IsAscii, List, None, OnOk, Option, ℕ};
+ghost use Rattle.std.specs.Prelude.{◌≡◌, ◌++◌, ◌∷◌, [], IfErr, IfOk, List, None, OnOk, Option, ℕ};
 ghost use Rattle.lp_asking.specs.declared.asker.Loading.{Loading as L};
 ghost use Rattle.lp_asking.specs.declared.ending.Cause.TheVariants as causes;
 ghost use Rattle.lp_cells.specs.Cells.{Store};
@@ -20,7 +20,6 @@ use crate::fault::VmFault;
 use lp_asking::asker::{Asker, Loading};
 use lp_asking::ending::{Cause, Ending, Stop};
 use lp_asking::truth::Truthful;
-use lp_code::name::Name;
 use lp_loading::begin::begin;
 use lp_loading::feed::feed;
 use lp_loading::job::{Answer, Begun, Fed, Going, LoadFault, LoadJob, Purpose, Step, Waiting};
@@ -35,30 +34,9 @@ impl From<LoadFault> for VmFault {
     fn from(e: LoadFault) -> VmFault {
         match e {
             LoadFault::Swap(cause) => VmFault::Swap(cause),
-            LoadFault::TooLarge => VmFault::NotYet,
-            LoadFault::NotYet => VmFault::NotYet,
-            LoadFault::NameTaken => VmFault::NotYet,
             LoadFault::NoMemory => VmFault::NoMemory,
         }
     }
-}
-
-/// The code points of bytes: each byte is one.
-fn chars_of(alloc: Global, bytes: &[u8]) -> Result<Vec<char>, AllocError>
-    ensures { IfOk result (λ v. v.items ≡ bytes.now) }
-{
-    let mut chars = Vec::new(alloc);
-    for byte in bytes {
-        chars.push(*byte as char)?;
-    }
-    Ok(chars)
-}
-
-/// The letters of a name of the program, as LPC has them.
-pub fn letters_of(alloc: Global, name: &Name) -> Result<Vec<char>, AllocError>
-    ensures { IfOk result (λ v. v.items ≡ name.now) }
-{
-    chars_of(alloc, name.as_str().as_bytes())
 }
 
 /// A load is the innermost under way.
@@ -74,7 +52,7 @@ fn push_load(alloc: Global, asker: &mut Asker, name: &[char], nested: u32) -> Re
 /// A load begins on behalf of who asks: its price is paid, and it is the innermost under way; or the budget is spent.
 ///
 /// # Errors
-/// `NotYet` where the name has letters beyond ASCII. `NoMemory`, also where 2^32 loads led to it.
+/// `NoMemory`, also where 2^32 loads led to it.
 pub fn begin_load(
     alloc: Global,
     asker: &mut Asker,
@@ -118,8 +96,8 @@ pub fn unpaid() -> Answer
 /// A load goes on until it asks for another load, has made its object, or ends.
 ///
 /// # Errors
-/// `NoMemory`; `Swap` where a read of the swap file failed, or gave other bytes than were written; `NotYet` where the name of an
-/// `inherit` has letters beyond ASCII, a live object has the name already, or a number of the program has no room.
+/// `NoMemory`, also where a live object has the name already, or a number of the program has no room; `Swap` where a read of the swap
+/// file failed, or gave other bytes than were written.
 pub fn step_load<W: Truthful>(
     live: &mut Live,
     swap: &mut W,
@@ -129,7 +107,6 @@ pub fn step_load<W: Truthful>(
 ) -> Result<Step, VmFault>
     requires closed { IsClosed live.old }
     requires world { HasWorld (W.content swap.old) live.old }
-    requires ascii { IsAscii job.now.name }
     ensures leads { IfOk result (λ r. LeadsOn r job.now going asker.now.loads.items (W.content swap.old) live.old (W.content swap.new) live.new) }
     ensures made { IfOk result (MakesHome live.new.objects) }
     ensures closed { IsClosed live.new }
@@ -151,7 +128,6 @@ pub fn feed_load(
     waiting: Waiting,
     answer: Answer,
 ) -> Result<Fed, VmFault>
-    requires ascii { IsAscii job.old.name }
     ensures takes { IfOk result (λ r. (told : Option Bytes) (turn : Turn) (budget : ℕ) → Takes r job.old waiting answer told live.now job.new turn budget) }
     ensures same { IsSameLoad job.old job.new }
     ensures reads { IfOk result GoesReading }

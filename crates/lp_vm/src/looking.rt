@@ -1,5 +1,5 @@
 //! Efuns that a running function calls begin, also those for which programs come into memory.
-ghost use Rattle.std.specs.Prelude.{◌≡◌, All, IfErr, IfOk, IsSome, true};
+ghost use Rattle.std.specs.Prelude.{◌≡◌, All, IfOk, IsSome, true};
 ghost use Rattle.lp_cells.specs.Cells.{IsThere};
 ghost use Rattle.lp_world.specs.Closed.{IsClosed};
 ghost use Rattle.lp_world.specs.Rows.{row_at};
@@ -7,11 +7,11 @@ ghost use Rattle.lp_step.specs.Steps.{IsFit};
 ghost use Rattle.lp_efuns.specs.Plain.{IsAnswerThere};
 ghost use Rattle.lp_targets.specs.Brought.{Brings};
 ghost use Rattle.lp_object_efuns.specs.Called.{CallsWithProgram, brought, is_with_program};
-ghost use Rattle.lp_vm.specs.declared.fault.VmFault.TheVariants.{NotYet};
 ghost use Rattle.lp_vm.specs.declared.request.Request.TheVariants as requests;
 ghost use Rattle.lp_vm.specs.Answering.{CanServe};
 ghost use Rattle.lp_vm.specs.Causes.{Tells, read_of};
-ghost use Rattle.lp_vm.specs.Looking.{BeginsEfun, IsMissing};
+ghost use Rattle.lp_vm.specs.Efuns.{HasNoSteps};
+ghost use Rattle.lp_vm.specs.Looking.{BeginsEfun};
 
 use crate::efuns::{EfunBegun, begin_efun, ending_of, topmost};
 use crate::fault::VmFault;
@@ -81,7 +81,6 @@ fn looking<W: Truthful>(
     ensures begins { IfOk result (λ r. BeginsEfun r at efun args (W.content swap.old) live.old stack.old.items asker.now budget.old (W.content swap.new) live.new stack.new.items asker.now budget.new) }
     ensures tells { Tells (W.content swap.new) (W.last swap.new) (W.read_faults swap.old) (W.read_faults swap.new) (W.write_faults swap.old) (W.write_faults swap.new)
         (W.is_truthful swap.old) (W.is_truthful swap.new) (W.is_honest swap.old) (W.is_honest swap.new) live.new (read_of result) }
-    ensures yet { IfErr result (λ f. f ≡ NotYet → ⊥) }
 {
     let caller = Caller {
         this: at.this,
@@ -103,10 +102,10 @@ fn looking<W: Truthful>(
 
 /// An efun begins that the function at a place calls, with so many arguments on top of the stack, which are taken: it is
 /// answered, or goes on as a job. The program comes into memory into which an efun about a function of an object looks, and so do those
-/// of both objects where one is to shadow the other.
+/// of both objects where one is to shadow the other. `clone_object` and `command` do not begin so.
 ///
 /// # Errors
-/// `NoMemory` and `Swap` of such an efun; `NoMemory` of every other efun; `NotYet` of an efun that is not carried out yet.
+/// `NoMemory` and `Swap` of such an efun; `NoMemory` of every other efun.
 pub fn start_efun<W: Truthful>(
     live: &mut Live,
     swap: &mut W,
@@ -117,12 +116,12 @@ pub fn start_efun<W: Truthful>(
     args: u32,
     budget: &mut u64,
 ) -> Result<EfunBegun, VmFault>
+    requires steps { HasNoSteps efun }
     requires fit { IsFit live.old stack.old.items }
     requires can { CanServe (W.content swap.old) live.old stack.old.items asker.old budget.old (requests.Efun at efun) args }
     ensures begins { IfOk result (λ r. BeginsEfun r at efun args (W.content swap.old) live.old stack.old.items asker.old budget.old (W.content swap.new) live.new stack.new.items asker.new budget.new) }
     ensures tells { Tells (W.content swap.new) (W.last swap.new) (W.read_faults swap.old) (W.read_faults swap.new) (W.write_faults swap.old) (W.write_faults swap.new)
         (W.is_truthful swap.old) (W.is_truthful swap.new) (W.is_honest swap.old) (W.is_honest swap.new) live.new (read_of result) }
-    ensures yet { IfErr result (λ f. f ≡ NotYet → IsMissing efun) }
 {
     if is_with_program(efun) {
         return looking(live, swap, stack, asker, at, efun, args, budget);

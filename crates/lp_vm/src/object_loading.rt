@@ -20,9 +20,8 @@ use std::alloc::Global;
 /// with a stop. 1000 are paid first. The driver has no callers.
 ///
 /// # Errors
-/// `NoMemory`, also where the swap file gave other bytes of the same digest; `Swap` where it failed or gave bytes of another
-/// digest; `NotYet` where the name, or that of an `inherit`, has letters beyond ASCII, a number of the program has no room, a live
-/// object has the name already, or a function asks what is not carried out yet. Nothing is said of the state then.
+/// `NoMemory`, also where the swap file gave other bytes of the same digest, a number of a program has no room, or a live
+/// object has the name already; `Swap` where the swap file failed or gave bytes of another digest. Nothing is said of the state then.
 pub fn load_object<W: Truthful>(
     alloc: Global,
     live: &mut Live,

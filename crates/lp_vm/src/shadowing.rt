@@ -1,5 +1,5 @@
 //! The efun `shadow` begins, for which the programs of both objects come into memory.
-ghost use Rattle.std.specs.Prelude.{◌≡◌, ◌≤◌, IfErr, IfOk, IsSome, OnOk, length};
+ghost use Rattle.std.specs.Prelude.{◌≡◌, ◌≤◌, IfOk, IsSome, OnOk, length};
 ghost use Rattle.std.specs.Bool.{OnTrue};
 ghost use Rattle.lp_calling.specs.Beginning.{IsBegunReady, IsBegunThere};
 ghost use Rattle.lp_instr.specs.declared.efun.Efun.TheVariants as efuns;
@@ -7,11 +7,11 @@ ghost use Rattle.lp_shadowing.specs.Shadowing.{BeginsShadow};
 ghost use Rattle.lp_step.specs.Steps.{IsFit};
 ghost use Rattle.lp_targets.specs.Brought.{Brings};
 ghost use Rattle.lp_world.specs.Rows.{row_at};
-ghost use Rattle.lp_vm.specs.declared.fault.VmFault.TheVariants.{NotYet};
 ghost use Rattle.lp_vm.specs.declared.request.Request.TheVariants as requests;
 ghost use Rattle.lp_vm.specs.Answering.{CanServe};
 ghost use Rattle.lp_vm.specs.Causes.{Tells, read_of};
-ghost use Rattle.lp_vm.specs.Looking.{BeginsEfun, is_shadow};
+ghost use Rattle.lp_vm.specs.Efuns.{is_shadow};
+ghost use Rattle.lp_vm.specs.Looking.{BeginsEfun};
 
 use crate::efuns::{EfunBegun, ending_of};
 use crate::fault::VmFault;
@@ -91,7 +91,6 @@ pub fn shadowing<W: Truthful>(
     ensures begins { IfOk result (λ r. BeginsEfun r at efun args (W.content swap.old) live.old stack.old.items asker.now budget.old (W.content swap.new) live.new stack.new.items asker.now budget.new) }
     ensures tells { Tells (W.content swap.new) (W.last swap.new) (W.read_faults swap.old) (W.read_faults swap.new) (W.write_faults swap.old) (W.write_faults swap.new)
         (W.is_truthful swap.old) (W.is_truthful swap.new) (W.is_honest swap.old) (W.is_honest swap.new) live.new (read_of result) }
-    ensures yet { IfErr result (λ f. f ≡ NotYet → ⊥) }
 {
     let caller = Caller {
         this: at.this,

@@ -8,7 +8,7 @@ ghost use Rattle.lp_world.specs.Closed.{IsClosed};
 ghost use Rattle.lp_world.specs.Rows.{row_at};
 ghost use Rattle.lp_asking.specs.Endings.{IsEndingThere};
 ghost use Rattle.lp_loading.specs.Going.{IsAnswerThere};
-ghost use Rattle.lp_vm.specs.declared.fault.VmFault.TheVariants.{NoMemory, NotYet};
+ghost use Rattle.lp_vm.specs.declared.fault.VmFault.TheVariants.{NoMemory};
 ghost use Rattle.lp_vm.specs.Causes.{Tells, read_of};
 ghost use Rattle.lp_vm.specs.Jobs.{AsksFor, FedOn, Feeds, IsStepThere, StepsTo, asker_back};
 ghost use Rattle.lp_vm.specs.Loaded.{loaded_ending};
@@ -76,7 +76,6 @@ fn ask_other<W: Truthful>(
     ensures home { KeepsVariables live.old.objects live.new.objects }
     ensures cells { live.new.cells ≡ live.old.cells }
     ensures outputs { live.new.outputs ≡ live.old.outputs }
-    ensures yet { IfErr result (λ f. f ≡ NotYet → ⊥) }
     ensures tells { Tells (W.content swap.new) (W.last swap.new) (W.read_faults swap.old) (W.read_faults swap.new) (W.write_faults swap.old) (W.write_faults swap.new)
         (W.is_truthful swap.old) (W.is_truthful swap.new) (W.is_honest swap.old) (W.is_honest swap.new) live.new (read_of result) }
 {
@@ -102,7 +101,6 @@ fn ask_applied<W: Truthful>(
     ensures home { KeepsVariables live.old.objects live.new.objects }
     ensures cells { live.new.cells ≡ live.old.cells }
     ensures outputs { live.new.outputs ≡ live.old.outputs }
-    ensures yet { IfErr result (λ f. f ≡ NotYet → ⊥) }
     ensures tells { Tells (W.content swap.new) (W.last swap.new) (W.read_faults swap.old) (W.read_faults swap.new) (W.write_faults swap.old) (W.write_faults swap.new)
         (W.is_truthful swap.old) (W.is_truthful swap.new) (W.is_honest swap.old) (W.is_honest swap.new) live.new (read_of result) }
 {
@@ -131,7 +129,6 @@ fn ask<W: Truthful>(
     ensures home { KeepsVariables live.old.objects live.new.objects }
     ensures cells { live.new.cells ≡ live.old.cells }
     ensures outputs { live.new.outputs ≡ live.old.outputs }
-    ensures yet { IfErr result (λ f. f ≡ NotYet → ⊥) }
     ensures tells { Tells (W.content swap.new) (W.last swap.new) (W.read_faults swap.old) (W.read_faults swap.new) (W.write_faults swap.old) (W.write_faults swap.new)
         (W.is_truthful swap.old) (W.is_truthful swap.new) (W.is_honest swap.old) (W.is_honest swap.new) live.new (read_of result) }
 {
@@ -161,7 +158,6 @@ pub fn step_job<W: Truthful>(
     requires fit { IsFit live.old stack.old.items }
     requires can { CanWork at job.old (W.content swap.old) live.old stack.old.items asker.old budget.old }
     ensures steps { IfOk result (λ r. StepsTo r at job.old (W.content swap.old) live.old stack.old.items asker.old budget.old job.new (W.content swap.new) live.new stack.new.items asker.new budget.new) }
-    ensures yet { IfErr result (λ f. f ≡ NotYet → ⊥) }
     ensures tells { Tells (W.content swap.new) (W.last swap.new) (W.read_faults swap.old) (W.read_faults swap.new) (W.write_faults swap.old) (W.write_faults swap.new)
         (W.is_truthful swap.old) (W.is_truthful swap.new) (W.is_honest swap.old) (W.is_honest swap.new) live.new (read_of result) }
 {

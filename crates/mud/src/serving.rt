@@ -63,6 +63,7 @@ pub(crate) fn serve(rt: &HostRuntime, words: &[String], folder: &str, wants: &Wa
         record_file: text_of(&wants.script_file),
         port: wants.port,
         control: wants.control,
+        ws: wants.ws,
     };
     match open(rt, places, rt.stdout()) {
         Ok(opened) => play(rt, words, places, opened),

@@ -1,10 +1,13 @@
 //! Cases as `.ci/rows` puts them together, one behind the other: a line
-//! `case NAME STATUS SCRIPT WRITTEN TOLD READS WRITES TAKES SWAP_READS SWAP_LIE SWAP_WRITES`, a line of the words, each behind a tab,
-//! and then the bytes of the script, of what must be written and of what must be told, each piece with a line feed behind it.
+//! `case NAME STATUS SCRIPT WRITTEN TOLD WIRE FOLDER TAKEN HELD READS WRITES TAKES SWAP_READS SWAP_LIE SWAP_WRITES`, a line of the words,
+//! each behind a tab, and then the bytes of the script, of what must be written and of what must be told, those that spell the wire and the
+//! folder, and those of what the wire must have taken and the folder must hold, each piece with a line feed behind it.
 //!
-//! `SCRIPT`, `WRITTEN` and `TOLD` count bytes; with `-` for `TOLD` nothing is said of it, and its piece is empty. The others are numbers
+//! `SCRIPT` to `HELD` count bytes; with `-` for `TOLD` nothing is said of it, and its piece is empty. The others are numbers
 //! of calls that go wrong, with commas between them, or `-` for none, and how many bytes a write takes at most.
 ghost use Rattle.std.specs.Prelude.{◌<◌, IfSome, length};
+
+use lp_devices::pieces::{line, piece};
 
 /// A case of the input.
 #[derive(Clone, Copy)]
@@ -14,6 +17,16 @@ pub struct Case<'a> {
     pub script: &'a [u8],
     pub written: &'a [u8],
     pub told: Option<&'a [u8]>,
+    pub outside: Outside<'a>,
+}
+
+/// The wire and the folder of a case, and what must have been taken and must be held at its end.
+#[derive(Clone, Copy)]
+pub struct Outside<'a> {
+    pub wire: &'a [u8],
+    pub folder: &'a [u8],
+    pub taken: &'a [u8],
+    pub held: &'a [u8],
 }
 
 /// What the first line of a case says.
@@ -34,6 +47,10 @@ pub struct Counts {
     script: usize,
     written: usize,
     told: Option<usize>,
+    wire: usize,
+    folder: usize,
+    taken: usize,
+    held: usize,
 }
 
 /// The calls of the swap file that go wrong.
@@ -42,29 +59,6 @@ pub struct Swap<'a> {
     pub reads: &'a str,
     pub lie: &'a str,
     pub writes: &'a str,
-}
-
-/// The bytes up to the next line feed, and those behind it.
-fn line(bytes: &[u8]) -> Option<(&[u8], &[u8])>
-    ensures shorter { IfSome result (λ p. length p.1.now < length bytes.now) }
-{
-    for end in 0..bytes.len() {
-        if bytes[end] == b'\n' {
-            return Some((bytes.get(..end)?, bytes.get(end + 1..)?));
-        }
-    }
-    None
-}
-
-/// So many bytes, and those behind the line feed that follows them.
-fn piece(bytes: &[u8], len: usize) -> Option<(&[u8], &[u8])>
-    ensures shorter { IfSome result (λ p. length p.1.now < length bytes.now) }
-{
-    let found = bytes.get(..len)?;
-    if *bytes.get(len)? != b'\n' {
-        return None;
-    }
-    Some((found, bytes.get(len.checked_add(1)?..)?))
 }
 
 /// A count of bytes, which may be none.
@@ -94,6 +88,10 @@ fn head_of(text: &str) -> Option<Head<'_>> {
     let script = fields.next()?.parse::<usize>().ok()?;
     let written = fields.next()?.parse::<usize>().ok()?;
     let told = count(fields.next()?)?;
+    let wire = fields.next()?.parse::<usize>().ok()?;
+    let folder = fields.next()?.parse::<usize>().ok()?;
+    let taken = fields.next()?.parse::<usize>().ok()?;
+    let held = fields.next()?.parse::<usize>().ok()?;
     let reads = fields.next()?;
     let writes = fields.next()?;
     let takes = takes(fields.next()?)?;
@@ -107,6 +105,10 @@ fn head_of(text: &str) -> Option<Head<'_>> {
             script,
             written,
             told,
+            wire,
+            folder,
+            taken,
+            held,
         },
         reads,
         writes,
@@ -135,6 +137,25 @@ fn told(bytes: &[u8], len: Option<usize>) -> Option<(Option<&[u8]>, &[u8])>
     }
 }
 
+/// The pieces of the wire and the folder, and what stands behind them.
+fn read_outside(bytes: &[u8], counts: Counts) -> Option<(Outside<'_>, &[u8])>
+    ensures shorter { IfSome result (λ p. length p.1.now < length bytes.now) }
+{
+    let (wire, behind_wire) = piece(bytes, counts.wire)?;
+    let (folder, behind_folder) = piece(behind_wire, counts.folder)?;
+    let (taken, behind_taken) = piece(behind_folder, counts.taken)?;
+    let (held, rest) = piece(behind_taken, counts.held)?;
+    Some((
+        Outside {
+            wire,
+            folder,
+            taken,
+            held,
+        },
+        rest,
+    ))
+}
+
 /// The case that begins here, and what stands behind it. None where no case is spelled here.
 pub fn next(bytes: &[u8]) -> Option<(Case<'_>, &[u8])>
     ensures shorter { IfSome result (λ p. length p.1.now < length bytes.now) }
@@ -145,7 +166,8 @@ pub fn next(bytes: &[u8]) -> Option<(Case<'_>, &[u8])>
     let words = str::from_utf8(second).ok()?;
     let (script, behind_script) = piece(behind_words, head.counts.script)?;
     let (written, behind_written) = piece(behind_script, head.counts.written)?;
-    let (told, rest) = told(behind_written, head.counts.told)?;
+    let (told, behind_told) = told(behind_written, head.counts.told)?;
+    let (outside, rest) = read_outside(behind_told, head.counts)?;
     Some((
         Case {
             head,
@@ -153,6 +175,7 @@ pub fn next(bytes: &[u8]) -> Option<(Case<'_>, &[u8])>
             script,
             written,
             told,
+            outside,
         },
         rest,
     ))

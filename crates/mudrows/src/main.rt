@@ -10,6 +10,7 @@ mod shown;
 
 use crate::cases::{Case, Swap, next};
 use crate::shown::pair;
+use lp_devices::{Unspelled, numbers};
 use lp_harness::device::Troubles;
 use lp_harness::running::{Devices, Outcome, ran};
 use std::alloc::{AllocError, AllocFailed, Global};
@@ -21,6 +22,15 @@ use std::process::ExitCode;
 enum Stop {
     Malformed,
     NoMemory,
+}
+
+impl From<Unspelled> for Stop {
+    fn from(fault: Unspelled) -> Stop {
+        match fault {
+            Unspelled::Malformed => Stop::Malformed,
+            Unspelled::NoMemory => Stop::NoMemory,
+        }
+    }
 }
 
 impl From<AllocError> for Stop {
@@ -47,21 +57,6 @@ fn words(alloc: Global, line: &str) -> Result<Vec<&str>, AllocError> {
     let mut all = Vec::new(alloc);
     for word in line.split('\t').skip(1) {
         all.push(word)?;
-    }
-    Ok(all)
-}
-
-/// The numbers of a field.
-fn numbers(alloc: Global, field: &str) -> Result<Vec<u64>, Stop> {
-    let mut all = Vec::new(alloc);
-    if field == "-" {
-        return Ok(all);
-    }
-    for word in field.split(',') {
-        match word.parse::<u64>() {
-            Ok(number) => all.push(number)?,
-            Err(_) => return Err(Stop::Malformed),
-        }
     }
     Ok(all)
 }
@@ -96,6 +91,8 @@ fn ran_over(
         writes,
         takes: case.head.takes,
         swap,
+        wire: case.outside.wire,
+        folder: case.outside.folder,
     };
     Ok(ran(alloc, words.as_slice(), case.script, devices)?)
 }
@@ -140,13 +137,18 @@ fn is_told(told: &str, wanted: Option<&[u8]>) -> bool {
 fn is_met(case: &Case<'_>, outcome: &Outcome) -> bool {
     outcome.status == case.head.status
         && outcome.written.as_slice() == case.written
+        && outcome.taken.as_slice() == case.outside.taken
+        && outcome.held.as_slice() == case.outside.held
         && is_told(outcome.told.as_str(), case.told)
 }
 
-/// Tells what was wanted to be told, and what was.
-fn tell_told(rt: &HostRuntime, wanted: &[u8], given: &[u8]) -> Result<(), AllocError> {
+/// Tells what was wanted of a kind, and what was given, where they differ.
+fn tell_kind(rt: &HostRuntime, kind: &str, wanted: &[u8], given: &[u8]) -> Result<(), AllocError> {
+    if wanted == given {
+        return Ok(());
+    }
     let (first, second) = pair(rt.alloc(), wanted, given)?;
-    let _ = println!(rt; "  wanted to be told:\n    {first}\n  told:\n    {second}");
+    let _ = println!(rt; "  wanted to be {kind}:\n    {first}\n  {kind}:\n    {second}");
     Ok(())
 }
 
@@ -159,9 +161,11 @@ fn tell(rt: &HostRuntime, case: &Case<'_>, outcome: &Outcome) -> Result<(), Allo
     let _ = println!(rt; "FAILED {name}");
     let _ = println!(rt; "  wanted: status {status}\n    {first}");
     let _ = println!(rt; "  given: status {ended}\n    {second}");
+    tell_kind(rt, "taken", case.outside.taken, outcome.taken.as_slice())?;
+    tell_kind(rt, "held", case.outside.held, outcome.held.as_slice())?;
     match case.told {
         None => Ok(()),
-        Some(told) => tell_told(rt, told, outcome.told.as_bytes()),
+        Some(told) => tell_kind(rt, "told", told, outcome.told.as_bytes()),
     }
 }
 

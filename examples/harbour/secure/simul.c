@@ -61,8 +61,8 @@ string clean(string text) {
 }
 
 // Whether a text is made of the plain letters that names of files have. A wizard's
-// command looks at this before it loads what somebody typed: names of files are
-// plain letters, and this driver ends the game at a load of any other name.
+// command looks at this before it loads what somebody typed: a mistyped name is told
+// as one, and the log has no line of a missing file for it.
 int plain_name(string path) {
   int i, n = strlen(path);
 

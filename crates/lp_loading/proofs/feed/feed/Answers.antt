@@ -3,9 +3,9 @@ use Rattle.lp_loading.specs.Going.{Takes}
 use Rattle.lp_loading.proofs.SeenNames.{if_ok}
 use Rattle.lp_loading.proofs.feed.feed.Goals as goal
 
-pub returns-in-Simul-clause-takes : goal.returns-in-Simul-clause-takes
-returns-in-Simul-clause-takes c = λ told turn budget.
-    subst (λ w. Takes c.take_simul.result c.args.job.now w c.args.answer told c.args.live.now c.args.job.now turn budget) (sym c.in-Simul.is) (c.take_simul.ensures.takes told turn budget)
+pub returns-in_ok-take_simul-in-Simul-clause-takes : goal.returns-in_ok-take_simul-in-Simul-clause-takes
+returns-in_ok-take_simul-in-Simul-clause-takes c = λ told turn budget.
+    subst (λ w. Takes c.in_ok-take_simul-in-Simul.field-0 c.args.job.now w c.args.answer told c.args.live.now c.args.job.now turn budget) (sym c.in-Simul.is) (c.in_ok-take_simul-in-Simul.ensures.takes told turn budget)
 
 pub returns-in-Parent-clause-takes : goal.returns-in-Parent-clause-takes
 returns-in-Parent-clause-takes c =

@@ -2,9 +2,9 @@ use Rattle.std.proofs.Common.{subst, sym}
 use Rattle.lp_loading.specs.Reads.{HasRead}
 use Rattle.lp_loading.specs.declared.compiling.Compiled.TheVariants as compiled
 use Rattle.lp_loading.specs.declared.job.Going.TheVariants as goings
-use Rattle.lp_loading.proofs.NextSteps.{fails_ascii, fails_for, fails_home, fails_order, home_same}
+use Rattle.lp_loading.proofs.NextSteps.{fails_for, fails_home, fails_order, home_same}
 use Rattle.lp_loading.proofs.SeenNames.{if_ok}
-use Rattle.lp_loading.proofs.Brought.{first_nothing, if_err, readless_in}
+use Rattle.lp_loading.proofs.Brought.{first_nothing}
 use Rattle.lp_loading.proofs.next.go_on.Goals as goal
 
 pub returns-in-Made-clause-goes : goal.returns-in-Made-clause-goes
@@ -32,9 +32,6 @@ returns-in-Missing-clause-goes g c =
     (subst (λ x. HasRead x c.args.job.now c.args.loads.now told0 live0 told c.args.live.now) c.in-Missing.is h)))
     c.go_missing.ensures.goes
 
-pub returns-in-Faulty-clause-asks : goal.returns-in-Faulty-clause-asks
-returns-in-Faulty-clause-asks g c = if_ok c.tell_faults.result _ _ fails_ascii c.tell_faults.ensures.asks
-
 pub returns-in-Faulty-clause-order : goal.returns-in-Faulty-clause-order
 returns-in-Faulty-clause-order g c = if_ok c.tell_faults.result _ _ (fails_order goings.Read) c.tell_faults.ensures.asks
 
@@ -46,9 +43,6 @@ returns-in-Faulty-clause-kind g c = if_ok c.tell_faults.result _ _ (fails_for c.
 
 pub returns-in-Faulty-clause-variables : goal.returns-in-Faulty-clause-variables
 returns-in-Faulty-clause-variables g c = home_same c.args.live.now.objects c.tell_faults.new.live.objects c.tell_faults.ensures.objects
-
-pub returns-in-Missing-clause-asks : goal.returns-in-Missing-clause-asks
-returns-in-Missing-clause-asks g c = if_ok c.go_missing.result _ _ fails_ascii c.go_missing.ensures.asks
 
 pub returns-in-Missing-clause-order : goal.returns-in-Missing-clause-order
 returns-in-Missing-clause-order g c = if_ok c.go_missing.result _ _ (fails_order goings.Read) c.go_missing.ensures.asks
@@ -63,13 +57,7 @@ pub returns-in-Missing-clause-variables : goal.returns-in-Missing-clause-variabl
 returns-in-Missing-clause-variables g c = home_same c.args.live.now.objects c.go_missing.new.live.objects c.go_missing.ensures.objects
 
 pub returns-in-Faulty-clause-brings : goal.returns-in-Faulty-clause-brings
-returns-in-Faulty-clause-brings g c = first_nothing (g.W.SwapFile.content c.args.swap.now) (g.W.SwapFile.last c.args.swap.now) (g.W.SwapFile.read_faults c.args.swap.now) (g.W.SwapFile.write_faults c.args.swap.now) (g.W.SwapFile.is_truthful c.args.swap.now) (g.W.SwapFile.is_honest c.args.swap.now) c.args.live.now c.tell_faults.new.live c.tell_faults.result c.tell_faults.ensures.readless
+returns-in-Faulty-clause-brings g c = first_nothing (g.W.SwapFile.content c.args.swap.now) (g.W.SwapFile.last c.args.swap.now) (g.W.SwapFile.read_faults c.args.swap.now) (g.W.SwapFile.write_faults c.args.swap.now) (g.W.SwapFile.is_truthful c.args.swap.now) (g.W.SwapFile.is_honest c.args.swap.now) c.args.live.now c.tell_faults.new.live c.tell_faults.result c.tell_faults.ensures.deviceless
 
 pub returns-in-Missing-clause-brings : goal.returns-in-Missing-clause-brings
-returns-in-Missing-clause-brings g c = first_nothing (g.W.SwapFile.content c.args.swap.now) (g.W.SwapFile.last c.args.swap.now) (g.W.SwapFile.read_faults c.args.swap.now) (g.W.SwapFile.write_faults c.args.swap.now) (g.W.SwapFile.is_truthful c.args.swap.now) (g.W.SwapFile.is_honest c.args.swap.now) c.args.live.now c.go_missing.new.live c.go_missing.result c.go_missing.ensures.readless
-
-pub returns-in-Faulty-clause-taken : goal.returns-in-Faulty-clause-taken
-returns-in-Faulty-clause-taken g c = if_err c.tell_faults.result _ _ (readless_in (g.W.SwapFile.content c.args.swap.now) c.args.live.now c.args.job.now.name) c.tell_faults.ensures.readless
-
-pub returns-in-Missing-clause-taken : goal.returns-in-Missing-clause-taken
-returns-in-Missing-clause-taken g c = if_err c.go_missing.result _ _ (readless_in (g.W.SwapFile.content c.args.swap.now) c.args.live.now c.args.job.now.name) c.go_missing.ensures.readless
+returns-in-Missing-clause-brings g c = first_nothing (g.W.SwapFile.content c.args.swap.now) (g.W.SwapFile.last c.args.swap.now) (g.W.SwapFile.read_faults c.args.swap.now) (g.W.SwapFile.write_faults c.args.swap.now) (g.W.SwapFile.is_truthful c.args.swap.now) (g.W.SwapFile.is_honest c.args.swap.now) c.args.live.now c.go_missing.new.live c.go_missing.result c.go_missing.ensures.deviceless

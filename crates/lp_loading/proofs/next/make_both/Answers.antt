@@ -4,7 +4,7 @@ use Rattle.lp_loading.specs.Versions.{MakesVersion}
 use Rattle.lp_loading.specs.declared.job.Going.TheVariants as goings
 use Rattle.lp_loading.proofs.NextSteps.{home_same, sound_leads}
 use Rattle.lp_loading.proofs.SeenNames.{if_ok}
-use Rattle.lp_loading.proofs.Brought.{first_changed, first_failed, if_err, readless_in, taken_before}
+use Rattle.lp_loading.proofs.Brought.{first_changed, first_failed}
 use Rattle.lp_loading.proofs.next.make_both.Goals as goal
 
 pub returns-in-Ok-clause-goes : goal.returns-in-Ok-clause-goes
@@ -14,8 +14,8 @@ returns-in-Ok-clause-goes g c =
     let job = c.args.job.now in
     if_ok c.make_object.result _ _
     (λ r m loads told0 live0 budget turn h.
-    sound_leads c.law_sound_goes_on.ensures c.args.program r job loads c.in-Ok.version told0 told1 told2 live0 c.args.live.now c.make_version.new.live c.make_object.new.live budget turn c.requires.ascii
-    (subst (λ n. MakesVersion c.args.live.now c.make_version.new.live n c.args.program c.in-Ok.version) c.as_str.ensures c.in-Ok.ensures.makes) c.make_version.ensures.outputs m h)
+    sound_leads c.law_sound_goes_on.ensures c.args.program r job loads c.in-Ok.version told0 told1 told2 live0 c.args.live.now c.make_version.new.live c.make_object.new.live budget turn
+    (subst (λ n. MakesVersion c.args.live.now c.make_version.new.live n c.args.program c.in-Ok.version) c.as_slice.ensures c.in-Ok.ensures.makes) c.make_version.ensures.outputs m h)
     c.make_object.ensures.makes
 
 pub returns-in-Ok-clause-order : goal.returns-in-Ok-clause-order
@@ -31,11 +31,4 @@ pub returns-in-Ok-clause-brings : goal.returns-in-Ok-clause-brings
 returns-in-Ok-clause-brings g c = first_changed c.in-Ok.ensures.stays c.in-Ok.ensures.stands c.make_object.ensures.brings
 
 pub returns-in-Err-clause-brings : goal.returns-in-Err-clause-brings
-returns-in-Err-clause-brings g c = first_failed (g.W.SwapFile.content c.args.swap.now) (g.W.SwapFile.last c.args.swap.now) (g.W.SwapFile.read_faults c.args.swap.now) (g.W.SwapFile.write_faults c.args.swap.now) (g.W.SwapFile.is_truthful c.args.swap.now) (g.W.SwapFile.is_honest c.args.swap.now) c.args.live.now c.make_version.new.live c.in-Err.e c.in-Err.ensures.readless
-
-pub returns-in-Ok-clause-taken : goal.returns-in-Ok-clause-taken
-returns-in-Ok-clause-taken g c =
-    if_err c.make_object.result _ _ (λ f h. taken_before (g.W.SwapFile.content c.args.swap.now) c.args.live.now c.make_version.new.live c.args.job.now.name f c.in-Ok.ensures.stands h) c.make_object.ensures.taken
-
-pub returns-in-Err-clause-taken : goal.returns-in-Err-clause-taken
-returns-in-Err-clause-taken g c = readless_in (g.W.SwapFile.content c.args.swap.now) c.args.live.now c.args.job.now.name c.in-Err.e c.in-Err.ensures.readless
+returns-in-Err-clause-brings g c = first_failed (g.W.SwapFile.content c.args.swap.now) (g.W.SwapFile.last c.args.swap.now) (g.W.SwapFile.read_faults c.args.swap.now) (g.W.SwapFile.write_faults c.args.swap.now) (g.W.SwapFile.is_truthful c.args.swap.now) (g.W.SwapFile.is_honest c.args.swap.now) c.args.live.now c.make_version.new.live c.in-Err.e c.in-Err.ensures.deviceless

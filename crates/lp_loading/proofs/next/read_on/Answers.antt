@@ -2,7 +2,7 @@ use Rattle.std.proofs.Common.{subst}
 use Rattle.lp_step.specs.Steps.{KeepsVariables}
 use Rattle.lp_loading.proofs.NextSteps.{home_same}
 use Rattle.lp_loading.proofs.SeenNames.{if_ok}
-use Rattle.lp_loading.proofs.Brought.{first_after, first_alone, if_err, taken_still, untaken_in}
+use Rattle.lp_loading.proofs.Brought.{first_after, first_alone}
 use Rattle.lp_loading.proofs.next.read_on.Goals as goal
 
 pub returns-in-Ok-clause-goes : goal.returns-in-Ok-clause-goes
@@ -20,13 +20,3 @@ returns-in-Ok-clause-brings g c = first_after c.in-Ok.ensures.brings c.compile_o
 
 pub returns-in-Err-clause-brings : goal.returns-in-Err-clause-brings
 returns-in-Err-clause-brings g c = first_alone c.in-Err.ensures.brings
-
-pub returns-in-Ok-clause-taken : goal.returns-in-Ok-clause-taken
-returns-in-Ok-clause-taken g c =
-    let told1 = g.W.SwapFile.content c.compile_own.new.swap in
-    if_err c.go_on.result _ _
-    (λ f h. taken_still (g.W.SwapFile.content c.args.swap.now) told1 c.args.live.now c.compile_own.new.live c.args.job.now.name f (λ programs w i. (c.in-Ok.ensures.read.is programs w i).world) h)
-    c.go_on.ensures.taken
-
-pub returns-in-Err-clause-taken : goal.returns-in-Err-clause-taken
-returns-in-Err-clause-taken g c = untaken_in (g.W.SwapFile.content c.args.swap.now) c.args.live.now c.args.job.now.name c.in-Err.e c.in-Err.ensures.untaken

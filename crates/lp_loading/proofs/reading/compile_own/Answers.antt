@@ -24,8 +24,8 @@ returns-clause-read g c =
     let e = c.compile_file.ensures in
     let one = c.in_ok-simuls.ensures in
     if_ok_on c.compile_file.result _ _ (KeepsWorlds told1 live1 told2 live2)
-    (λ r t k. has_read r c.args.job.now c.args.loads.now _ c.as_slice.result.now c.as_str-2.result.now _ told0 told1 told2 live0 live1 live2 c.requires.world one.worlds k one.sees c.as_slice.ensures.value
-    (c.as_str-2.ensures.value ∙ c.in_ok-path.ensures ∙ ap file_bytes c.as_str.ensures) c.len.ensures one.outputs e.outputs one.cells e.cells t)
+    (λ r t k. has_read r c.args.job.now c.args.loads.now _ c.as_slice-2.result.now c.as_str.result.now _ told0 told1 told2 live0 live1 live2 c.requires.world one.worlds k one.sees c.as_slice-2.ensures.value
+    (c.as_str.ensures.value ∙ c.in_ok-path.ensures ∙ ap file_bytes c.as_slice.ensures) c.len.ensures one.outputs e.outputs one.cells e.cells t)
     e.compiles e.worlds
 
 pub returns-in_err-simuls-clause-brings : goal.returns-in_err-simuls-clause-brings

@@ -9,8 +9,8 @@ pub returns-clause-makes : goal.returns-clause-makes
 returns-clause-makes c =
     let e = c.in_ok-new_version.ensures in
     subst (λ p. MakesVersion c.args.live.now c.new_version.new.live c.args.name.now p c.in_ok-new_version.field-0) c.in_ok-shared.ensures
-    (version_comes c.law_fits.ensures c.calls_find_rows.ensures c.args.live.now c.new_version.new.live c.args.name.now c.in_ok-path.path c.in_ok-shared.shared c.in_ok-new_version.field-0 c.in_ok-path.ensures c.new_version.ensures.closed
-    e.number e.new e.file e.places)
+    (version_comes c.law_fits.ensures c.calls_find_rows.ensures c.args.live.now c.new_version.new.live c.args.name.now c.in_ok-path.path c.in_ok-shared.shared c.in_ok-new_version.field-0 c.in_ok-path.ensures.file c.new_version.ensures.closed
+    e.number e.new e.file e.places c.in_ok-path.ensures.ascii)
 
 pub returns-clause-objects : goal.returns-clause-objects
 returns-clause-objects c = ap (λ (l : Live). l.objects) c.in_ok-new_version.ensures.new.after

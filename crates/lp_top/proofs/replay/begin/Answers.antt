@@ -21,12 +21,12 @@ returns-in-Err-NoMaster-clause-replays g c = λ b h.
     (subst (HasNoMasterIf c.args.opening.store c.args.opening.seed c.args.opening.moment) c.in-Err-NoMaster.field-0-is c.in-Err-NoMaster.ensures.none))
 
 pub returns-in-Err-Stopped-clause-replays : goal.returns-in-Err-Stopped-clause-replays
-returns-in-Err-Stopped-clause-replays g c = λ b h. rw c.stopped.ensures (replays-unstarted c.args.swap_time c.args.asks_report b c.args.reader.now _ _ c.args.opening c.in-Err-Stopped.fault c.at-at.result c.requires h c.at-at.ensures)
+returns-in-Err-Stopped-clause-replays g c = λ b h. rw c.stopped.ensures (replays-unstarted c.args.swap_time c.args.asks_report b c.args.reader.now _ _ c.args.opening c.in-Err-Stopped.fault c.requires h)
 
 pub returns-in-Err-Stopped-clause-whole : goal.returns-in-Err-Stopped-clause-whole
-returns-in-Err-Stopped-clause-whole g c = λ e. absurd (stop-not-done c.at-at.result c.in-Err-Stopped.fault (sym c.stopped.ensures ∙ e))
+returns-in-Err-Stopped-clause-whole g c = λ e. absurd (stop-not-done c.in-Err-Stopped.fault (sym c.stopped.ensures ∙ e))
 
 pub returns-in-Err-Stopped-clause-swap : goal.returns-in-Err-Stopped-clause-swap
 returns-in-Err-Stopped-clause-swap g c =
     let t = rw c.in-Err-Stopped.field-0-is at c.in-Err-Stopped.ensures.tells in
-    rw c.stopped.ensures (stop-tells c.at-at.result c.in-Err-Stopped.fault _ _ _ _ _ _ _ _ t.0 (begun-tells t.1))
+    rw c.stopped.ensures (stop-tells c.in-Err-Stopped.fault _ _ _ _ _ _ _ _ t.0 (begun-tells t.1))

@@ -52,16 +52,16 @@ pub returns-in-Err-carry-clause-replays : goal.returns-in-Err-carry-clause-repla
 returns-in-Err-carry-clause-replays g c = λ b from run h.
     let i = c.loop-item.invariant.running from run in
     let goes = goes-running c.args.swap_time c.loop-item.reader _ c.loop-item.live _ _ i in
-    replays-stopped c.args.swap_time c.args.asks_report b c.loop-item.reader c.next_item.new.reader _ c.loop-item.live _ _ _ _ c.in-Err-carry.status c.in-Event.event c.at.result i
+    replays-stopped c.args.swap_time c.args.asks_report b c.loop-item.reader c.next_item.new.reader _ c.loop-item.live _ _ _ _ c.in-Err-carry.status c.in-Event.event i
     (c.in-Ok.ensures.reads b (c.loop-item.invariant.reads b h))
     (subst (λ x. HasGiven c.next_item.new.reader (i.read ++ x ∷ [])) c.in-Event.is (c.in-Ok.ensures.given i.read goes i.going.given))
-    (subst (λ x. IsAfter (Ok x) c.next_item.new.reader.phase) c.in-Event.is c.in-Ok.ensures.phase) (c.at.ensures ∙ c.in-Ok.ensures.place goes) c.in-Err-carry.ensures.end
+    (subst (λ x. IsAfter (Ok x) c.next_item.new.reader.phase) c.in-Event.is c.in-Ok.ensures.phase) c.in-Err-carry.ensures.end
 
 pub returns-in-Err-carry-clause-most : goal.returns-in-Err-carry-clause-most
 returns-in-Err-carry-clause-most g c = λ b h. c.in-Ok.ensures.most b (c.loop-item.invariant.reads b h)
 
 pub returns-in-Err-carry-clause-kind : goal.returns-in-Err-carry-clause-kind
-returns-in-Err-carry-clause-kind g c = kind-interrupted _ _ _ _ c.in-Err-carry.status c.in-Err-carry.ensures.end
+returns-in-Err-carry-clause-kind g c = kind-interrupted _ _ _ c.in-Err-carry.status c.in-Err-carry.ensures.end
 
 pub returns-in-Err-carry-clause-output_cause : goal.returns-in-Err-carry-clause-output_cause
 returns-in-Err-carry-clause-output_cause g c = λ e.

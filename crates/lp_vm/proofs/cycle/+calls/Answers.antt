@@ -17,7 +17,6 @@ use Rattle.lp_vm.proofs.Causing.{read_exit, tells_more, tells_nothing, tells_or_
 use Rattle.lp_vm.proofs.Cycling.{call_can, call_continues, call_finishes, finishes_later}
 use Rattle.lp_vm.proofs.Enterings.{goes_on_more, goes_on_same}
 use Rattle.lp_vm.proofs.Startings.{enough, same_asker, same_later}
-use Rattle.std.specs.Str.{IsAscii}
 use Rattle.lp_cells.specs.Cells.{IsThere}
 use Rattle.lp_efuns.specs.declared.caller.Turn.{Turn}
 use Rattle.lp_swapfile.specs.Device.{Bytes}
@@ -31,7 +30,7 @@ use Rattle.lp_loading.specs.Going.{Takes}
 use Rattle.lp_loading.specs.Loads.{turns_left}
 use Rattle.lp_loading.specs.Steps.{EndsThere, GoesReading, MakesHome}
 use Rattle.lp_vm.specs.Loading.{BeginsLoad, CannotPay, LeadsOn, LoadBegins, LoadContinues, Loads, LoadsOn}
-use Rattle.lp_vm.proofs.Loads.{can_load_on, load_ascii, load_can_ask, load_can_go, load_can_make, load_ended, load_ends, load_goes, load_lies, load_made, load_paid, load_unpaid, load_went, loads_later, loads_more, loads_same}
+use Rattle.lp_vm.proofs.Loads.{can_load_on, load_can_ask, load_can_go, load_can_make, load_ended, load_ends, load_goes, load_lies, load_made, load_paid, load_unpaid, load_went, loads_later, loads_more, loads_same}
 use Rattle.lp_values.specs.declared.id.ObjId.{ObjId}
 use Rattle.lp_vm.specs.Causes.{Tells}
 use Rattle.lp_commanding.specs.declared.job.Begun.TheVariants as commands
@@ -146,6 +145,9 @@ go-turns-preserved g t c =
     }
 
 -- Efuns
+
+pub call_efun-start_efun-requires-clause-steps : goal.call_efun-start_efun-requires-clause-steps
+call_efun-start_efun-requires-clause-steps g t c = (sym c.is_clone.ensures.value ∙ c.if-is_clone.false, sym c.is_command.ensures.value ∙ c.if-is_command.false)
 
 pub call_efun-returns-in-Answered-clause-answers : goal.call_efun-returns-in-Answered-clause-answers
 call_efun-returns-in-Answered-clause-answers g t c = subst (λ r. BeginsEfun r c.args.at c.args.efun c.args.args (g.W.SwapFile.content c.args.swap.now) c.args.live.now c.args.stack.now.items c.args.asker.now c.args.budget.now (g.W.SwapFile.content c.start_efun.new.swap) c.start_efun.new.live c.start_efun.new.stack.items c.start_efun.new.asker c.start_efun.new.budget) c.in-Answered.is c.in_ok-ending.ensures.begins
@@ -356,7 +358,7 @@ pub load-load_on-requires : goal.load-load_on-requires
 load-load_on-requires g t c =
     let h : BeginsLoad c.in-Runs.job c.args.name.now c.args.purpose c.args.asker.now c.args.budget.now c.begin_load.new.asker c.begin_load.new.budget = subst (λ r. LoadBegins r c.args.name.now c.args.purpose c.args.asker.now c.args.budget.now c.begin_load.new.asker c.begin_load.new.budget) c.in-Runs.is c.in_ok-begin_load.ensures.begins in
     let paid = h.paid in
-    λ κs within. (omega (arith, paid), (within, (load_ascii c.args.caller c.args.at c.args.name.now c.args.purpose (g.W.SwapFile.content c.args.swap.now) c.args.live.now c.args.stack.now.items c.args.asker.now c.begin_load.new.asker c.args.budget.now c.begin_load.new.budget c.in-Runs.job h c.requires.can, (c.requires.fit, load_can_go c.args.caller c.args.at c.args.name.now c.args.purpose (g.W.SwapFile.content c.args.swap.now) c.args.live.now c.args.stack.now.items c.args.asker.now c.begin_load.new.asker c.args.budget.now c.begin_load.new.budget c.in-Runs.job h c.requires.can))))
+    λ κs within. (omega (arith, paid), (within, (c.requires.fit, load_can_go c.args.caller c.args.at c.args.name.now c.args.purpose (g.W.SwapFile.content c.args.swap.now) c.args.live.now c.args.stack.now.items c.args.asker.now c.begin_load.new.asker c.args.budget.now c.begin_load.new.budget c.in-Runs.job h c.requires.can)))
 
 pub load-returns-in-Spent-clause-loads : goal.load-returns-in-Spent-clause-loads
 load-returns-in-Spent-clause-loads g t c =
@@ -375,7 +377,6 @@ load-returns-in_ok-answer-in-Runs-clause-loads g t c =
 pub load_on-loads-init : goal.load_on-loads-init
 load_on-loads-init g t c = record {
   can = c.requires.can;
-  ascii = c.requires.ascii;
   fit = c.requires.fit;
   lies = refl;
   same = same_asker c.args.asker.now;
@@ -419,7 +420,7 @@ load_on-load-requires g t c =
 pub load_on-returns-in-Ends-2-clause-loads : goal.load_on-returns-in-Ends-2-clause-loads
 load_on-returns-in-Ends-2-clause-loads g t c =
     let leads : LeadsOn (steps.Asks c.in-Asks.name c.in-Asks.waiting) c.loads.job c.loads.going c.loads.asker.loads.items (g.W.SwapFile.content c.loads.swap) c.loads.live (g.W.SwapFile.content c.step_load.new.swap) c.step_load.new.live = subst (λ r. LeadsOn r c.loads.job c.loads.going c.loads.asker.loads.items (g.W.SwapFile.content c.loads.swap) c.loads.live (g.W.SwapFile.content c.step_load.new.swap) c.step_load.new.live) c.in-Asks.is c.in_ok-answer.ensures.leads in
-    let named : c.as_slice.result.now ≡ c.in-Asks.name = c.as_slice.ensures.value ∙ c.in_ok-letters-in-Asks.ensures in
+    let named : c.as_slice.result.now ≡ c.in-Asks.name = c.as_slice.ensures in
     let loads : Loads c.args.caller c.args.at c.in-Asks.name purposes.Inherited (g.W.SwapFile.content c.step_load.new.swap) c.step_load.new.live c.loads.stack.items c.loads.asker c.loads.budget (g.W.SwapFile.content c.load.new.swap) c.load.new.live c.load.new.stack.items c.load.new.asker c.load.new.budget c.in_ok-answer-in-Asks.answer =
     subst (λ n. Loads c.args.caller c.args.at n purposes.Inherited (g.W.SwapFile.content c.step_load.new.swap) c.step_load.new.live c.loads.stack.items c.loads.asker c.loads.budget (g.W.SwapFile.content c.load.new.swap) c.load.new.live c.load.new.stack.items c.load.new.asker c.load.new.budget c.in_ok-answer-in-Asks.answer) named c.in_ok-answer-in-Asks.ensures.loads in
     let takes : (told : Option Bytes) (turn : Turn) (b : ℕ) → Takes (fed.Ends c.in-Ends-2.answer) c.loads.job c.in-Asks.waiting c.in_ok-answer-in-Asks.answer told c.load.new.live c.feed_load.new.job turn b =
@@ -431,7 +432,7 @@ load_on-returns-in-Ends-2-clause-loads g t c =
 pub load_on-loads-smaller : goal.load_on-loads-smaller
 load_on-loads-smaller g t c =
     let leads : LeadsOn (steps.Asks c.in-Asks.name c.in-Asks.waiting) c.loads.job c.loads.going c.loads.asker.loads.items (g.W.SwapFile.content c.loads.swap) c.loads.live (g.W.SwapFile.content c.step_load.new.swap) c.step_load.new.live = subst (λ r. LeadsOn r c.loads.job c.loads.going c.loads.asker.loads.items (g.W.SwapFile.content c.loads.swap) c.loads.live (g.W.SwapFile.content c.step_load.new.swap) c.step_load.new.live) c.in-Asks.is c.in_ok-answer.ensures.leads in
-    let named : c.as_slice.result.now ≡ c.in-Asks.name = c.as_slice.ensures.value ∙ c.in_ok-letters-in-Asks.ensures in
+    let named : c.as_slice.result.now ≡ c.in-Asks.name = c.as_slice.ensures in
     let loads : Loads c.args.caller c.args.at c.in-Asks.name purposes.Inherited (g.W.SwapFile.content c.step_load.new.swap) c.step_load.new.live c.loads.stack.items c.loads.asker c.loads.budget (g.W.SwapFile.content c.load.new.swap) c.load.new.live c.load.new.stack.items c.load.new.asker c.load.new.budget c.in_ok-answer-in-Asks.answer =
     subst (λ n. Loads c.args.caller c.args.at n purposes.Inherited (g.W.SwapFile.content c.step_load.new.swap) c.step_load.new.live c.loads.stack.items c.loads.asker c.loads.budget (g.W.SwapFile.content c.load.new.swap) c.load.new.live c.load.new.stack.items c.load.new.asker c.load.new.budget c.in_ok-answer-in-Asks.answer) named c.in_ok-answer-in-Asks.ensures.loads in
     let reads : c.in-Goes.next ≡ goings.Read = subst GoesReading c.in-Goes.is c.in_ok-next-in-Asks.ensures.reads in
@@ -444,7 +445,7 @@ load_on-loads-smaller g t c =
 pub load_on-loads-preserved : goal.load_on-loads-preserved
 load_on-loads-preserved g t c =
     let leads : LeadsOn (steps.Asks c.in-Asks.name c.in-Asks.waiting) c.loads.job c.loads.going c.loads.asker.loads.items (g.W.SwapFile.content c.loads.swap) c.loads.live (g.W.SwapFile.content c.step_load.new.swap) c.step_load.new.live = subst (λ r. LeadsOn r c.loads.job c.loads.going c.loads.asker.loads.items (g.W.SwapFile.content c.loads.swap) c.loads.live (g.W.SwapFile.content c.step_load.new.swap) c.step_load.new.live) c.in-Asks.is c.in_ok-answer.ensures.leads in
-    let named : c.as_slice.result.now ≡ c.in-Asks.name = c.as_slice.ensures.value ∙ c.in_ok-letters-in-Asks.ensures in
+    let named : c.as_slice.result.now ≡ c.in-Asks.name = c.as_slice.ensures in
     let loads : Loads c.args.caller c.args.at c.in-Asks.name purposes.Inherited (g.W.SwapFile.content c.step_load.new.swap) c.step_load.new.live c.loads.stack.items c.loads.asker c.loads.budget (g.W.SwapFile.content c.load.new.swap) c.load.new.live c.load.new.stack.items c.load.new.asker c.load.new.budget c.in_ok-answer-in-Asks.answer =
     subst (λ n. Loads c.args.caller c.args.at n purposes.Inherited (g.W.SwapFile.content c.step_load.new.swap) c.step_load.new.live c.loads.stack.items c.loads.asker c.loads.budget (g.W.SwapFile.content c.load.new.swap) c.load.new.live c.load.new.stack.items c.load.new.asker c.load.new.budget c.in_ok-answer-in-Asks.answer) named c.in_ok-answer-in-Asks.ensures.loads in
     let takes : (told : Option Bytes) (turn : Turn) (b : ℕ) → Takes (fed.Goes c.in-Goes.next) c.loads.job c.in-Asks.waiting c.in_ok-answer-in-Asks.answer told c.load.new.live c.feed_load.new.job turn b =
@@ -453,7 +454,6 @@ load_on-loads-preserved g t c =
     load_goes c.args.caller c.args.at c.loads.job c.loads.going (g.W.SwapFile.content c.loads.swap) (g.W.SwapFile.content c.step_load.new.swap) c.loads.live c.step_load.new.live c.loads.stack.items c.loads.asker c.loads.budget c.in-Asks.name c.in-Asks.waiting leads (g.W.SwapFile.content c.load.new.swap) c.load.new.live c.load.new.stack.items c.load.new.asker c.load.new.budget c.in_ok-answer-in-Asks.answer loads c.in-Goes.next c.feed_load.new.job takes c.in_ok-next-in-Asks.ensures.same in
     record {
       can = can_load_on c.args.caller c.args.at c.loads.job c.feed_load.new.job c.loads.going c.in-Goes.next (g.W.SwapFile.content c.loads.swap) (g.W.SwapFile.content c.load.new.swap) c.loads.live c.load.new.live c.loads.asker c.load.new.asker c.loads.budget c.load.new.budget c.loads.invariant.can more;
-      ascii = subst IsAscii (sym (ap (λ (j : LoadJob). j.name) c.in_ok-next-in-Asks.ensures.same)) c.loads.invariant.ascii;
       fit = loads.fit;
       lies = load_lies c.args.caller c.args.at c.loads.job c.loads.going (g.W.SwapFile.content c.loads.swap) (g.W.SwapFile.content c.step_load.new.swap) c.loads.live c.step_load.new.live c.loads.stack.items c.loads.asker c.loads.budget c.in-Asks.name c.in-Asks.waiting leads (g.W.SwapFile.content c.load.new.swap) c.load.new.live c.load.new.stack.items c.load.new.asker c.load.new.budget c.in_ok-answer-in-Asks.answer loads c.loads.invariant.can ∙ c.loads.invariant.lies;
       same = same_later c.args.asker.now c.loads.asker c.load.new.asker c.loads.invariant.same loads.same;

@@ -1,6 +1,5 @@
 use Rattle.std.proofs.Common.{◌≡◌, ◌≤◌, ◌+◌, ◌*◌, Ok}
 use Rattle.std.specs.Prelude.{IsSome}
-use Rattle.std.specs.Str.{IsAscii}
 use Rattle.lp_step.specs.Steps.{IsFit, KeepsVariables}
 use Rattle.lp_run.specs.Runs.{left_of}
 use Rattle.lp_beginning.specs.Jobs as making
@@ -135,7 +134,6 @@ decreases-carry_out-actions g l = commands.questions_left l.job
 abbrev pub invariant-load_on-loads : goal.invariant-load_on-loads
 invariant-load_on-loads g l = record {
   can : CanLoadOn l.fn.caller l.fn.at l.job (g.W.SwapFile.content l.swap) l.live l.asker l.budget;
-  ascii : IsAscii l.job.name;
   fit : IsFit l.live l.stack.items;
   lies : l.stack.items ≡ l.fn.stack.items;
   same : IsSameAsker l.fn.asker l.asker;

@@ -1,0 +1,7 @@
+use Rattle.lp_devices.proofs.Telling.{err_then, nothing_changed}
+use Rattle.lp_devices.proofs.folder.TestFolderFiles.write.Goals as goal
+
+pub returns-in-Ok-clause-err : goal.returns-in-Ok-clause-err
+returns-in-Ok-clause-err c = err_then c.write.result _ _
+    (λ kept. nothing_changed c.args.path.now c.args.self.now.tells c.begin_call.new.self.tells c.args.self.now.memory c.begin_call.new.self.memory c.write.new.self c.begin_call.ensures.tells c.begin_call.ensures.same kept)
+    c.write.ensures.err

@@ -1,0 +1,4 @@
+pub mod Bytes
+pub mod Dropping
+pub mod Reading
+pub mod Showing
