@@ -72,7 +72,8 @@ pub fn frame(alloc: Global, kind: u8, payload: &[u8]) -> Result<Vec<u8>, AllocEr
         bytes.push(128 | payload.len() as u8)?;
     } else {
         bytes.push(128 | 126)?;
-        bytes.extend_from_slice(&(payload.len() as u16).to_be_bytes())?;
+        bytes.push((payload.len() / 256 % 256) as u8)?;
+        bytes.push((payload.len() % 256) as u8)?;
     }
     bytes.extend_from_slice(&[0, 0, 0, 0])?;
     bytes.extend_from_slice(payload)?;

@@ -38,8 +38,9 @@ fn player(alloc: Global) -> Result<Vec<Vec<u8>>, AllocError> {
     pieces.push(frame(alloc, 0x80, b"ok".as_slice())?)?;
     pieces.push(frame(alloc, 0x81, b"a\0b\r\nc".as_slice())?)?;
     let whole = frame(alloc, 0x81, long.as_slice())?;
-    pieces.push(whole[..4000].to_vec(alloc)?)?;
-    pieces.push(whole[4000..].to_vec(alloc)?)?;
+    let cut = whole.len().min(4000);
+    pieces.push(whole[..cut].to_vec(alloc)?)?;
+    pieces.push(whole[cut..].to_vec(alloc)?)?;
     pieces.push(frame(alloc, 0x8A, b"".as_slice())?)?;
     Ok(pieces)
 }
