@@ -43,7 +43,7 @@ fn load_one(
 }
 
 /// Loads the files whose loads did not end yet, one after another. After `Err` nothing is said of the loads.
-pub(crate) fn load_all(
+pub fn load_all(
     alloc: Global,
     files: &Store,
     simuls: &Names2,

@@ -7,4 +7,6 @@ mod lines;
 mod simul;
 mod sources;
 
+pub use all::load_all;
+pub use simul::load_simul;
 pub use sources::Sources;

@@ -132,7 +132,7 @@ fn load_listed(
 
 /// Loads the file of the simul efuns, if there is one: that with the path that is given, if it is among those that are
 /// compiled. Gives its names, or none. After `Err` nothing is said of the loads.
-pub(crate) fn load_simul(
+pub fn load_simul(
     alloc: Global,
     files: &Store,
     paths: &[FilePath],

@@ -48,6 +48,20 @@ impl Sources {
         Ok(())
     }
 
+    /// The files. Takes no memory.
+    pub fn store(&self) -> &Store
+        ensures { result.now ≡ self.now.store }
+    {
+        &self.store
+    }
+
+    /// The paths of those that are compiled, in their order. Takes no memory.
+    pub fn paths(&self) -> &[FilePath]
+        ensures { result.now ≡ self.now.paths.items }
+    {
+        self.paths.as_slice()
+    }
+
     /// The report of the files: a line `FILE line N: TEXT` for each fault that loading those finds that are compiled, their
     /// parents first and running nothing, by the paths of the files, and the line `F files, E faults`, where F counts the
     /// files that are compiled. Where `simul` is the path of one of them, it is loaded before the others, and each other

@@ -1,0 +1,4 @@
+pub mod Scripts
+pub mod Verdicts
+pub mod Lines
+pub mod Tested
