@@ -10,7 +10,11 @@ ghost use Rattle.lp_run.specs.Kept.{MachineKeeps};
 ghost use Rattle.lp_run.specs.Runs.{CanRun, IsLast, RunsTo, Went};
 
 pub mod catches;
+mod common;
+mod items;
+mod taking;
 
+use crate::taking::take_many;
 use lp_step::fault::StepFault;
 use lp_step::next::Next;
 use lp_step::step::step;
@@ -51,6 +55,7 @@ pub fn run(
     ensures fit { OnOk result (IsFit live.new stack.new.items) }
 {
     'steps: loop {
+        frame.at = take_many(live, stack, frame, budget)?;
         match go(live, stack, frame, budget)? {
             Next::Again => {}
             next => return Ok(next),
