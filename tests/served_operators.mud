@@ -58,6 +58,87 @@ end
 --- left /c.c
 string v( { return "new"; }
 
+=== mended_file
+# A file with a fault that is mended outside by the third call of the folder: that is the second reload's, for nothing is written in between.
+--- wire
+accept 0
+accept 1
+line 1: call /c
+line 0: reload /c.c
+line 1: call /c
+line 0: reload /c.c
+line 1: call /c
+line 0: stop
+--- edited 2 /c.c
+string v( { return "new"; }
+--- edited 3 /c.c
+string v() { return "mended"; }
+--- taken
+to 0: "ok\nok\n"
+to 1: "Hello\r\nold\r\n*Could not load /c\r\nmended\r\n"
+--- play
+connect 1
+line 1: call /c
+--- reload /c.c
+string v( { return "new"; }
+--- play
+line 1: call /c
+--- reload /c.c
+string v() { return "mended"; }
+--- play
+line 1: call /c
+end
+--- left /c.c
+string v() { return "mended"; }
+
+=== read_file_is_not_written_back
+# What the folder has just given is no changed file, so calls that would fail are not made.
+files fail: 3,4,5,6,7,8,9
+--- wire
+accept 0
+line 0: reload /c.c
+idle
+line 0: stop
+--- edited 2 /c.c
+string v() { return "new"; }
+--- taken
+to 0: "ok\n"
+--- play
+--- reload /c.c
+string v() { return "new"; }
+--- play
+end
+--- left /c.c
+string v() { return "new"; }
+
+=== reloaded_while_its_write_waits
+# LPC has written the file, and its write fails; the operator's reload then reads what the folder holds, and the write waits no more.
+files fail: 2,3,5,6,7,8,9,10,11,12
+--- /secure/master.c
+object connect() { return this_object(); }
+int valid_read() { return 1; } int valid_write() { return 1; }
+int logon() { enable_commands(); add_action("put", "put"); add_action("read", "read"); return 1; }
+int put(string s) { write(write_file("/c.c", "// more") + "\n"); return 1; }
+int read(string s) { write(read_file("/c.c")); return 1; }
+--- wire
+accept 0
+accept 1
+line 1: put
+line 0: reload /c.c
+line 1: read
+line 0: stop
+--- taken
+to 0: "ok\n"
+to 1: "1\r\nstring v() { return \"old\"; }\r\n"
+--- play
+connect 1
+line 1: put
+--- reload /c.c
+string v() { return "old"; }
+--- play
+line 1: read
+end
+
 === missing_file
 # A file that is not there is no event, and its failed read is no fault of the run.
 --- wire

@@ -1,3 +1,4 @@
 pub mod HostedRuns
 pub mod Played
 pub mod Blaming
+pub mod Shortened

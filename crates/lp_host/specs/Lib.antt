@@ -1,3 +1,4 @@
 pub mod Playing
 pub mod Hosting
 pub mod Causes
+pub mod CutGames

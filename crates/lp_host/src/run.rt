@@ -7,6 +7,7 @@ ghost use Rattle.lp_folder.specs.Held.{loaded_at};
 ghost use Rattle.lp_folder.specs.declared.outside.Loaded.{Loaded as L};
 ghost use Rattle.lp_front_end.specs.FrontEnds.{IsFrontEnd};
 ghost use Rattle.lp_host.specs.Causes.{BlamesFiles, HasNoMaster, IsInOrder, IsNoMaster, IsQuiet, NothingFailed, SwapTells, is_output_end, is_wire_end};
+ghost use Rattle.lp_host.specs.CutGames.{CutsGame, HasGone, WasHosted, WasPlayed};
 ghost use Rattle.lp_host.specs.Hosting.{AsHosted, IsHosted, IsUnloaded, LeavesFiles, hosted_of, opening_written, stopped_of, unstarted_of};
 ghost use Rattle.lp_host.specs.Playing.{HasPlayed, IsPlayed, world_files};
 ghost use Rattle.lp_io.specs.Counts.{Counts};
@@ -16,6 +17,7 @@ ghost use Rattle.lp_meaning.specs.Closing.{MakesNoMaster};
 ghost use Rattle.lp_meaning.specs.FrontEnd.{FrontEnd};
 ghost use Rattle.lp_recording.specs.Recorded.{ending, files_in};
 ghost use Rattle.lp_script.specs.Put.{Puts};
+ghost use Rattle.lp_serve.specs.CutRuns.{HasKept};
 ghost use Rattle.lp_serving.specs.Causes.{OutputTells};
 ghost use Rattle.lp_state.specs.States.{GoesOn, live_in};
 
@@ -172,6 +174,7 @@ fn play<K: Sink, F: Files, W: Truthful, N: Wire>(
     ensures run { (origin : Origin) → HasPlayed origin (W.content swap.old) (live_in state) [] → AsHosted result
         (λ end stops polls left. IsPlayed (N.first wire.old) origin hosting.now.keeps (K.written out.old) (K.written out.new) end stops polls left (N.calls wire.old) (N.calls wire.new))
         (LeavesFiles (F.faults files.old) (F.held files.new) (F.faults files.new)) ⊥ (ending hosting.now.keeps) hosting.now.turns }
+    ensures cut { (origin : Origin) → HasPlayed origin (W.content swap.old) (live_in state) [] → CutsGame result (HasKept (WasPlayed origin) hosting.now.keeps) hosting.now.keeps (K.written out.old) (K.written out.new) }
     ensures output { OutputTells (is_output_end result) (K.faults out.old) (K.faults out.new) (K.zeros out.old) (K.zeros out.new) }
     ensures files { BlamesFiles result (F.faults files.old) (F.faults files.new) }
     ensures wire { Counts (is_wire_end result) (N.faults wire.old) (N.faults wire.new) }
@@ -208,6 +211,7 @@ fn begin<K: Sink, F: Files, W: Truthful, N: Wire>(
     ensures run { AsHosted result (λ end stops polls left. (outs : List O) × IsPlayed (N.first wire.old) (record { seed = hosting.now.seed; moment = N.first wire.old; files = files_in loaded.items; outputs = outs }) hosting.now.keeps
         (after_adding (K.written out.old) (opening_written hosting.now.keeps hosting.now.seed (N.first wire.old) loaded.items outs)) (K.written out.new) end stops polls left (N.calls wire.old) (N.calls wire.new))
         (LeavesFiles (F.faults files.old) (F.held files.new) (F.faults files.new)) ⊥ (ending hosting.now.keeps) hosting.now.turns }
+    ensures cut { CutsGame result (HasGone hosting.now.seed hosting.now.keeps (N.first wire.old) loaded.items) hosting.now.keeps (K.written out.old) (K.written out.new) }
     ensures output { OutputTells (is_output_end result) (K.faults out.old) (K.faults out.new) (K.zeros out.old) (K.zeros out.new) }
     ensures files { BlamesFiles result (F.faults files.old) (F.faults files.new) }
     ensures wire { Counts (is_wire_end result) (N.faults wire.old) (N.faults wire.new) }
@@ -248,6 +252,7 @@ pub fn host<K: Sink, F: Files, W: Truthful, N: Wire>(
     ensures hosts { AsHosted result
         (λ end stops polls left. IsHosted hosting.now.seed hosting.now.keeps (F.held files.old) (N.first wire.old) (K.written out.old) (K.written out.new) end stops polls left (N.calls wire.old) (N.calls wire.new))
         (LeavesFiles (F.faults files.old) (F.held files.new) (F.faults files.new)) ((wire.new ≡ wire.old) × (out.new ≡ out.old)) (ending hosting.now.keeps) hosting.now.turns }
+    ensures cut { CutsGame result (WasHosted hosting.now.seed hosting.now.keeps (F.held files.old) (N.first wire.old)) hosting.now.keeps (K.written out.old) (K.written out.new) }
     ensures output_fault { OutputTells (is_output_end result) (K.faults out.old) (K.faults out.new) (K.zeros out.old) (K.zeros out.new) }
     ensures files_fault { BlamesFiles result (F.faults files.old) (F.faults files.new) }
     ensures wire_fault { Counts (is_wire_end result) (N.faults wire.old) (N.faults wire.new) }

@@ -3,3 +3,4 @@ pub mod Ordering
 pub mod RoundsHeard
 pub mod Running
 pub mod Blaming
+pub mod Shortened

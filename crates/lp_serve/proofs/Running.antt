@@ -276,11 +276,11 @@ has_served opening g stops calls deeds a =
       stopped = q.3;
     }
 
-adding_none : (told : Option (List ℕ)) → told ≡ after_adding told []
+pub adding_none : (told : Option (List ℕ)) → told ≡ after_adding told []
 adding_none None = refl
 adding_none (Some xs) = ap Some (sym (append-nil xs))
 
-nothing_written : (keeps : Keeps) → deeds_written keeps [] ≡ []
+pub nothing_written : (keeps : Keeps) → deeds_written keeps [] ≡ []
 nothing_written kept.Record = refl
 nothing_written kept.Log = refl
 

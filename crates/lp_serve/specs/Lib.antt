@@ -2,3 +2,4 @@ pub mod Standing
 pub mod Rounds
 pub mod Served
 pub mod Causes
+pub mod CutRuns

@@ -6,6 +6,7 @@ ghost use Rattle.lp_wire.specs.Heard.{accept_heard, happening_heard, lost_heard,
 ghost use Rattle.lp_control.specs.Operator.{TellsOperator, new_operator, with_answer};
 ghost use Rattle.lp_sessions.specs.Table.{no_connections};
 ghost use Rattle.lp_serving.specs.Causes.{OutputTells, SwapTells, is_output};
+ghost use Rattle.lp_serving.specs.CutShort.{CutsShort};
 ghost use Rattle.lp_serving.specs.Recorded.{Recorded};
 ghost use Rattle.lp_serving.specs.declared.server.End.TheVariants.{NoMemory};
 ghost use Rattle.lp_serve.specs.Standing.{Does, TellsAgain};
@@ -94,6 +95,7 @@ impl Game {
         ensures keeps { self.new.server.keeps ≡ self.old.server.keeps }
         ensures faults { N.faults wire.new ≡ N.faults wire.old }
         ensures first { N.first wire.new ≡ N.first wire.old }
+        ensures cut { IfErr result (CutsShort (C.ran core.old swap.old) (λ origin turns. (c : C) × (w : W) × C.ran c w origin turns) self.old.server.keeps (K.written out.old) (K.written out.new)) }
         ensures output { OutputTells (is_output result) (K.faults out.old) (K.faults out.new) (K.zeros out.old) (K.zeros out.new) }
         ensures files { F.faults files.old ≤ F.faults files.new }
         ensures swap { (from : W) → C.quiet from swap.old → SwapTells result (C.quiet from swap.new) (C.blames core.new from swap.new) }
@@ -119,6 +121,7 @@ impl Game {
         ensures keeps { self.new.server.keeps ≡ self.old.server.keeps }
         ensures faults { N.faults wire.new ≡ N.faults wire.old }
         ensures first { N.first wire.new ≡ N.first wire.old }
+        ensures cut { IfErr result (CutsShort (C.ran core.old swap.old) (λ origin turns. (c : C) × (w : W) × C.ran c w origin turns) self.old.server.keeps (K.written out.old) (K.written out.new)) }
         ensures output { OutputTells (is_output result) (K.faults out.old) (K.faults out.new) (K.zeros out.old) (K.zeros out.new) }
         ensures files { F.faults files.old ≤ F.faults files.new }
         ensures swap { (from : W) → C.quiet from swap.old → SwapTells result (C.quiet from swap.new) (C.blames core.new from swap.new) }
@@ -153,6 +156,7 @@ impl Game {
         ensures keeps { self.new.server.keeps ≡ self.old.server.keeps }
         ensures faults { N.faults wire.new ≡ N.faults wire.old }
         ensures first { N.first wire.new ≡ N.first wire.old }
+        ensures cut { IfErr result (CutsShort (C.ran core.old swap.old) (λ origin turns. (c : C) × (w : W) × C.ran c w origin turns) self.old.server.keeps (K.written out.old) (K.written out.new)) }
         ensures output { OutputTells (is_output result) (K.faults out.old) (K.faults out.new) (K.zeros out.old) (K.zeros out.new) }
         ensures files { F.faults files.old ≤ F.faults files.new }
         ensures swap { (from : W) → C.quiet from swap.old → SwapTells result (C.quiet from swap.new) (C.blames core.new from swap.new) }
@@ -186,12 +190,17 @@ impl Game {
         ensures keeps { self.new.server.keeps ≡ self.old.server.keeps }
         ensures faults { N.faults wire.new ≡ N.faults wire.old }
         ensures first { N.first wire.new ≡ N.first wire.old }
+        ensures cut { IfErr result (CutsShort (C.ran core.old swap.old) (λ origin turns. (c : C) × (w : W) × C.ran c w origin turns) self.old.server.keeps (K.written out.old) (K.written out.new)) }
         ensures output { OutputTells (is_output result) (K.faults out.old) (K.faults out.new) (K.zeros out.old) (K.zeros out.new) }
         ensures files { F.faults files.old ≤ F.faults files.new }
         ensures swap { (from : W) → C.quiet from swap.old → SwapTells result (C.quiet from swap.new) (C.blames core.new from swap.new) }
     {
         for line in lines {
-            if self.order(core, swap, files, wire, out, line.as_slice())? {
+            let stops = match self.order(core, swap, files, wire, out, line.as_slice()) {
+                Ok(stops) => stops,
+                Err(end) => return Err(end),
+            };
+            if stops {
                 return Ok(true);
             }
         }
@@ -215,6 +224,7 @@ impl Game {
         ensures keeps { self.new.server.keeps ≡ self.old.server.keeps }
         ensures faults { N.faults wire.new ≡ N.faults wire.old }
         ensures first { N.first wire.new ≡ N.first wire.old }
+        ensures cut { IfErr result (CutsShort (C.ran core.old swap.old) (λ origin turns. (c : C) × (w : W) × C.ran c w origin turns) self.old.server.keeps (K.written out.old) (K.written out.new)) }
         ensures output { OutputTells (is_output result) (K.faults out.old) (K.faults out.new) (K.zeros out.old) (K.zeros out.new) }
         ensures files { F.faults files.old ≤ F.faults files.new }
         ensures swap { (from : W) → C.quiet from swap.old → SwapTells result (C.quiet from swap.new) (C.blames core.new from swap.new) }
@@ -245,6 +255,7 @@ impl Game {
         ensures keeps { self.new.server.keeps ≡ self.old.server.keeps }
         ensures faults { N.faults wire.new ≡ N.faults wire.old }
         ensures first { N.first wire.new ≡ N.first wire.old }
+        ensures cut { IfErr result (CutsShort (C.ran core.old swap.old) (λ origin turns. (c : C) × (w : W) × C.ran c w origin turns) self.old.server.keeps (K.written out.old) (K.written out.new)) }
         ensures output { OutputTells (is_output result) (K.faults out.old) (K.faults out.new) (K.zeros out.old) (K.zeros out.new) }
         ensures files { F.faults files.old ≤ F.faults files.new }
         ensures swap { (from : W) → C.quiet from swap.old → SwapTells result (C.quiet from swap.new) (C.blames core.new from swap.new) }
@@ -272,6 +283,7 @@ impl Game {
         ensures keeps { self.new.server.keeps ≡ self.old.server.keeps }
         ensures faults { N.faults wire.new ≡ N.faults wire.old }
         ensures first { N.first wire.new ≡ N.first wire.old }
+        ensures cut { IfErr result (CutsShort (C.ran core.old swap.old) (λ origin turns. (c : C) × (w : W) × C.ran c w origin turns) self.old.server.keeps (K.written out.old) (K.written out.new)) }
         ensures output { OutputTells (is_output result) (K.faults out.old) (K.faults out.new) (K.zeros out.old) (K.zeros out.new) }
         ensures files { F.faults files.old ≤ F.faults files.new }
         ensures swap { (from : W) → C.quiet from swap.old → SwapTells result (C.quiet from swap.new) (C.blames core.new from swap.new) }
@@ -299,6 +311,7 @@ impl Game {
         ensures keeps { self.new.server.keeps ≡ self.old.server.keeps }
         ensures faults { N.faults wire.new ≡ N.faults wire.old }
         ensures first { N.first wire.new ≡ N.first wire.old }
+        ensures cut { IfErr result (CutsShort (C.ran core.old swap.old) (λ origin turns. (c : C) × (w : W) × C.ran c w origin turns) self.old.server.keeps (K.written out.old) (K.written out.new)) }
         ensures output { OutputTells (is_output result) (K.faults out.old) (K.faults out.new) (K.zeros out.old) (K.zeros out.new) }
         ensures files { F.faults files.old ≤ F.faults files.new }
         ensures swap { (from : W) → C.quiet from swap.old → SwapTells result (C.quiet from swap.new) (C.blames core.new from swap.new) }

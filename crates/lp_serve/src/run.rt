@@ -6,9 +6,11 @@ ghost use Rattle.lp_core.specs.Turning.{Origin, Turn};
 ghost use Rattle.lp_files.specs.Store.{changed_in, file_at};
 ghost use Rattle.lp_recording.specs.Recorded.{ending};
 ghost use Rattle.lp_serving.specs.Causes.{OutputTells};
+ghost use Rattle.lp_serving.specs.CutShort.{CutsShort};
 ghost use Rattle.lp_serving.specs.Recorded.{Recorded};
 ghost use Rattle.lp_wire.specs.Wires.{Adds};
 ghost use Rattle.lp_serve.specs.Causes.{EarlyTells, FilesTell, HasNotRisen, IsBlameless, SwapTells, TriedLast, is_early_output, is_output_fault, is_wire_fault};
+ghost use Rattle.lp_serve.specs.CutRuns.{CutsRun, EndsUpTo, IfCut};
 ghost use Rattle.lp_serve.specs.Served.{AsEnded, GoesRound, HasRun, IfStopped, IfVain, LeavesUnwritten, early_served, is_vain};
 
 use crate::game::Game;
@@ -77,6 +79,7 @@ fn round<W, C: Core<W>, F: Files, N: Wire, K: Sink>(
     ensures keeps { game.new.server.keeps ≡ game.old.server.keeps }
     ensures faults { Counts (is_vain result) (N.faults wire.old) (N.faults wire.new) }
     ensures first { N.first wire.new ≡ N.first wire.old }
+    ensures cut { IfCut result (CutsShort (C.ran core.old swap.old) (λ origin turns. (c : C) × (w : W) × C.ran c w origin turns) game.old.server.keeps (K.written out.old) (K.written out.new)) }
     ensures output { OutputTells (is_early_output result) (K.faults out.old) (K.faults out.new) (K.zeros out.old) (K.zeros out.new) }
     ensures files { F.faults files.old ≤ F.faults files.new }
     ensures swap { (from : W) → C.quiet from swap.old → EarlyTells result (C.quiet from swap.new) (C.blames core.new from swap.new) }
@@ -109,6 +112,7 @@ fn stop<W, C: Core<W>, F: Files, K: Sink>(
     ensures ran { (swap : W) (origin : Origin) (turns : List Turn) → C.ran core.old swap origin turns → C.ran core.new swap origin turns }
     ensures unwritten { LeavesUnwritten result (changed_in (C.stored core.new)) }
     ensures written { IfStopped result (K.written out.new ≡ after_adding (K.written out.old) (ending keeps)) }
+    ensures cut { EndsUpTo result (ending keeps) (K.written out.old) (K.written out.new) }
     ensures output { OutputTells (is_output_fault result) (K.faults out.old) (K.faults out.new) (K.zeros out.old) (K.zeros out.new) }
     ensures files { FilesTell result (λ failed. TriedLast failed (file_at (C.stored core.new)) (F.faults files.old) (changed_in (C.stored core.new)) (F.held files.new) (F.faults files.new)) (Rose (F.faults files.old) (F.faults files.new)) }
     ensures no_fall { F.faults files.old ≤ F.faults files.new }
@@ -148,6 +152,7 @@ pub fn serve<W, C: Core<W>, F: Files, N: Wire, K: Sink>(
     requires running { C.goes core.now swap.now }
     ensures run { (origin : Origin) → C.ran core.old swap.old origin [] → AsEnded result
         (λ end stops polls. HasRun (N.first wire.old) (C.ran core.new swap.new origin) keeps (K.written out.old) (K.written out.new) end stops polls (N.calls wire.old) (N.calls wire.new)) (ending keeps) turns }
+    ensures cut { (origin : Origin) → C.ran core.old swap.old origin [] → CutsRun result (λ turns. (c : C) × (w : W) × C.ran c w origin turns) keeps (K.written out.old) (K.written out.new) }
     ensures unwritten { LeavesUnwritten result (changed_in (C.stored core.new)) }
     ensures running { C.goes core.new swap.new }
     ensures output_fault { OutputTells (is_output_fault result) (K.faults out.old) (K.faults out.new) (K.zeros out.old) (K.zeros out.new) }

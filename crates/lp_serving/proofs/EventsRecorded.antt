@@ -40,7 +40,7 @@ pub written_append : (keeps : Keeps) (ds es : List Deed) → deeds_written keeps
 written_append Record ds es = ap spellings (events_append ds es) ∙ flat_map-append spelling (event_items (events_of ds)) (event_items (events_of es))
 written_append Log ds es = ap (flat_map logged) (outputs_append ds es) ∙ flat_map-append logged (outputs_of ds) (outputs_of es)
 
-one_written : (keeps : Keeps) (event : Event) (outs : List Out) → deeds_written keeps (Turned event outs ∷ []) ≡ kept_of keeps event outs
+pub one_written : (keeps : Keeps) (event : Event) (outs : List Out) → deeds_written keeps (Turned event outs ∷ []) ≡ kept_of keeps event outs
 one_written Record event outs = append-nil (spelling (items.Event event))
 one_written Log event outs = append-nil (logged outs)
 
@@ -49,7 +49,7 @@ adding_twice None a b = refl
 adding_twice (Some xs) a b = ap Some (append_assoc xs a b)
 
 -- one more event was carried out, and written
-recorded_more : (ran0 ran1 : List Turn → Type 0) (keeps : Keeps) (before w0 w1 : Option (List ℕ)) (event : Event) (outs : List Out) (ds : List Deed)
+pub recorded_more : (ran0 ran1 : List Turn → Type 0) (keeps : Keeps) (before w0 w1 : Option (List ℕ)) (event : Event) (outs : List Out) (ds : List Deed)
     → ((turns : List Turn) → ran0 turns → ran1 (turns ++ (event, outs) ∷ [])) → w1 ≡ after_adding w0 (kept_of keeps event outs)
     → Recorded ran0 keeps before w0 ds → Recorded ran1 keeps before w1 (ds ++ Turned event outs ∷ [])
 recorded_more ran0 ran1 keeps before w0 w1 event outs ds ran wrote r =

@@ -3,3 +3,4 @@ pub mod Going
 pub mod Happening
 pub mod LinesHeard
 pub mod Causes
+pub mod Cutting

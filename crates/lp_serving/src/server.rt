@@ -1,5 +1,5 @@
 //! Events of a served run.
-ghost use Rattle.std.specs.Prelude.{◌≡◌, ◌<◌, ◌≤◌, List, OnOk, Option, ℕ, length};
+ghost use Rattle.std.specs.Prelude.{◌≡◌, ◌<◌, ◌≤◌, IfErr, List, OnOk, Option, ℕ, length};
 ghost use Rattle.lp_core.specs.Turning.{MayCome, Origin};
 ghost use Rattle.std.specs.List.{remove};
 ghost use Rattle.lp_sessions.specs.All.{numbers};
@@ -7,6 +7,7 @@ ghost use Rattle.lp_sessions.specs.Table.{no_connections};
 ghost use Rattle.lp_wire.specs.Heard.{Hearing, is_open, line_heard, lines_heard, piece_heard, accept_heard, lost_heard, settled, tick_heard};
 ghost use Rattle.lp_wire.specs.declared.happening.WireCall.{WireCall};
 ghost use Rattle.lp_serving.specs.Causes.{OutputTells, SwapTells, is_output};
+ghost use Rattle.lp_serving.specs.CutShort.{CutsShort};
 ghost use Rattle.lp_serving.specs.Happens.{Happens, Serving};
 ghost use Rattle.lp_serving.specs.Recorded.{Recorded};
 ghost use Rattle.lp_serving.specs.Serves.{Forgets, Goes, SendsAlone, TurnsOver, turn_course};
@@ -98,6 +99,7 @@ impl Server {
         ensures keeps { self.new.keeps ≡ self.old.keeps }
         ensures faults { N.faults wire.new ≡ N.faults wire.old }
         ensures first { N.first wire.new ≡ N.first wire.old }
+        ensures cut { IfErr result (CutsShort (C.ran core.old swap.old) (λ origin turns. (c : C) × (w : W) × C.ran c w origin turns) self.old.keeps (K.written out.old) (K.written out.new)) }
         ensures output { OutputTells (is_output result) (K.faults out.old) (K.faults out.new) (K.zeros out.old) (K.zeros out.new) }
         ensures files { F.faults files.old ≤ F.faults files.new }
         ensures swap { (from : W) → C.quiet from swap.old → SwapTells result (C.quiet from swap.new) (C.blames core.new from swap.new) }
@@ -135,6 +137,7 @@ impl Server {
         ensures keeps { self.new.keeps ≡ self.old.keeps }
         ensures faults { N.faults wire.new ≡ N.faults wire.old }
         ensures first { N.first wire.new ≡ N.first wire.old }
+        ensures cut { IfErr result (CutsShort (C.ran core.old swap.old) (λ origin turns. (c : C) × (w : W) × C.ran c w origin turns) self.old.keeps (K.written out.old) (K.written out.new)) }
         ensures output { OutputTells (is_output result) (K.faults out.old) (K.faults out.new) (K.zeros out.old) (K.zeros out.new) }
         ensures files { F.faults files.old ≤ F.faults files.new }
         ensures swap { (from : W) → C.quiet from swap.old → SwapTells result (C.quiet from swap.new) (C.blames core.new from swap.new) }
@@ -171,6 +174,7 @@ impl Server {
         ensures keeps { self.new.keeps ≡ self.old.keeps }
         ensures faults { N.faults wire.new ≡ N.faults wire.old }
         ensures first { N.first wire.new ≡ N.first wire.old }
+        ensures cut { IfErr result (CutsShort (C.ran core.old swap.old) (λ origin turns. (c : C) × (w : W) × C.ran c w origin turns) self.old.keeps (K.written out.old) (K.written out.new)) }
         ensures output { OutputTells (is_output result) (K.faults out.old) (K.faults out.new) (K.zeros out.old) (K.zeros out.new) }
         ensures files { F.faults files.old ≤ F.faults files.new }
         ensures swap { (from : W) → C.quiet from swap.old → SwapTells result (C.quiet from swap.new) (C.blames core.new from swap.new) }
@@ -196,6 +200,7 @@ impl Server {
         ensures keeps { self.new.keeps ≡ self.old.keeps }
         ensures faults { N.faults wire.new ≡ N.faults wire.old }
         ensures first { N.first wire.new ≡ N.first wire.old }
+        ensures cut { IfErr result (CutsShort (C.ran core.old swap.old) (λ origin turns. (c : C) × (w : W) × C.ran c w origin turns) self.old.keeps (K.written out.old) (K.written out.new)) }
         ensures output { OutputTells (is_output result) (K.faults out.old) (K.faults out.new) (K.zeros out.old) (K.zeros out.new) }
         ensures files { F.faults files.old ≤ F.faults files.new }
         ensures swap { (from : W) → C.quiet from swap.old → SwapTells result (C.quiet from swap.new) (C.blames core.new from swap.new) }
@@ -243,6 +248,7 @@ impl Server {
         ensures keeps { self.new.keeps ≡ self.old.keeps }
         ensures faults { N.faults wire.new ≡ N.faults wire.old }
         ensures first { N.first wire.new ≡ N.first wire.old }
+        ensures cut { IfErr result (CutsShort (C.ran core.old swap.old) (λ origin turns. (c : C) × (w : W) × C.ran c w origin turns) self.old.keeps (K.written out.old) (K.written out.new)) }
         ensures output { OutputTells (is_output result) (K.faults out.old) (K.faults out.new) (K.zeros out.old) (K.zeros out.new) }
         ensures files { F.faults files.old ≤ F.faults files.new }
         ensures swap { (from : W) → C.quiet from swap.old → SwapTells result (C.quiet from swap.new) (C.blames core.new from swap.new) }
@@ -272,6 +278,7 @@ impl Server {
         ensures keeps { self.new.keeps ≡ self.old.keeps }
         ensures faults { N.faults wire.new ≡ N.faults wire.old }
         ensures first { N.first wire.new ≡ N.first wire.old }
+        ensures cut { IfErr result (CutsShort (C.ran core.old swap.old) (λ origin turns. (c : C) × (w : W) × C.ran c w origin turns) self.old.keeps (K.written out.old) (K.written out.new)) }
         ensures output { OutputTells (is_output result) (K.faults out.old) (K.faults out.new) (K.zeros out.old) (K.zeros out.new) }
         ensures files { F.faults files.old ≤ F.faults files.new }
         ensures swap { (from : W) → C.quiet from swap.old → SwapTells result (C.quiet from swap.new) (C.blames core.new from swap.new) }
@@ -317,6 +324,7 @@ impl Server {
         ensures keeps { self.new.keeps ≡ self.old.keeps }
         ensures faults { N.faults wire.new ≡ N.faults wire.old }
         ensures first { N.first wire.new ≡ N.first wire.old }
+        ensures cut { IfErr result (CutsShort (C.ran core.old swap.old) (λ origin turns. (c : C) × (w : W) × C.ran c w origin turns) self.old.keeps (K.written out.old) (K.written out.new)) }
         ensures output { OutputTells (is_output result) (K.faults out.old) (K.faults out.new) (K.zeros out.old) (K.zeros out.new) }
         ensures files { F.faults files.old ≤ F.faults files.new }
         ensures swap { (from : W) → C.quiet from swap.old → SwapTells result (C.quiet from swap.new) (C.blames core.new from swap.new) }
@@ -347,12 +355,16 @@ impl Server {
         ensures keeps { self.new.keeps ≡ self.old.keeps }
         ensures faults { N.faults wire.new ≡ N.faults wire.old }
         ensures first { N.first wire.new ≡ N.first wire.old }
+        ensures cut { IfErr result (CutsShort (C.ran core.old swap.old) (λ origin turns. (c : C) × (w : W) × C.ran c w origin turns) self.old.keeps (K.written out.old) (K.written out.new)) }
         ensures output { OutputTells (is_output result) (K.faults out.old) (K.faults out.new) (K.zeros out.old) (K.zeros out.new) }
         ensures files { F.faults files.old ≤ F.faults files.new }
         ensures swap { (from : W) → C.quiet from swap.old → SwapTells result (C.quiet from swap.new) (C.blames core.new from swap.new) }
     {
         for line in lines {
-            self.line(core, swap, files, wire, out, k, line.as_slice())?;
+            match self.line(core, swap, files, wire, out, k, line.as_slice()) {
+                Ok(()) => {}
+                Err(end) => return Err(end),
+            }
         }
         Ok(())
     }
@@ -375,6 +387,7 @@ impl Server {
         ensures keeps { self.new.keeps ≡ self.old.keeps }
         ensures faults { N.faults wire.new ≡ N.faults wire.old }
         ensures first { N.first wire.new ≡ N.first wire.old }
+        ensures cut { IfErr result (CutsShort (C.ran core.old swap.old) (λ origin turns. (c : C) × (w : W) × C.ran c w origin turns) self.old.keeps (K.written out.old) (K.written out.new)) }
         ensures output { OutputTells (is_output result) (K.faults out.old) (K.faults out.new) (K.zeros out.old) (K.zeros out.new) }
         ensures files { F.faults files.old ≤ F.faults files.new }
         ensures swap { (from : W) → C.quiet from swap.old → SwapTells result (C.quiet from swap.new) (C.blames core.new from swap.new) }

@@ -1,10 +1,12 @@
-use Rattle.std.proofs.Common.{◌≡◌, refl}
+use Rattle.std.proofs.Common.{◌≡◌, refl, inl}
 use Rattle.lp_io.specs.Counts.{Counts}
 use Rattle.lp_serving.specs.Causes.{OutputTells}
 use Rattle.lp_host.specs.Causes.{BlamesFiles, HasNoMaster, IsNoMaster, SwapTells, is_output_end, is_wire_end}
+use Rattle.lp_host.specs.CutGames.{CutsGame, WasHosted}
 use Rattle.lp_host.specs.declared.run.Hosted.{Hosted}
 use Rattle.lp_host.proofs.Blaming.{failed_rose, in_order, still_memory, still_swap, unloaded_so}
 use Rattle.lp_host.proofs.HostedRuns.{unloaded_as}
+use Rattle.lp_host.proofs.Shortened.{held_cuts}
 use Rattle.lp_host.proofs.run.host.Goals as goal
 
 pub returns-in-Err-Failed : goal.returns-in-Err-Failed
@@ -25,6 +27,7 @@ returns-in-Err-Failed g c =
     let swap = unloaded_so (λ (e : Hosted). SwapTells e told last reads reads truthful truthful honest honest) s u (λ p. still_swap told last reads truthful honest p) (still_memory told last reads truthful honest) in
     record {
       hosts = unloaded_as s _ _ _ _ _ u (refl, refl);
+      cut = unloaded_so (λ (e : Hosted). CutsGame e (WasHosted c.args.hosting.now.seed c.args.hosting.now.keeps (g.F.Files.held c.args.files.now) (g.N.Wire.first c.args.wire.now)) c.args.hosting.now.keeps (g.K.Sink.written c.args.out.now) (g.K.Sink.written c.args.out.now)) s u (λ p. tt) (inl refl);
       output_fault = output;
       files_fault = files;
       wire_fault = wire;
@@ -32,3 +35,6 @@ returns-in-Err-Failed g c =
       no_master = unloaded_so (λ (e : Hosted). IsNoMaster e (HasNoMaster c.args.hosting.now.seed (g.N.Wire.first c.args.wire.now) (g.F.Files.held c.args.files.now)) ((c.args.wire.now ≡ c.args.wire.now) × (c.args.out.now ≡ c.args.out.now))) s u (λ p. tt) tt;
       complete = λ none. in_order s _ _ _ _ _ _ _ _ _ _ _ _ _ _ _ _ output files wire swap none;
     }
+
+pub returns-in-Ok-store_of-clause-cut : goal.returns-in-Ok-store_of-clause-cut
+returns-in-Ok-store_of-clause-cut g c = held_cuts c.begin.result _ _ _ _ c.in-Ok.loaded.items _ _ c.in-Ok.ensures.all c.in-Ok.ensures.paths c.begin.ensures.cut

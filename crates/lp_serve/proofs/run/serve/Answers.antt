@@ -5,6 +5,7 @@ use Rattle.lp_serve.specs.declared.run.Served.{Served}
 use Rattle.lp_serve.specs.Served.{AsEnded}
 use Rattle.lp_serve.proofs.Blaming.{blameless, early_files_as, early_output_as, early_swap_as, early_wire_as, files_since, still_wire}
 use Rattle.lp_serve.proofs.Running.{early_as, has_run, round_keeps, runs_begin, runs_more, runs_stops, runs_vain, stop_ends, stop_faults, written_none}
+use Rattle.lp_serve.proofs.Shortened.{cut_keeping, early_cut, output_cut, rounds_recorded, stopped_cut}
 use Rattle.lp_serve.proofs.run.serve.Goals as goal
 
 pub loop-polls-init : goal.loop-polls-init
@@ -82,3 +83,19 @@ returns-in-Err-clause-wire_fault g c = early_wire_as c.served_early.result c.in-
 pub returns-in-Err-clause-complete : goal.returns-in-Err-clause-complete
 returns-in-Err-clause-complete g c = blameless c.served_early.result _ _ _ _ (g.F.Files.faults c.args.files.now) (g.F.Files.faults c.round.new.files) _ _ (λ failed. Unit {0}) (returns-in-Err-clause-output_fault g c)
     (early_files_as c.served_early.result c.in-Err.early _ _ c.served_early.ensures) (returns-in-Err-clause-wire_fault g c)
+
+pub returns-in-Ok-true-clause-cut : goal.returns-in-Ok-true-clause-cut
+returns-in-Ok-true-clause-cut g c = λ origin began.
+    let all = rounds_recorded _ _ _ _ c.args.keeps _ _ _ _ _ _ (runs_more _ _ _ _ _ _ _ _ _ _ _ (c.loop-polls.invariant.runs origin (g.K.Sink.written c.args.out.now))
+    (round_keeps _ _ _ _ _ _ _ _ _ _ _ _ c.loop-polls.invariant.keeps (c.in-Ok-true.ensures.goes origin (g.K.Sink.written c.args.out.now)))) began in
+    stopped_cut c.stop.result _ _ c.args.keeps _ _ _ all.0 c.stop.ensures.written c.stop.ensures.cut (c.round.new.core, c.round.new.swap, all.1.did) all.1.written
+
+pub returns-in-Err-clause-cut : goal.returns-in-Err-clause-cut
+returns-in-Err-clause-cut g c = λ origin began.
+    let all = rounds_recorded _ _ _ _ c.args.keeps _ _ _ _ _ _ (c.loop-polls.invariant.runs origin (g.K.Sink.written c.args.out.now)) began in
+    early_cut c.served_early.result c.in-Err.early _ _ c.args.keeps origin _ _ _ all.0 c.served_early.ensures (cut_keeping c.in-Err.early _ _ _ _ _ _ c.loop-polls.invariant.keeps c.in-Err.ensures.cut) all.1
+
+pub returns-clause-cut : goal.returns-clause-cut
+returns-clause-cut g c = λ origin began.
+    let all = rounds_recorded _ _ _ _ c.args.keeps _ _ _ _ _ _ (c.loop-polls.invariant.runs origin (g.K.Sink.written c.args.out.now)) began in
+    output_cut _ c.args.keeps _ _ _ all.0 (c.loop-polls.core, c.loop-polls.swap, all.1.did) all.1.written c.in-Err-write_end.ensures.cut

@@ -4,6 +4,7 @@ use Rattle.lp_wire.specs.Heard.{reload_heard}
 use Rattle.lp_serving.proofs.Going.{ok_then}
 use Rattle.lp_serve.proofs.Doing.{answer_does}
 use Rattle.lp_serve.proofs.Ordering.{does_read, no_path_does, path_does, reload_on}
+use Rattle.lp_serving.proofs.Cutting.{cut_none, err_then}
 use Rattle.lp_serve.proofs.game.Game.reload.Goals as goal
 
 pub returns-then-not-is_path-clause-does : goal.returns-then-not-is_path-clause-does
@@ -29,3 +30,9 @@ returns-in-Err-Failed-clause-does g c =
     (λ tells origin from. path_does c.args.word.now _ _ _ _ _ _ is (does_read c.args.word.now None (λ slow h. reload_heard slow c.args.word.now h) _ _ _ _ _ _ _ _ _ _
     (answer_does (codes "reload failed\n") _ _ _ _ _ tells c.answer-in-Err-Failed.ensures.rest)))
     c.answer-in-Err-Failed.ensures.tells
+
+pub returns-then-not-is_path-clause-cut : goal.returns-then-not-is_path-clause-cut
+returns-then-not-is_path-clause-cut g c = err_then c.answer.result _ _ (λ end h. cut_none _ _ g.C.Core.ran c.args.core.now c.args.swap.now _ _ _ end refl) c.answer.ensures.memory
+
+pub returns-in-Err-Failed-clause-cut : goal.returns-in-Err-Failed-clause-cut
+returns-in-Err-Failed-clause-cut g c = err_then c.answer-in-Err-Failed.result _ _ (λ end h. cut_none _ _ g.C.Core.ran c.args.core.now c.args.swap.now _ _ _ end refl) c.answer-in-Err-Failed.ensures.memory

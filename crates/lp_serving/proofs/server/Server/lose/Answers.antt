@@ -4,6 +4,7 @@ use Rattle.lp_serving.specs.declared.server.Server.{Server}
 use Rattle.lp_serving.proofs.Going.{ok_then}
 use Rattle.lp_serving.proofs.EventsRecorded.{goes_keeps}
 use Rattle.lp_serving.proofs.Happening.{loses, loses_not, happens_closed, from_sessions, to_state}
+use Rattle.lp_serving.proofs.Cutting.{cut_keeps, err_then}
 use Rattle.lp_serving.proofs.server.Server.lose.Goals as goal
 
 pub returns-in-Some-clause-goes : goal.returns-in-Some-clause-goes
@@ -21,3 +22,6 @@ returns-in-Some-clause-goes g c =
 
 pub returns-in-None-clause-goes : goal.returns-in-None-clause-goes
 returns-in-None-clause-goes g c = λ origin from. loses_not c.args.k _ _ _ _ _ c.in-None.ensures.none c.requires.number
+
+pub returns-in-Some-clause-cut : goal.returns-in-Some-clause-cut
+returns-in-Some-clause-cut g c = err_then c.event.result _ _ (λ end h. cut_keeps _ _ _ _ _ _ end (ap (λ (x : Server). x.keeps) c.forget.ensures.rest) h) c.event.ensures.cut
