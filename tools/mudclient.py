@@ -208,8 +208,12 @@ class Client:
             piece = b""
         if not piece:
             self.is_over = True
-        self.bytes += piece
+        self.keep(piece)
         return bool(piece)
+
+    def keep(self, piece):
+        """Keeps what came."""
+        self.bytes += piece
 
     def wait_for(self, text):
         """Waits until a text comes behind the one that was waited for last."""

@@ -106,18 +106,9 @@ class WebClient(Client):
     def send(self, line):
         self.socket.sendall(frame(TEXT, line.encode()))
 
-    def take(self, seconds):
-        if self.is_over or not select.select([self.socket], [], [], seconds)[0]:
-            return False
-        try:
-            piece = self.socket.recv(65536)
-        except ConnectionError:
-            piece = b""
-        if not piece:
-            self.is_over = True
+    def keep(self, piece):
         self.frames.bytes += piece
         self.look()
-        return bool(piece)
 
     def look(self):
         """Takes in the frames that came."""
