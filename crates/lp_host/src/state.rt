@@ -1,11 +1,10 @@
 //! The state of the driver, as a served run uses it.
 ghost use Rattle.std.specs.Prelude.{◌≡◌, ◌∷◌, ◌++◌, [], IfErr, IfOk, List, Option};
 ghost use Rattle.lp_core.specs.Turning.{Origin, Turn};
-ghost use Rattle.lp_driver.specs.Driving.{IsAtRest, TurnsAs};
+ghost use Rattle.lp_driver.specs.Driving.{TurnsAs};
 ghost use Rattle.lp_host.specs.Causes.{IsQuiet, SwapTells};
 ghost use Rattle.lp_host.specs.Hosting.{ended_of, stopped_of};
 ghost use Rattle.lp_host.specs.Playing.{HasPlayed};
-ghost use Rattle.lp_language.specs.World.{World};
 ghost use Rattle.lp_state.specs.States.{GoesOn, live_in};
 ghost use Rattle.lp_swapfile.specs.Device.{Bytes};
 
@@ -56,16 +55,6 @@ impl HostedState {
             TurnFault::NoMemory => Stop::NoMemory,
         }
     }
-
-    // What a reload has put in is what the folder has just given, so it is not written back.
-    fn keep_read(&mut self, event: &Event)
-        ensures goes { (told : Option Bytes) → GoesOn told self.old.state → GoesOn told self.new.state }
-        ensures rest { (told : Option Bytes) (w : World) → IsAtRest told (live_in self.old.state) w → IsAtRest told (live_in self.new.state) w }
-    {
-        if let Event::Reload(path, _) = event {
-            self.state.written(path.as_str());
-        }
-    }
 }
 
 impl<W: Truthful> Core<W> for HostedState {
@@ -81,10 +70,7 @@ impl<W: Truthful> Core<W> for HostedState {
 
     fn turn(&mut self, swap: &mut W, event: &Event) -> Result<Outs, Stop> {
         match turn(&mut self.state, swap, event) {
-            Ok(outs) => {
-                self.keep_read(event);
-                Ok(outs)
-            }
+            Ok(outs) => Ok(outs),
             Err(fault) => Err(self.stopped(fault)),
         }
     }
